@@ -58,7 +58,7 @@ ROW = b'P5\n3 1\n3\n\0\3\0'
 LONE = b'P5\n1 1\n3\n\2'
 PAIR = b'P5\n4 1\n9\n\0\t\0\0P5\n4 1\n9\n\t\0\0\0'
 SEEDED = b'P5\n3 1\n255\n\n\x0c\xc8P5\n3 1\n2\n\1\0\2'
-# In these two not all sites are decided before a cut, so that workers have one to make.
+# In these two not all sites are decided before a cut.
 TWISTED = b'P5\n3 3\n9\n\6\4\6\x08\6\t\5\x08\tP5\n3 3\n9\n\6\t\3\5\0\4\t\2\5'
 MIXED = b'P5\n3 2\n9\n\3\t\4\4\1\1P5\n3 2\n2\n\0\0\0\0\0\0'
 SWAP = b'sites = 2\nlabels = 3\ndata = [0,9,3,3,9,0]\nsmooth = [0,1,4,1,0,1,4,1,0]\npairs = [[0,1]]\nstart = [0,2]\nmoves = "swap"'
@@ -67,6 +67,15 @@ COSTLY = b'sites = 2\nlabels = 3\ndata = [0,3,9,9,3,0]\nlabel_costs = [5,5,5]'
 TWO = b'variables = 2\nterms = [{ on = [0], values = [5,2] }, { on = [1], values = [1,6] }, { on = [0,1], values = [0,3,4,0] }]'
 TERMS = b'variables = 3\nterms = [{ on = [0], values = [5,2] }, { on = [0,1], values = [0,3,4,0] }, { on = [0,1,2], values = [0,0,0,0,0,0,0,-4] }]'
 IRREGULAR = b'variables = 2\nterms = [{ on = [0,1], values = [1,0,0,1] }]'
+
+# These have nets of 4,096 nodes, the fewest that workers share. An energy is cut whole. With label costs no site is
+# decided before the cut. In EVEN and GREY the neighbours of each site outweigh its own costs, so each is left open.
+PART = '{ on = [%d], values = [0,3] }, { on = [%d], values = [3,0] }, { on = [%d,%d], values = [0,2,2,0] }'
+MANY = ('variables = 4096\nterms = [%s]' % ', '.join(PART % (i, i + 1, i, i + 1) for i in range(0, 4096, 2))).encode()
+LONG = b'sites = 4096\nlabels = 2\ndata = [%s]\nlabel_costs = [5,5]\npairs = [[0,1]]' % b','.join([b'0,3'] * 4096)
+FLAT = b'P5\n64 64\n3\n' + b'\1' * 4096
+EVEN = (b'P5\n64 64\n9\n' + b'\5' * 4096) * 2
+GREY = b'P5\n64 64\n9\n' + b'\5' * 4096 + b'P5\n64 64\n2\n' + b'\0' * 4096
 
 # Each command with its input: they are run on one thread, and by two workers.
 COMMANDS = [
@@ -87,7 +96,18 @@ COMMANDS = [
     (['segment', '--low', '2', '--high', '7', '--strong', '3', '--weak', '1', '--edge', '2'], MIXED),
 ]
 
+# Each command with an input that workers share.
+SHARED = [
+    (['energy'], MANY),
+    (['label'], LONG),
+    (['restore', '--label-cost', '1', '--cycles', '1'], FLAT),
+    (['stereo', '--labels', '2', '--cap', '9', '--weight', '9', '--cycles', '1'], EVEN),
+    (['segment', '--low', '2', '--high', '7', '--strong', '3', '--weak', '3', '--edge', '9', '--cycles', '1'], GREY),
+]
+
 CASES = [(words + more, given) for more in ([], ['--threads', '2']) for words, given in COMMANDS] + [
+    (words + ['--threads', '2', '--blocks', '2', '--rounds', '2'], given) for words, given in SHARED
+] + [
     (['restore', '--help'], b''),
     (['help', 'segment'], b''),
     (['paint'], b''),

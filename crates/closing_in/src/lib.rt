@@ -8,5 +8,5 @@ pub mod laws;
 mod room;
 mod telling;
 
-pub use room::border;
+pub use room::{SiteRange, border};
 pub use telling::add_strip;

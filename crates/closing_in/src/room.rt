@@ -15,6 +15,13 @@ use label_field::Pair;
 use labellings::Move;
 use move_energy::{Choice, Neighbours, ends_at, pair_at, surplus, term};
 
+/// The sites of a strip: from one on, before another.
+#[derive(Clone, Copy)]
+pub struct SiteRange {
+    pub from: u32,
+    pub to: u32,
+}
+
 /// Whether a site is open and outside a range of sites.
 fn is_beyond(choices: &[Choice], from: u32, to: u32, site: u32) -> bool
     requires { site < length choices.now }
@@ -36,8 +43,7 @@ fn leads_beyond(choices: &[Choice], from: u32, to: u32, site: u32, pair: Pair) -
 fn pair_border<F: Fn(u32, u32) -> i64 + Sync, V: Fn(u32, u32) -> i64 + Sync>(
     problem: &Problem<F, V>,
     choices: &[Choice],
-    from: u32,
-    to: u32,
+    range: SiteRange,
     at: &[u8],
     change: Move,
     site: u32,
@@ -50,10 +56,10 @@ fn pair_border<F: Fn(u32, u32) -> i64 + Sync, V: Fn(u32, u32) -> i64 + Sync>(
     ensures value { WhereMeant F.Fn V.Fn problem.now
         (λ m. IsRegularPair m change (labelling at.now) pair →
         result ≡ pos (border_of_pair m change (labelling at.now) (choice_at choices.now)
-        (range_of from to) site pair)) }
+        (range_of range.from range.to) site pair)) }
     ensures range { unsigned_abs result ≤ surplus_limit }
 {
-    if !leads_beyond(choices, from, to, site, pair) {
+    if !leads_beyond(choices, range.from, range.to, site, pair) {
         return 0;
     }
     let table = term(problem, at, change, pair);
@@ -66,8 +72,7 @@ pub fn border<F: Fn(u32, u32) -> i64 + Sync, V: Fn(u32, u32) -> i64 + Sync>(
     problem: &Problem<F, V>,
     ends: &Neighbours,
     choices: &[Choice],
-    from: u32,
-    to: u32,
+    range: SiteRange,
     at: &[u8],
     change: Move,
     site: u32,
@@ -79,13 +84,13 @@ pub fn border<F: Fn(u32, u32) -> i64 + Sync, V: Fn(u32, u32) -> i64 + Sync>(
     requires site { site < length at.now }
     ensures value { WhereMeant F.Fn V.Fn problem.now (λ m. IsAllowed m change (labelling at.now) →
         result ≡ pos (border_at m change (labelling at.now) (choice_at choices.now)
-        (range_of from to) site)) }
+        (range_of range.from range.to) site)) }
     ensures range { unsigned_abs result ≤ surplus_limit * degree ends.now site }
 {
     let mut total = 0i64;
     for index in 0..ends_at(&problem.pairs, ends, site) {
         let pair = pair_at(&problem.pairs, ends, site, index);
-        total += pair_border(problem, choices, from, to, at, change, site, pair);
+        total += pair_border(problem, choices, range, at, change, site, pair);
     }
     total
 }

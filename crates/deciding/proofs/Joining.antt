@@ -15,38 +15,6 @@ use Rattle.deciding.specs.Parts.{ArePassedChoices}
 use Rattle.deciding.proofs.Putting.{set_at, set_other, cases_put, le_le}
 use Rattle.deciding.proofs.Rises.{rise_over, move_falls}
 
--- ---- one list of decisions before another
-
-put_joined : (ds ks : List Decision) (x : ℕ → Bool) → with_decisions (ds ++ ks) x ≡ with_decisions ds (with_decisions ks x)
-put_joined [] ks x = refl
-put_joined (d ∷ ds) ks x = ap (λ (y : ℕ → Bool). set_bit y d.variable d.value) (put_joined ds ks x)
-
-put_within : (ds : List Decision) (x y : ℕ → Bool) → OnesWithin x y → OnesWithin (with_decisions ds x) (with_decisions ds y)
-put_within ds x y within k one = elim (cases_put ds k) [
-  | inl free ↦ free y ∙ within k (sym (free x) ∙ one)
-  | inr decided ↦ decided.1 y ∙ sym (decided.1 x) ∙ one
-]
-
--- more is 0, and more is 1, once more is decided
-fewer_ones : (ds ks : List Decision) → OnesWithin (with_decisions (ds ++ ks) (λ k. true)) (with_decisions ds (λ k. true))
-fewer_ones ds ks k one =
-    put_within ds (with_decisions ks (λ j. true)) (λ j. true) (λ j h. refl) k (sym (ap (λ (y : ℕ → Bool). y k) (put_joined ds ks (λ j. true))) ∙ one)
-
-more_ones : (ds ks : List Decision) → OnesWithin (with_decisions ds (λ k. false)) (with_decisions (ds ++ ks) (λ k. false))
-more_ones ds ks k one =
-    ap (λ (y : ℕ → Bool). y k) (put_joined ds ks (λ j. false)) ∙ put_within ds (λ j. false) (with_decisions ks (λ j. false)) (λ j h. absurd (cc (h))) k one
-
-lt_along : (a b c : ℤ) → a ≤ℤ b → b <ℤ c → a <ℤ c
-lt_along a b c h k = omega (arith, ints, h, k)
-
-still_passes : (E : (ℕ → Bool) → ℤ) (ds ks : List Decision) (i : ℕ) (b : Bool) → IsSubmodular E → Passes E ds i b → Passes E (ds ++ ks) i b
-still_passes E ds ks i false falls test = le_le _ _ _ test (falls (with_decisions (ds ++ ks) (λ k. true)) (with_decisions ds (λ k. true)) i (fewer_ones ds ks))
-still_passes E ds ks i true falls test = lt_along _ _ _ (falls (with_decisions ds (λ k. false)) (with_decisions (ds ++ ks) (λ k. false)) i (more_ones ds ks)) test
-
-pub joined_passed : (E : (ℕ → Bool) → ℤ) (ds ks : List Decision) → IsSubmodular E → HavePassed E ds → HavePassed E ks → HavePassed E (ds ++ ks)
-joined_passed E [] ks falls first second = second
-joined_passed E (d ∷ ds) ks falls first second = (joined_passed E ds ks falls first.0 second, still_passes E ds ks d.variable d.value falls first.1)
-
 -- ---- choices
 
 pub choices_same : (m : Instance) (move : Move) (f : ℕ → ℕ) (old new : ℕ → Choice) → ((p : ℕ) → new p ≡ old p) → ArePassedChoices m move f old → ArePassedChoices m move f new
@@ -54,17 +22,6 @@ choices_same m move f old new same passed = record {
   decisions = passed.decisions;
   passed = passed.passed;
   shown = λ x p l. passed.shown x p l ∙ ap (λ (c : Choice). bit_of c (x p)) (sym (same p));
-}
-
-pub choices_joined : (m : Instance) (move : Move) (f : ℕ → ℕ) (one other both : ℕ → Choice) → IsInstance m → IsAllowed m move f
-    → ((p : ℕ) (b : Bool) → bit_of (one p) (bit_of (other p) b) ≡ bit_of (both p) b)
-    → ArePassedChoices m move f one → ArePassedChoices m move f other → ArePassedChoices m move f both
-choices_joined m move f one other both are allowed joins first second = record {
-  decisions = first.decisions ++ second.decisions;
-  passed = joined_passed (move_value m move f) first.decisions second.decisions (move_falls m move f are allowed) first.passed second.passed;
-  shown = λ x p l.
-      ap (λ (y : ℕ → Bool). y p) (put_joined first.decisions second.decisions x) ∙ first.shown (with_decisions second.decisions x) p l
-      ∙ ap (bit_of (one p)) (second.shown x p l) ∙ joins p (x p);
 }
 
 -- one site more is decided

@@ -1,5 +1,5 @@
 -- From the first bounds to the last.
-use Rattle.std.proofs.Common.{◌≡◌, ℕ, ◌+◌, ◌<◌, ◌≤◌, ◌==◌, Bool, true, false, List, length, ℤ, pos, ◌-ℤ◌, ◌≤ℤ◌, ◌<ℤ◌, sym, ap, ◌∙◌, inl, inr, subst, arith}
+use Rattle.std.proofs.Common.{◌≡◌, ℕ, ◌+◌, ◌<◌, ◌≤◌, ◌==◌, Bool, true, false, List, length, ℤ, pos, ◌-ℤ◌, ◌≤ℤ◌, ◌<ℤ◌, refl, sym, ap, ◌∙◌, inl, inr, subst, arith}
 use Rattle.labellings.specs.declared.change.Move.{Move}
 use Rattle.labellings.specs.Energies.{Instance, IsInstance, labelling}
 use Rattle.move_energy.specs.declared.choice.Choice.{Choice}
@@ -15,7 +15,7 @@ use Rattle.deciding.specs.declared.bounds.Bounds.{Bounds}
 use Rattle.deciding.specs.Decisions.{set_bit, with_decisions, rise, Passes}
 use Rattle.deciding.specs.MoveValues.{move_value}
 use Rattle.deciding.specs.Working.{bound_at, decided_or, CanDecide, AreUndecided, AreUnsummed, ArePartlyDecided}
-use Rattle.deciding.specs.Parts.{ArePassedChoices}
+use Rattle.deciding.specs.Parts.{ArePassedChoices, site_weight}
 use Rattle.deciding.specs.Decided.{AreDecided}
 use Rattle.deciding.proofs.Fixed.{fixed_site, shown_by, shown_put, shown_passed}
 
@@ -115,6 +115,15 @@ zeros_set choices x u k opened is = elim (cases_eq k u) [
   | inl same ↦ set_at x u k false same ∙ sym (ap (λ (c : Choice). bit_of c false) (ap (choice_at choices) same ∙ opened))
   | inr other ↦ set_other x u k false other ∙ is
 ]
+
+-- the greatest rise of an open site is its weight
+pub weight_is : (m : Instance) (move : Move) (f : ℕ → ℕ) (known : List Choice) (u : ℕ) → IsInstance m → choice_at known u ≡ Open
+    → rise (move_value m move f) u (decided_or known false) ≡ site_weight m move f (choice_at known) u
+weight_is m move f known u pairs opened =
+    let x = decided_or known false in
+    let one = move_over m move f pairs (set_bit x u true) (λ k. bit_of (choice_at known k) (k == u)) (λ k within. ones_set known x u k opened refl) in
+    let none = move_over m move f pairs (set_bit x u false) (λ k. bit_of (choice_at known k) false) (λ k within. zeros_set known x u k opened refl) in
+    λ i. one i -ℤ none i
 
 -- the greatest rises of the open sites are their weights
 pub partly_weights : (m : Instance) (move : Move) (f : ℕ → ℕ) (n : ℕ) (b : Bounds) → IsInstance m → m.sites ≤ n → ArePartlyDecided m move f n b

@@ -1,5 +1,6 @@
 -- What deciding answers.
-use Rattle.std.specs.Prelude.{◌≡◌, ℕ, ◌<◌, Bool, List, Result, Ok, Err}
+use Rattle.std.specs.Prelude.{◌≡◌, ℕ, ◌<◌, ◌≤◌, Bool, List, length, Result, Ok, Err}
+use Rattle.compile_cut.specs.Weights.{weights_size}
 use Rattle.labellings.specs.declared.change.Move.{Move}
 use Rattle.labellings.specs.Energies.{Instance, labelling}
 use Rattle.labellings.specs.Moves.{IsAllowed}
@@ -7,9 +8,14 @@ use Rattle.move_energy.specs.declared.choice.Choice.{Choice}
 use Rattle.move_energy.specs.declared.choice.Choice.TheVariants.{Open}
 use Rattle.move_energy.specs.declared.error.BuildError.{BuildError}
 use Rattle.move_energy.specs.Choices.{bit_of, choice_at}
+use Rattle.move_energy.specs.Limits.{weights_limit}
 use Rattle.move_energy.specs.Problems.{IsPrepareRefusal}
+use Rattle.deciding.specs.declared.sites.Deciding.{Deciding}
 use Rattle.deciding.specs.Decisions.{Decision, with_decisions, Passes, HavePassed}
+use Rattle.deciding.specs.Listed.{AreListed}
 use Rattle.deciding.specs.MoveValues.{move_value}
+use Rattle.deciding.specs.Rising.{IsRiseTable}
+use Rattle.deciding.specs.Working.{AreOfSites}
 
 -- the sites were decided one after another, each by the test, and none that is open passes it
 pub record AreDecided (m : Instance) (move : Move) (f : ℕ → ℕ) (choice : ℕ → Choice) : Type 0 where
@@ -26,3 +32,11 @@ abbrev pub IsDecidedMove : Instance → Move → List ℕ → List Choice → Re
 IsDecidedMove m move f choices (Ok done) =
     IsAllowed m move (labelling f) × AreDecided m move (labelling f) (choice_at choices)
 IsDecidedMove m move f choices (Err e) = IsPrepareRefusal m move (labelling f) e
+
+-- what deciding leaves where it refuses nothing: a choice and two bounds of each site, the greatest
+-- ones in their limit together, a table of rises for so many labels, and the lists of the sites
+pub record KnowsSites (labels : ℕ) (move : Move) (f : List ℕ) (room : Deciding) : Type 0 where
+  pub sized : AreOfSites (length f) room.bounds
+  pub small : weights_size room.bounds.greatest.items ≤ weights_limit
+  pub table : IsRiseTable labels room.table
+  pub listed : AreListed move (labelling f) room.bounds.choices.items room.lists

@@ -4,6 +4,7 @@ pub mod MoveValues
 pub mod Working
 pub mod Rising
 pub mod Savings
+pub mod Finding
 pub mod Decided
 pub mod Listed
 pub mod Parts

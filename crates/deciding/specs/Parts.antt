@@ -1,20 +1,21 @@
--- Deciding by parts of the sites, each by numbers alone.
-use Rattle.std.specs.Prelude.{◌≡◌, ◌≢◌, ◌⊎◌, ℕ, ◌+◌, ◌-◌, ◌*◌, ◌<◌, ◌≤◌, ◌==◌, Bool, true, cond, min, List, length, slice_index_or, unsigned_abs, ℤ, pos, Result, IfOk}
-use Rattle.std.specs.Global.{Vec}
+-- Deciding by numbers alone, which threads can read.
+use Rattle.std.specs.Prelude.{◌≡◌, ◌≢◌, ◌⊎◌, ◌==◌, ℕ, ◌<◌, ◌≤◌, Bool, true, false, List, length}
+use Rattle.std.specs.Prelude.{slice_index_or, unsigned_abs, ℤ, pos, ◌-ℤ◌}
 use Rattle.std.specs.List.{All}
 use Rattle.label_field.specs.PairLists.{PairList, IsPairList}
 use Rattle.labellings.specs.declared.change.Move.{Move}
 use Rattle.labellings.specs.Energies.{Instance, labelling}
 use Rattle.labellings.specs.Moves.{IsAllowed}
 use Rattle.cost_store.specs.Limits.{site_cost_limit}
-use Rattle.move_energy.specs.declared.by_site.Neighbours.{Neighbours}
 use Rattle.move_energy.specs.BySite.{AreBySite}
 use Rattle.move_energy.specs.declared.choice.Choice.{Choice}
-use Rattle.move_energy.specs.declared.choice.Choice.TheVariants.{Open, Zero, One}
+use Rattle.move_energy.specs.declared.choice.Choice.TheVariants.{Open}
 use Rattle.move_energy.specs.Choices.{bit_of, choice_at}
+use Rattle.move_energy.specs.Weights.{open_energy}
 use Rattle.deciding.specs.Decisions.{Decision, with_decisions, Passes, HavePassed}
 use Rattle.deciding.specs.MoveValues.{move_value, data_rise}
-use Rattle.deciding.specs.declared.table.RiseTable.{RiseTable}
+use Rattle.deciding.specs.declared.finding.RiseNumbers.{RiseNumbers}
+use Rattle.deciding.specs.declared.sites.Deciding.{Deciding}
 use Rattle.deciding.specs.Rising.{IsRiseTable, IsTableOf}
 
 -- the choices are those of decisions that each passed the test, given those before it
@@ -31,82 +32,67 @@ own_at own u = slice_index_or own u (pos 0)
 
 -- the rises of a labelling's sites can be read: those of all pairs in the table, and each site's
 -- own in the list
-pub record AreReadable (pairs : PairList) (ends : Neighbours) (table : RiseTable) (own : List ℤ)
-    (at : List ℕ) : Type 0 where
-  pub by_site : AreBySite pairs ends
-  pub list : IsPairList pairs
-  pub sites : length at ≡ pairs.sites
-  pub own_len : length own ≡ length at
-  pub own_small : All (λ z. unsigned_abs z ≤ site_cost_limit) own
-  pub even : ends.even ≡ true
-  pub stands : table.stands ≡ true
-  pub weight : table.weight ≡ ends.weight
+pub record AreReadable (numbers : RiseNumbers) : Type 0 where
+  pub by_site : AreBySite numbers.pairs.now numbers.ends.now
+  pub list : IsPairList numbers.pairs.now
+  pub sites : length numbers.at.now ≡ numbers.pairs.now.sites
+  pub own_len : length numbers.own.now ≡ length numbers.at.now
+  pub own_small : All (λ z. unsigned_abs z ≤ site_cost_limit) numbers.own.now
+  pub even : numbers.ends.now.even ≡ true
+  pub stands : numbers.table.now.stands ≡ true
+  pub weight : numbers.table.now.weight ≡ numbers.ends.now.weight
   pub labels : ℕ
-  pub sized : IsRiseTable labels table
-  pub few : All (λ label. label < labels) at
+  pub sized : IsRiseTable labels numbers.table.now
+  pub few : All (λ label. label < labels) numbers.at.now
 
 -- they are the rises of a move that is allowed
-pub record AreRisesOf (m : Instance) (move : Move) (pairs : PairList) (table : RiseTable)
-    (own : List ℤ) (at : List ℕ) : Type 0 where
-  pub sites_are : m.sites ≡ pairs.sites
-  pub pairs_are : m.pairs ≡ pairs.list
-  pub labels : All (λ label. label < m.labels) at
-  pub allowed : IsAllowed m move (labelling at)
-  pub told : IsTableOf m move table
-  pub own_are : (u : ℕ) → u < length at → own_at own u ≡ data_rise m move (labelling at) u
+pub record AreRisesOf (m : Instance) (move : Move) (numbers : RiseNumbers) : Type 0 where
+  pub sites_are : m.sites ≡ numbers.pairs.now.sites
+  pub pairs_are : m.pairs ≡ numbers.pairs.now.list
+  pub labels : All (λ label. label < m.labels) numbers.at.now
+  pub allowed : IsAllowed m move (labelling numbers.at.now)
+  pub told : IsTableOf m move numbers.table.now
+  pub own_are : (u : ℕ) → u < length numbers.at.now
+      → own_at numbers.own.now u ≡ data_rise m move (labelling numbers.at.now) u
 
--- the code of what is known of a site: 1 for the value 0, 2 for the value 1, and others for nothing
-abbrev pub choice_of_code : ℕ → Choice
-choice_of_code code = cond (code == 1) Zero (cond (code == 2) One Open)
+-- this holds of each move from these labels whose rises they are
+abbrev pub WhereRead : RiseNumbers → (Instance → Move → (ℕ → ℕ) → Type 0) → Type 0
+WhereRead numbers P = (m : Instance) (move : Move) → AreRisesOf m move numbers
+    → P m move (labelling numbers.at.now)
 
--- what a code of a list tells
-abbrev pub coded_at : List ℕ → ℕ → Choice
-coded_at codes k = choice_of_code (slice_index_or codes k 0)
+-- decisions that each passed the test become more of them
+abbrev pub KeepsPassed : RiseNumbers → List Choice → List Choice → Type 0
+KeepsPassed numbers old new = WhereRead numbers (λ m move f.
+    ArePassedChoices m move f (choice_at old) → ArePassedChoices m move f (choice_at new))
 
--- what was known, and else what is told
-abbrev pub known_or : Choice → Choice → Choice
-known_or Open told = told
-known_or Zero told = Zero
-known_or One told = One
+-- what was known stays
+abbrev pub KeepsKnown : List Choice → List Choice → Type 0
+KeepsKnown old new = (p : ℕ) → choice_at old p ≢ Open → choice_at new p ≡ choice_at old p
 
--- where the parts of n sites begin, each of so many of them
-abbrev pub part_start : ℕ → ℕ → ℕ → ℕ
-part_start n size i = min (i * size) n
+-- open sites from one on, before another, are decided by numbers alone: each whose value could be
+-- told by what was known before, and no other site
+pub record IsSwept (numbers : RiseNumbers) (from to : ℕ) (old new : List Choice) : Type 0 where
+  pub count : length new ≡ length old
+  pub outside : (p : ℕ) → (p < from) ⊎ (to ≤ p) → choice_at new p ≡ choice_at old p
+  pub kept : KeepsKnown old new
+  pub passed : KeepsPassed numbers old new
+  pub tried : (m : Instance) (move : Move) (p : ℕ) (b : Bool) → AreRisesOf m move numbers
+      → (ds : ArePassedChoices m move (labelling numbers.at.now) (choice_at old))
+      → from ≤ p → p < to
+      → Passes (move_value m move (labelling numbers.at.now)) ds.decisions p b
+      → choice_at new p ≢ Open
 
--- the codes tell what is known of the sites from one on, before another, once open ones of them are
--- decided in addition to what was known: each decision passed the test
-pub record ArePartCodes (m : Instance) (move : Move) (f : ℕ → ℕ) (before : List Choice)
-    (from to : ℕ) (codes : List ℕ) : Type 0 where
-  pub known : List Choice
-  pub passed : ArePassedChoices m move f (choice_at known)
-  pub inside : (k : ℕ) → k < to - from → coded_at codes k ≡ choice_at known (from + k)
-  pub outside : (p : ℕ) → (p < from) ⊎ (to ≤ p) → choice_at known p ≡ choice_at before p
+-- what an open site weighs: by how much the energy rises where it turns from 0 to 1, every other
+-- open one being at 0
+abbrev pub site_weight : Instance → Move → (ℕ → ℕ) → (ℕ → Choice) → ℕ → ℤ
+site_weight m move f choice u =
+    open_energy m move f choice (λ p. p == u) -ℤ open_energy m move f choice (λ p. false)
 
--- the answer of a part that was decided by numbers alone: each site that passed the test by what
--- was known before is decided
-pub record IsPartDecided (pairs : PairList) (table : RiseTable) (own : List ℤ) (at : List ℕ)
-    (before : List Choice) (from to : ℕ) (codes : List ℕ) : Type 0 where
-  pub count : length codes ≡ to - from
-  pub told : (m : Instance) (move : Move) → AreRisesOf m move pairs table own at
-      → ArePassedChoices m move (labelling at) (choice_at before)
-      → ArePartCodes m move (labelling at) before from to codes
-  pub tried : (m : Instance) (move : Move) (k : ℕ) (b : Bool) → AreRisesOf m move pairs table own at
-      → (ds : ArePassedChoices m move (labelling at) (choice_at before)) → k < to - from
-      → Passes (move_value m move (labelling at)) ds.decisions (from + k) b
-      → coded_at codes k ≢ Open
-
--- this holds of the codes of each part that was not refused memory
-abbrev pub OfParts : {E : Type 0} → (ℕ → List ℕ → Type 0) → List (Result (Vec ℕ) E) → Type 0
-OfParts P parts =
-    (i : ℕ) (part : _) → i < length parts
-    → IfOk (slice_index_or parts i part) (λ codes. P i codes.items)
-
--- the codes of part i fill its range
-abbrev pub FillsPart : ℕ → ℕ → ℕ → List ℕ → Type 0
-FillsPart n size i codes = length codes ≡ part_start n size (i + 1) - part_start n size i
-
--- at the open sites of part i stands what its codes tell
-abbrev pub IsPartJoined : ℕ → List Choice → List Choice → ℕ → List ℕ → Type 0
-IsPartJoined size old new i codes =
-    (k : ℕ) → k < length codes → choice_at new (part_start (length old) size i + k)
-    ≡ known_or (choice_at old (part_start (length old) size i + k)) (coded_at codes k)
+-- the numbers are these pairs and labels, and what was read for a move
+pub record AreNumbersOf (pairs : PairList) (at : List ℕ) (room : Deciding) (numbers : RiseNumbers)
+    : Type 0 where
+  pub pairs_are : numbers.pairs.now ≡ pairs
+  pub at_are : numbers.at.now ≡ at
+  pub ends_are : numbers.ends.now ≡ room.ends
+  pub table_is : numbers.table.now ≡ room.table
+  pub own_are : numbers.own.now ≡ room.own_rises.items

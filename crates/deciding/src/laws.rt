@@ -19,13 +19,6 @@ pub fn passed_is_forced()
         AreForced E ds }
 {}
 
-/// Decisions that passed the test pass it still once others that passed were made before them, in a
-/// function whose rises fall. So decisions that were made side by side can be put together.
-pub fn joined_is_passed()
-    ensures { (E : (ℕ → Bool) → ℤ) (ds ks : List Decision) → IsSubmodular E → HavePassed E ds →
-        HavePassed E ks → HavePassed E (ds ++ ks) }
-{}
-
 /// Each forced variable has its value in the least assignment with the fewest ones.
 pub fn forced_is_least()
     ensures { ForcedIsLeast }

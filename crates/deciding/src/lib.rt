@@ -4,9 +4,9 @@
 
 mod bounds;
 mod costs;
+mod finding;
 pub mod laws;
 mod listing;
-mod parts;
 mod reading;
 mod rising;
 mod savings;
@@ -17,7 +17,9 @@ mod table;
 mod testing;
 
 pub use bounds::Bounds;
+pub use finding::{MoveToFind, RiseNumbers};
 pub use listing::Lists;
+pub use reading::{read_weight, sweep};
 pub use savings::told_surplus;
 pub use settling::pair_surplus;
 pub use sites::Deciding;

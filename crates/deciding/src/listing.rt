@@ -160,12 +160,7 @@ impl Lists {
 
     /// Counts the open sites of a move that was decided, and lists them where they are few.
     /// `listed` is written once they are.
-    pub(crate) fn fill(
-        &mut self,
-        at: &[u8],
-        change: Move,
-        choices: &[Choice],
-    ) -> Result<(), AllocError>
+    pub fn fill(&mut self, at: &[u8], change: Move, choices: &[Choice]) -> Result<(), AllocError>
         requires sites { (length choices.now ≡ length at.now) × (length at.now ≤ site_limit) }
         ensures lists { OnOk result (AreListed change (labelling at.now) choices.now self.new) }
         ensures refused { OnErr result (self.new.listed ≡ self.old.listed) }

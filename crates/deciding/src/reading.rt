@@ -1,24 +1,25 @@
 //! Sites that are decided by numbers alone, in one pass over a range of sites. No cost is asked, so
 //! any thread can do it.
-ghost use Rattle.std.specs.Prelude.{◌≡◌, ◌≢◌, ◌⊎◌, ◌<◌, ◌≤◌, ℕ, Bool, pos, ◌≤ℤ◌, ◌<ℤ◌, true, false, All, length, unsigned_abs, OnOk};
+ghost use Rattle.std.specs.Prelude.{◌≡◌, ◌≢◌, ◌⊎◌, ◌+◌, ◌*◌, ◌<◌, ◌≤◌, ℕ, Bool, pos, ◌≤ℤ◌, ◌<ℤ◌, true, false, All, length, unsigned_abs, OnOk};
 ghost use Rattle.labellings.specs.declared.change.Move.{Move};
-ghost use Rattle.labellings.specs.Energies.{Instance, labelling};
-ghost use Rattle.cost_store.specs.Limits.{site_cost_limit};
+ghost use Rattle.labellings.specs.Energies.{Instance, IsInstance, labelling};
+ghost use Rattle.cost_store.specs.Limits.{site_cost_limit, pair_cost_limit};
 ghost use Rattle.cost_store.specs.Posed.{IsPosed, IsAsked, WhereMeant};
 ghost use Rattle.move_energy.specs.declared.choice.Choice.TheVariants.{Open, Zero, One};
+ghost use Rattle.move_energy.specs.BySite.{degree};
 ghost use Rattle.move_energy.specs.Choices.{choice_at};
 ghost use Rattle.deciding.specs.Decisions.{rise, Passes};
 ghost use Rattle.deciding.specs.MoveValues.{move_value, data_rise as data_rise_of};
 ghost use Rattle.deciding.specs.Working.{decided_or};
 ghost use Rattle.deciding.specs.Parts.{own_at, AreReadable, AreRisesOf, ArePassedChoices};
+ghost use Rattle.deciding.specs.Parts.{site_weight, WhereRead, KeepsKnown, KeepsPassed, IsSwept};
 
 use crate::costs::data_rise;
+use crate::finding::RiseNumbers;
 use crate::rising::{Rises, table_rises};
-use crate::table::RiseTable;
 use cost_store::Problem;
-use label_field::Pairs;
 use labellings::Move;
-use move_energy::{Choice, Neighbours, pair_beside};
+use move_energy::{Choice, pair_beside};
 use std::alloc::AllocError;
 
 /// How much more the label costs a site where its value turns from 0 to 1, in four bytes.
@@ -63,35 +64,42 @@ pub(crate) fn list_own_rises<F: Fn(u32, u32) -> i64 + Sync, V: Fn(u32, u32) -> i
 
 /// By how much the energy rises where a site turns, at least and at most, by what is known of its
 /// neighbours.
-fn read_rises(
-    pairs: &Pairs,
-    ends: &Neighbours,
-    table: &RiseTable,
-    own: &[i32],
-    at: &[u8],
-    known: &[Choice],
-    site: u32,
-) -> Rises
-    requires readable { AreReadable pairs.now ends.now table.now own.now at.now }
-    requires known { length known.now ≡ length at.now }
-    requires site { site < length at.now }
-    ensures least { (m : Instance) (move : Move) → AreRisesOf m move pairs.now table.now own.now
-        at.now → result.least
-        ≡ rise (move_value m move (labelling at.now)) site (decided_or known.now
-        true) }
-    ensures greatest { (m : Instance) (move : Move) → AreRisesOf m move pairs.now table.now own.now
-        at.now → result.greatest ≡ rise (move_value m move (labelling at.now)) site (decided_or
-        known.now false) }
+fn read_rises(numbers: &RiseNumbers, known: &[Choice], site: u32) -> Rises
+    requires readable { AreReadable numbers.now }
+    requires known { length known.now ≡ length numbers.now.at.now }
+    requires site { site < length numbers.now.at.now }
+    ensures least { WhereRead numbers.now (λ m move f. result.least
+        ≡ rise (move_value m move f) site (decided_or known.now true)) }
+    ensures greatest { WhereRead numbers.now (λ m move f. result.greatest
+        ≡ rise (move_value m move f) site (decided_or known.now false)) }
+    ensures range { unsigned_abs result.greatest
+        ≤ site_cost_limit + pair_cost_limit * degree numbers.now.ends.now site }
 {
-    let mut least = i64::from(own[site as usize]);
+    let ends = numbers.ends;
+    let mut least = i64::from(numbers.own[site as usize]);
     let mut greatest = least;
     for place in ends.starts[site as usize]..ends.starts[site as usize + 1] {
-        let pair = pair_beside(pairs, ends, site, place);
-        let rises = table_rises(table, known, at, site, pair);
+        let pair = pair_beside(numbers.pairs, ends, site, place);
+        let rises = table_rises(numbers.table, known, numbers.at, site, pair);
         least += rises.least;
         greatest += rises.greatest;
     }
     Rises { least, greatest }
+}
+
+/// What an open site weighs by what is known: by how much the energy rises where the site turns to
+/// 1 while every other open site is at 0.
+pub fn read_weight(numbers: &RiseNumbers, known: &[Choice], site: u32) -> i64
+    requires readable { AreReadable numbers.now }
+    requires known { length known.now ≡ length numbers.now.at.now }
+    requires site { site < length numbers.now.at.now }
+    requires opened { choice_at known.now site ≡ Open }
+    ensures weight { WhereRead numbers.now (λ m move f. IsInstance m →
+        result ≡ site_weight m move f (choice_at known.now) site) }
+    ensures range { unsigned_abs result
+        ≤ site_cost_limit + pair_cost_limit * degree numbers.now.ends.now site }
+{
+    read_rises(numbers, known, site).greatest
 }
 
 /// What the rises of a site tell of its value: 0 where turning never lowers the energy, 1 where it
@@ -111,131 +119,59 @@ fn told_by(rises: Rises) -> Choice
 }
 
 /// Decides a site, if it is open and its rises tell its value.
-fn try_site(
-    pairs: &Pairs,
-    ends: &Neighbours,
-    table: &RiseTable,
-    own: &[i32],
-    at: &[u8],
-    known: &mut [Choice],
-    site: u32,
-)
-    requires readable { AreReadable pairs.now ends.now table.now own.now at.now }
-    requires known { length known.old ≡ length at.now }
-    requires site { site < length at.now }
+fn try_site(numbers: &RiseNumbers, known: &mut [Choice], site: u32)
+    requires readable { AreReadable numbers.now }
+    requires known { length known.old ≡ length numbers.now.at.now }
+    requires site { site < length numbers.now.at.now }
     ensures count { length known.new ≡ length known.old }
     ensures others { (p : ℕ) → p ≢ site → choice_at known.new p ≡ choice_at known.old p }
-    ensures kept { (p : ℕ) → choice_at known.old p ≢ Open →
-        choice_at known.new p ≡ choice_at known.old p }
-    ensures passed { (m : Instance) (move : Move) → AreRisesOf m move pairs.now table.now own.now
-        at.now → ArePassedChoices m move (labelling at.now) (choice_at known.old) → ArePassedChoices
-        m move (labelling at.now) (choice_at known.new) }
-    ensures tried { (m : Instance) (move : Move) (b : Bool) →
-        AreRisesOf m move pairs.now table.now own.now at.now →
-        (ds : ArePassedChoices m move (labelling at.now) (choice_at known.old)) →
-        Passes (move_value m move (labelling at.now)) ds.decisions site b →
+    ensures kept { KeepsKnown known.old known.new }
+    ensures passed { KeepsPassed numbers.now known.old known.new }
+    ensures tried { (m : Instance) (move : Move) (b : Bool) → AreRisesOf m move numbers.now →
+        (ds : ArePassedChoices m move (labelling numbers.now.at.now) (choice_at known.old)) →
+        Passes (move_value m move (labelling numbers.now.at.now)) ds.decisions site b →
         choice_at known.new site ≢ Open }
 {
     if known[site as usize].is_open() {
-        let rises = read_rises(pairs, ends, table, own, at, known, site);
+        let rises = read_rises(numbers, known, site);
         known[site as usize] = told_by(rises);
     }
 }
 
 /// Decides the open sites of a range that can be told, from the first to the last.
-fn sweep_up(
-    pairs: &Pairs,
-    ends: &Neighbours,
-    table: &RiseTable,
-    own: &[i32],
-    at: &[u8],
-    known: &mut [Choice],
-    from: usize,
-    to: usize,
-)
-    requires readable { AreReadable pairs.now ends.now table.now own.now at.now }
-    requires known { length known.old ≡ length at.now }
-    requires range { (from ≤ to) × (to ≤ length at.now) }
-    ensures count { length known.new ≡ length known.old }
-    ensures outside { (p : ℕ) → (p < from) ⊎ (to ≤ p) → choice_at known.new p ≡ choice_at known.old
-        p }
-    ensures kept { (p : ℕ) → choice_at known.old p ≢ Open →
-        choice_at known.new p ≡ choice_at known.old p }
-    ensures passed { (m : Instance) (move : Move) → AreRisesOf m move pairs.now table.now own.now
-        at.now → ArePassedChoices m move (labelling at.now) (choice_at known.old) → ArePassedChoices
-        m move (labelling at.now) (choice_at known.new) }
-    ensures tried { (m : Instance) (move : Move) (p : ℕ) (b : Bool) → AreRisesOf m move pairs.now
-        table.now own.now at.now → (ds : ArePassedChoices m move (labelling at.now) (choice_at
-        known.old)) → from ≤ p → p < to → Passes (move_value m move (labelling at.now)) ds.decisions
-        p b → choice_at known.new p ≢ Open }
+fn sweep_up(numbers: &RiseNumbers, known: &mut [Choice], from: usize, to: usize)
+    requires readable { AreReadable numbers.now }
+    requires known { length known.old ≡ length numbers.now.at.now }
+    requires range { (from ≤ to) × (to ≤ length numbers.now.at.now) }
+    ensures { IsSwept numbers.now from to known.old known.new }
 {
     for site in from..to {
-        try_site(pairs, ends, table, own, at, known, site as u32);
+        try_site(numbers, known, site as u32);
     }
 }
 
 /// The same from the last to the first. So sites that were told by later ones are decided.
-fn sweep_down(
-    pairs: &Pairs,
-    ends: &Neighbours,
-    table: &RiseTable,
-    own: &[i32],
-    at: &[u8],
-    known: &mut [Choice],
-    from: usize,
-    to: usize,
-)
-    requires readable { AreReadable pairs.now ends.now table.now own.now at.now }
-    requires known { length known.old ≡ length at.now }
-    requires range { (from ≤ to) × (to ≤ length at.now) }
-    ensures count { length known.new ≡ length known.old }
-    ensures outside { (p : ℕ) → (p < from) ⊎ (to ≤ p) → choice_at known.new p ≡ choice_at known.old
-        p }
-    ensures kept { (p : ℕ) → choice_at known.old p ≢ Open →
-        choice_at known.new p ≡ choice_at known.old p }
-    ensures passed { (m : Instance) (move : Move) → AreRisesOf m move pairs.now table.now own.now
-        at.now → ArePassedChoices m move (labelling at.now) (choice_at known.old) → ArePassedChoices
-        m move (labelling at.now) (choice_at known.new) }
-    ensures tried { (m : Instance) (move : Move) (p : ℕ) (b : Bool) → AreRisesOf m move pairs.now
-        table.now own.now at.now → (ds : ArePassedChoices m move (labelling at.now) (choice_at
-        known.old)) → from ≤ p → p < to → Passes (move_value m move (labelling at.now)) ds.decisions
-        p b → choice_at known.new p ≢ Open }
+fn sweep_down(numbers: &RiseNumbers, known: &mut [Choice], from: usize, to: usize)
+    requires readable { AreReadable numbers.now }
+    requires known { length known.old ≡ length numbers.now.at.now }
+    requires range { (from ≤ to) × (to ≤ length numbers.now.at.now) }
+    ensures { IsSwept numbers.now from to known.old known.new }
 {
     let mut site = to;
     while from < site {
         site -= 1;
-        try_site(pairs, ends, table, own, at, known, site as u32);
+        try_site(numbers, known, site as u32);
     }
 }
 
 /// Decides the open sites of a range that can be told by what is known when each is looked at,
 /// twice.
-pub(crate) fn sweep(
-    pairs: &Pairs,
-    ends: &Neighbours,
-    table: &RiseTable,
-    own: &[i32],
-    at: &[u8],
-    known: &mut [Choice],
-    from: usize,
-    to: usize,
-)
-    requires readable { AreReadable pairs.now ends.now table.now own.now at.now }
-    requires known { length known.old ≡ length at.now }
-    requires range { (from ≤ to) × (to ≤ length at.now) }
-    ensures count { length known.new ≡ length known.old }
-    ensures outside { (p : ℕ) → (p < from) ⊎ (to ≤ p) → choice_at known.new p ≡ choice_at known.old
-        p }
-    ensures kept { (p : ℕ) → choice_at known.old p ≢ Open →
-        choice_at known.new p ≡ choice_at known.old p }
-    ensures passed { (m : Instance) (move : Move) → AreRisesOf m move pairs.now table.now own.now
-        at.now → ArePassedChoices m move (labelling at.now) (choice_at known.old) → ArePassedChoices
-        m move (labelling at.now) (choice_at known.new) }
-    ensures tried { (m : Instance) (move : Move) (p : ℕ) (b : Bool) → AreRisesOf m move pairs.now
-        table.now own.now at.now → (ds : ArePassedChoices m move (labelling at.now) (choice_at
-        known.old)) → from ≤ p → p < to → Passes (move_value m move (labelling at.now)) ds.decisions
-        p b → choice_at known.new p ≢ Open }
+pub fn sweep(numbers: &RiseNumbers, known: &mut [Choice], from: usize, to: usize)
+    requires readable { AreReadable numbers.now }
+    requires known { length known.old ≡ length numbers.now.at.now }
+    requires range { (from ≤ to) × (to ≤ length numbers.now.at.now) }
+    ensures { IsSwept numbers.now from to known.old known.new }
 {
-    sweep_up(pairs, ends, table, own, at, known, from, to);
-    sweep_down(pairs, ends, table, own, at, known, from, to);
+    sweep_up(numbers, known, from, to);
+    sweep_down(numbers, known, from, to);
 }

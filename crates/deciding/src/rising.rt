@@ -3,24 +3,26 @@
 ghost use Rattle.std.specs.Prelude.{◌≡◌, ◌==◌, cond, All, ◌<◌, ◌≤◌, ◌+◌, ◌*◌, ◌⊎◌, ℕ, ℤ, pos, ◌-ℤ◌, Bool, true, false, length, unsigned_abs};
 ghost use Rattle.label_field.specs.Limits.{weight_limit};
 ghost use Rattle.label_field.specs.PairLists.{IsPair};
-ghost use Rattle.move_energy.specs.BySite.{degree, AreBySite};
+ghost use Rattle.move_energy.specs.BySite.{degree};
 ghost use Rattle.labellings.specs.Energies.{labelling};
 ghost use Rattle.labellings.specs.Moves.{label_after};
 ghost use Rattle.cost_store.specs.Limits.{site_cost_limit, pair_cost_limit};
-ghost use Rattle.cost_store.specs.Posed.{IsPosed, IsAsked, WhereMeant};
+ghost use Rattle.cost_store.specs.Posed.{IsPosed, WhereMeant};
 ghost use Rattle.deciding.specs.Decisions.{rise};
+ghost use Rattle.deciding.specs.Finding.{IsPosedMove, WhereFound};
 ghost use Rattle.deciding.specs.MoveValues.{move_value, pair_rise};
 ghost use Rattle.move_energy.specs.declared.choice.Choice.TheVariants.{Open};
 ghost use Rattle.move_energy.specs.Choices.{bit_of, choice_at};
-ghost use Rattle.deciding.specs.Rising.{rises_at, table_labels, IsRiseTable, IsTableOf};
+ghost use Rattle.deciding.specs.Rising.{rises_at, table_labels};
 ghost use Rattle.deciding.specs.Working.{AreEnds, AreTurned, AvoidsSite, HasNoneBefore, end_rise as end_rise_of, decided_or};
 
 use crate::costs::data_rise;
+use crate::finding::MoveToFind;
 use crate::table::{EndRises, RiseTable};
 use cost_store::Problem;
 use label_field::Pair;
 use labellings::Move;
-use move_energy::{Choice, Neighbours, pair_beside};
+use move_energy::{Choice, pair_beside};
 
 /// The labels of a site: where its value is 0, and where it is 1.
 #[derive(Clone, Copy)]
@@ -111,32 +113,30 @@ pub(crate) fn end_rise<F: Fn(u32, u32) -> i64 + Sync, V: Fn(u32, u32) -> i64 + S
 /// both values of the other end's variable make one label, as they do once it is decided, one rise
 /// is both.
 fn asked_rises<F: Fn(u32, u32) -> i64 + Sync, V: Fn(u32, u32) -> i64 + Sync>(
-    problem: &Problem<F, V>,
+    step: &MoveToFind<F, V>,
     choices: &[Choice],
-    at: &[u8],
-    change: Move,
     site: u32,
     turn: Turn,
     pair: Pair,
 ) -> Rises
-    requires posed { IsPosed F.Fn V.Fn problem.now }
-    requires asked { IsAsked problem.now at.now change }
-    requires choices { length choices.now ≡ length at.now }
-    requires pair { IsPair (length at.now) pair }
+    requires posed { IsPosedMove F.Fn V.Fn step.now }
+    requires choices { length choices.now ≡ length step.now.at.now }
+    requires pair { IsPair (length step.now.at.now) pair }
     requires end { (pair.first ≡ site) ⊎ (pair.second ≡ site) }
-    requires turn { AreTurned change (labelling at.now site) turn.stays turn.turns }
-    ensures least { WhereMeant F.Fn V.Fn problem.now (λ m. result.least ≡ pair_rise m change
-        (labelling at.now) site (decided_or choices.now true) pair) }
-    ensures greatest { WhereMeant F.Fn V.Fn problem.now (λ m. result.greatest ≡ pair_rise m change
-        (labelling at.now) site (decided_or choices.now false) pair) }
+    requires turn { AreTurned step.now.change (labelling step.now.at.now site)
+        turn.stays turn.turns }
+    ensures least { WhereFound F.Fn V.Fn step.now (λ m move f. result.least
+        ≡ pair_rise m move f site (decided_or choices.now true) pair) }
+    ensures greatest { WhereFound F.Fn V.Fn step.now (λ m move f. result.greatest
+        ≡ pair_rise m move f site (decided_or choices.now false) pair) }
     ensures range { (unsigned_abs result.least ≤ pair_cost_limit)
         × (unsigned_abs result.greatest ≤ pair_cost_limit) }
 {
     let first = pair.first == site;
     let other = other_end(pair, site);
-    let low = label_by(choices, at, change, other, false);
-    let high = label_by(choices, at, change, other, true);
-    let greatest = end_rise(problem, pair.weight, first, turn, low);
+    let low = label_by(choices, step.at, step.change, other, false);
+    let high = label_by(choices, step.at, step.change, other, true);
+    let greatest = end_rise(step.problem, pair.weight, first, turn, low);
     if high == low {
         return Rises {
             least: greatest,
@@ -144,7 +144,7 @@ fn asked_rises<F: Fn(u32, u32) -> i64 + Sync, V: Fn(u32, u32) -> i64 + Sync>(
         };
     }
     Rises {
-        least: end_rise(problem, pair.weight, first, turn, high),
+        least: end_rise(step.problem, pair.weight, first, turn, high),
         greatest,
     }
 }
@@ -210,34 +210,29 @@ pub(crate) fn table_rises(
 /// By how much a pair's cost rises where its end at a site turns.
 #[inline]
 fn pair_rises<F: Fn(u32, u32) -> i64 + Sync, V: Fn(u32, u32) -> i64 + Sync>(
-    problem: &Problem<F, V>,
-    table: &RiseTable,
+    step: &MoveToFind<F, V>,
     choices: &[Choice],
-    at: &[u8],
-    change: Move,
     site: u32,
     turn: Turn,
     pair: Pair,
 ) -> Rises
-    requires posed { IsPosed F.Fn V.Fn problem.now }
-    requires asked { IsAsked problem.now at.now change }
-    requires sized { IsRiseTable problem.now.data_cost.labels table.now }
-    requires table { WhereMeant F.Fn V.Fn problem.now (λ m. IsTableOf m change table.now) }
-    requires choices { length choices.now ≡ length at.now }
-    requires pair { IsPair (length at.now) pair }
+    requires posed { IsPosedMove F.Fn V.Fn step.now }
+    requires choices { length choices.now ≡ length step.now.at.now }
+    requires pair { IsPair (length step.now.at.now) pair }
     requires end { (pair.first ≡ site) ⊎ (pair.second ≡ site) }
-    requires turn { AreTurned change (labelling at.now site) turn.stays turn.turns }
-    ensures least { WhereMeant F.Fn V.Fn problem.now (λ m. result.least ≡ pair_rise m change
-        (labelling at.now) site (decided_or choices.now true) pair) }
-    ensures greatest { WhereMeant F.Fn V.Fn problem.now (λ m. result.greatest ≡ pair_rise m change
-        (labelling at.now) site (decided_or choices.now false) pair) }
+    requires turn { AreTurned step.now.change (labelling step.now.at.now site)
+        turn.stays turn.turns }
+    ensures least { WhereFound F.Fn V.Fn step.now (λ m move f. result.least
+        ≡ pair_rise m move f site (decided_or choices.now true) pair) }
+    ensures greatest { WhereFound F.Fn V.Fn step.now (λ m move f. result.greatest
+        ≡ pair_rise m move f site (decided_or choices.now false) pair) }
     ensures range { (unsigned_abs result.least ≤ pair_cost_limit)
         × (unsigned_abs result.greatest ≤ pair_cost_limit) }
 {
-    if !table.covers(pair.weight) {
-        return asked_rises(problem, choices, at, change, site, turn, pair);
+    if !step.table.covers(pair.weight) {
+        return asked_rises(step, choices, site, turn, pair);
     }
-    table_rises(table, choices, at, site, pair)
+    table_rises(step.table, choices, step.at, site, pair)
 }
 
 /// Whether the other end of a site's pair is before the site, and open.
@@ -263,41 +258,33 @@ fn either(one: bool, other: bool) -> bool
 /// By how much the energy rises where a site turns: its own cost's rise and those of its pairs. And
 /// whether a site before it that is open has a pair with it.
 pub(crate) fn site_rises<F: Fn(u32, u32) -> i64 + Sync, V: Fn(u32, u32) -> i64 + Sync>(
-    problem: &Problem<F, V>,
-    ends: &Neighbours,
-    table: &RiseTable,
+    step: &MoveToFind<F, V>,
     choices: &[Choice],
-    at: &[u8],
-    change: Move,
     site: u32,
 ) -> SiteRises
-    requires posed { IsPosed F.Fn V.Fn problem.now }
-    requires asked { IsAsked problem.now at.now change }
-    requires sized { IsRiseTable problem.now.data_cost.labels table.now }
-    requires table { WhereMeant F.Fn V.Fn problem.now (λ m. IsTableOf m change table.now) }
-    requires by_site { AreBySite problem.now.pairs ends.now }
-    requires choices { length choices.now ≡ length at.now }
-    requires site { site < length at.now }
-    ensures least { WhereMeant F.Fn V.Fn problem.now (λ m. result.least ≡ rise (move_value m change
-        (labelling at.now)) site (decided_or choices.now true)) }
-    ensures greatest { WhereMeant F.Fn V.Fn problem.now
-        (λ m. result.greatest ≡ rise (move_value m change
-        (labelling at.now)) site (decided_or choices.now false)) }
+    requires posed { IsPosedMove F.Fn V.Fn step.now }
+    requires choices { length choices.now ≡ length step.now.at.now }
+    requires site { site < length step.now.at.now }
+    ensures least { WhereFound F.Fn V.Fn step.now (λ m move f. result.least
+        ≡ rise (move_value m move f) site (decided_or choices.now true)) }
+    ensures greatest { WhereFound F.Fn V.Fn step.now (λ m move f. result.greatest
+        ≡ rise (move_value m move f) site (decided_or choices.now false)) }
     ensures range { (unsigned_abs result.least
-        ≤ site_cost_limit + pair_cost_limit * degree ends.now site)
+        ≤ site_cost_limit + pair_cost_limit * degree step.now.ends.now site)
         × (unsigned_abs result.greatest
-        ≤ site_cost_limit + pair_cost_limit * degree ends.now site) }
-    ensures alone { result.beside ≡ false → HasNoneBefore choices.now ends.now site }
+        ≤ site_cost_limit + pair_cost_limit * degree step.now.ends.now site) }
+    ensures alone { result.beside ≡ false → HasNoneBefore choices.now step.now.ends.now site }
 {
-    let label = u32::from(at[site as usize]);
-    let turn = Turn::of(change, label);
-    let own = data_rise(problem, change, site, label);
+    let ends = step.ends;
+    let label = u32::from(step.at[site as usize]);
+    let turn = Turn::of(step.change, label);
+    let own = data_rise(step.problem, step.change, site, label);
     let mut least = own;
     let mut greatest = own;
     let mut beside = false;
     for place in ends.starts[site as usize]..ends.starts[site as usize + 1] {
-        let pair = pair_beside(&problem.pairs, ends, site, place);
-        let rises = pair_rises(problem, table, choices, at, change, site, turn, pair);
+        let pair = pair_beside(&step.problem.pairs, ends, site, place);
+        let rises = pair_rises(step, choices, site, turn, pair);
         least += rises.least;
         greatest += rises.greatest;
         beside = either(beside, meets_open(choices, site, pair));

@@ -1,27 +1,25 @@
 //! Deciding the sites that wait, one after another.
 ghost use Rattle.std.specs.Prelude.{◌≡◌, ◌≢◌, ◌⊎◌, ◌<◌, ◌≤◌, ◌+◌, ◌*◌, ◌^◌, ℕ, ℤ, pos, ◌-ℤ◌, ◌≤ℤ◌, ◌<ℤ◌, Bool, true, false, All, length, slice_get, Some, unsigned_abs, OnOk, IsTrue, ◌↔◌, []};
-ghost use Rattle.grouping.specs.Grouping.{IsGrouped};
-ghost use Rattle.label_field.specs.PairLists.{IsPair, IsPairList};
-ghost use Rattle.move_energy.specs.BySite.{degree, AreBySite};
+ghost use Rattle.label_field.specs.PairLists.{IsPair};
+ghost use Rattle.move_energy.specs.BySite.{degree};
 ghost use Rattle.labellings.specs.Energies.{labelling};
-ghost use Rattle.labellings.specs.Moves.{IsAllowed};
-ghost use Rattle.cost_store.specs.Posed.{IsPosed, IsAsked, WhereMeant};
-ghost use Rattle.move_energy.specs.declared.choice.Choice.{Choice};
 ghost use Rattle.move_energy.specs.declared.choice.Choice.TheVariants.{Open};
 ghost use Rattle.move_energy.specs.Choices.{choice_at, bit_of};
-ghost use Rattle.cost_store.specs.Limits.{site_cost_limit};
 ghost use Rattle.move_energy.specs.Limits.{surplus_limit};
 ghost use Rattle.move_energy.specs.Weights.{surplus_of, pair_table};
-ghost use Rattle.deciding.specs.Rising.{rises_at, table_labels, IsRiseTable, IsTableOf};
-ghost use Rattle.deciding.specs.Working.{bound_at, summed_count, CanDecide, TellsValue, IsMarked, IsSummed, IsWithinRange, AreWaiting, AreWaitingBut, ArePartlyDecided, SeesPair, IsLooking, Shifts, least_shift as least_shift_of, greatest_shift as greatest_shift_of, open_ends, budget_of, greatest_total};
+ghost use Rattle.deciding.specs.Finding.{IsPosedMove, WhereFound, IsInBudget, ends_left, total_left};
+ghost use Rattle.deciding.specs.Rising.{rises_at, table_labels};
+ghost use Rattle.deciding.specs.Working.{summed_count, CanDecide, TellsValue, IsMarked, IsSummed};
+ghost use Rattle.deciding.specs.Working.{IsWithinRange, AreWaiting, AreWaitingBut, ArePartlyDecided};
+ghost use Rattle.deciding.specs.Working.{SeesPair, IsLooking, Shifts, least_shift as least_shift_of};
+ghost use Rattle.deciding.specs.Working.{greatest_shift as greatest_shift_of, greatest_total};
 
 use crate::Bounds;
+use crate::finding::MoveToFind;
 use crate::rising::other_end;
 use crate::table::RiseTable;
-use cost_store::Problem;
 use label_field::Pair;
-use labellings::Move;
-use move_energy::{Choice, Neighbours, pair_beside, surplus, term};
+use move_energy::{Choice, pair_beside, surplus, term};
 use std::alloc::AllocError;
 
 /// What is known of a variable once it has a value.
@@ -72,26 +70,20 @@ pub(crate) fn table_surplus(table: &RiseTable, at: &[u8], pair: Pair) -> i64
 /// The surplus of a pair. The table tells it where it has the pair's weight; else costs are asked.
 #[inline]
 pub fn pair_surplus<F: Fn(u32, u32) -> i64 + Sync, V: Fn(u32, u32) -> i64 + Sync>(
-    problem: &Problem<F, V>,
-    table: &RiseTable,
-    at: &[u8],
-    change: Move,
+    step: &MoveToFind<F, V>,
     pair: Pair,
 ) -> i64
-    requires posed { IsPosed F.Fn V.Fn problem.now }
-    requires asked { IsAsked problem.now at.now change }
-    requires pair { IsPair (length at.now) pair }
-    requires labels { IsRiseTable problem.now.data_cost.labels table.now }
-    requires table { WhereMeant F.Fn V.Fn problem.now (λ m. IsTableOf m change table.now) }
-    ensures value { WhereMeant F.Fn V.Fn problem.now
-        (λ m. result ≡ surplus_of (pair_table m change (labelling at.now) pair)) }
+    requires posed { IsPosedMove F.Fn V.Fn step.now }
+    requires pair { IsPair (length step.now.at.now) pair }
+    ensures value { WhereFound F.Fn V.Fn step.now
+        (λ m move f. result ≡ surplus_of (pair_table m move f pair)) }
     ensures range { unsigned_abs result ≤ surplus_limit }
 {
-    if !table.covers(pair.weight) {
-        let costs = term(problem, at, change, pair);
+    if !step.table.covers(pair.weight) {
+        let costs = term(step.problem, step.at, step.change, pair);
         return surplus(&costs);
     }
-    table_surplus(table, at, pair)
+    table_surplus(step.table, step.at, pair)
 }
 
 impl Bounds {
@@ -150,33 +142,27 @@ impl Bounds {
     /// is.
     fn see<F: Fn(u32, u32) -> i64 + Sync, V: Fn(u32, u32) -> i64 + Sync>(
         &mut self,
-        problem: &Problem<F, V>,
-        table: &RiseTable,
-        at: &[u8],
-        change: Move,
+        step: &MoveToFind<F, V>,
         pair: Pair,
         site: u32,
         value: bool,
     ) -> Result<(), AllocError>
-        requires posed { IsPosed F.Fn V.Fn problem.now }
-        requires labels { IsRiseTable problem.now.data_cost.labels table.now }
-        requires table { WhereMeant F.Fn V.Fn problem.now (λ m. IsTableOf m change table.now) }
-        requires asked { IsAsked problem.now at.now change }
-        requires pair { IsPair (length at.now) pair }
+        requires posed { IsPosedMove F.Fn V.Fn step.now }
+        requires pair { IsPair (length step.now.at.now) pair }
         requires end { (pair.first ≡ site) ⊎ (pair.second ≡ site) }
-        requires sized { IsSummed (length at.now) self.old }
+        requires sized { IsSummed (length step.now.at.now) self.old }
         requires range { IsWithinRange (2 ^ 60) self.old }
         requires waiting { AreWaiting (summed_count self.old) self.old }
         ensures looking { OnOk result (IsLooking 1 self.old self.new) }
         ensures waiting { OnOk result (AreWaiting (summed_count self.old) self.new) }
-        ensures sees { OnOk result (WhereMeant F.Fn V.Fn problem.now (λ m. SeesPair m change
-            (labelling at.now) (summed_count self.old) site value pair self.old self.new)) }
+        ensures sees { OnOk result (WhereFound F.Fn V.Fn step.now (λ m move f.
+            SeesPair m move f (summed_count self.old) site value pair self.old self.new)) }
     {
         let other = other_end(pair, site);
         if !self.has_bounds(other) {
             return Ok(());
         }
-        let surplus = pair_surplus(problem, table, at, change, pair);
+        let surplus = pair_surplus(step, pair);
         self.shift(other, value, surplus)
     }
 
@@ -191,44 +177,37 @@ impl Bounds {
     /// Decides a site, and sees each of its pairs with its value.
     fn decide<F: Fn(u32, u32) -> i64 + Sync, V: Fn(u32, u32) -> i64 + Sync>(
         &mut self,
-        problem: &Problem<F, V>,
-        ends: &Neighbours,
-        table: &RiseTable,
-        at: &[u8],
-        change: Move,
+        step: &MoveToFind<F, V>,
         site: u32,
         value: bool,
     ) -> Result<(), AllocError>
-        requires posed { IsPosed F.Fn V.Fn problem.now }
-        requires asked { IsAsked problem.now at.now change }
-        requires by_site { AreBySite problem.now.pairs ends.now }
-        requires labels { IsRiseTable problem.now.data_cost.labels table.now }
-        requires table { WhereMeant F.Fn V.Fn problem.now (λ m. IsTableOf m change table.now) }
+        requires posed { IsPosedMove F.Fn V.Fn step.now }
         requires site { (site < summed_count self.old)
             × (choice_at self.old.choices.items site ≡ Open) }
-        requires sized { IsSummed (length at.now) self.old }
+        requires sized { IsSummed (length step.now.at.now) self.old }
         requires range { IsWithinRange (2 ^ 59) self.old }
         requires waiting { AreWaitingBut (summed_count self.old) site self.old }
-        ensures sized { OnOk result (IsSummed (length at.now) self.new) }
+        ensures sized { OnOk result (IsSummed (length step.now.at.now) self.new) }
         ensures same { OnOk result (summed_count self.new ≡ summed_count self.old) }
         ensures waiting { OnOk result (AreWaiting (summed_count self.old) self.new) }
         ensures range { OnOk result ((most : ℕ) → IsWithinRange most self.old →
-            IsWithinRange (most + surplus_limit * degree ends.now site) self.new) }
+            IsWithinRange (most + surplus_limit * degree step.now.ends.now site) self.new) }
         ensures total { OnOk result (greatest_total self.new ≤
-            greatest_total self.old + surplus_limit * degree ends.now site) }
+            greatest_total self.old + surplus_limit * degree step.now.ends.now site) }
         ensures more { OnOk result (length self.new.waiting.items ≤
-            length self.old.waiting.items + degree ends.now site) }
-        ensures left { OnOk result (open_ends ends.now (length at.now) self.new.choices.items
-            + degree ends.now site ≡ open_ends ends.now (length at.now) self.old.choices.items) }
-        ensures decided { OnOk result
-            (WhereMeant F.Fn V.Fn problem.now (λ m. TellsValue self.old site value →
-            ArePartlyDecided m change (labelling at.now) (summed_count self.old) self.old →
-            ArePartlyDecided m change (labelling at.now) (summed_count self.old) self.new)) }
+            length self.old.waiting.items + degree step.now.ends.now site) }
+        ensures left { OnOk result (ends_left step.now self.new + degree step.now.ends.now site
+            ≡ ends_left step.now self.old) }
+        ensures decided { OnOk result (WhereFound F.Fn V.Fn step.now (λ m move f.
+            TellsValue self.old site value →
+            ArePartlyDecided m move f (summed_count self.old) self.old →
+            ArePartlyDecided m move f (summed_count self.old) self.new)) }
     {
         self.mark(site as usize, value);
+        let ends = step.ends;
         for place in ends.starts[site as usize]..ends.starts[site as usize + 1] {
-            let pair = pair_beside(&problem.pairs, ends, site, place);
-            self.see(problem, table, at, change, pair, site, value)?;
+            let pair = pair_beside(&step.problem.pairs, ends, site, place);
+            self.see(step, pair, site, value)?;
         }
         Ok(())
     }
@@ -246,92 +225,51 @@ impl Bounds {
     /// Decides a site that waited, where its bounds tell its value.
     fn settle<F: Fn(u32, u32) -> i64 + Sync, V: Fn(u32, u32) -> i64 + Sync>(
         &mut self,
-        problem: &Problem<F, V>,
-        ends: &Neighbours,
-        table: &RiseTable,
-        at: &[u8],
-        change: Move,
+        step: &MoveToFind<F, V>,
         site: u32,
     ) -> Result<(), AllocError>
-        requires posed { IsPosed F.Fn V.Fn problem.now }
-        requires asked { IsAsked problem.now at.now change }
-        requires by_site { AreBySite problem.now.pairs ends.now }
-        requires labels { IsRiseTable problem.now.data_cost.labels table.now }
-        requires table { WhereMeant F.Fn V.Fn problem.now (λ m. IsTableOf m change table.now) }
+        requires posed { IsPosedMove F.Fn V.Fn step.now }
         requires site { site < summed_count self.old }
-        requires sized { IsSummed (length at.now) self.old }
-        requires left { open_ends ends.now (length at.now) self.old.choices.items ≤ 2 * length
-            problem.now.pairs.list }
-        requires range { IsWithinRange
-            (budget_of (open_ends ends.now (length at.now) self.old.choices.items)) self.old }
+        requires budget { IsInBudget step.now self.old }
         requires waiting { AreWaitingBut (summed_count self.old) site self.old }
-        ensures sized { OnOk result (IsSummed (length at.now) self.new) }
+        ensures budget { OnOk result (IsInBudget step.now self.new) }
         ensures same { OnOk result (summed_count self.new ≡ summed_count self.old) }
         ensures waiting { OnOk result (AreWaiting (summed_count self.old) self.new) }
-        ensures left { OnOk result (open_ends ends.now (length at.now) self.new.choices.items ≤
-            2 * length problem.now.pairs.list) }
-        ensures range { OnOk result (IsWithinRange
-            (budget_of (open_ends ends.now (length at.now) self.new.choices.items)) self.new) }
-        ensures total { OnOk result (greatest_total self.new
-            + surplus_limit * open_ends ends.now (length at.now) self.new.choices.items
-            ≤ greatest_total self.old
-            + surplus_limit * open_ends ends.now (length at.now) self.old.choices.items) }
-        ensures less { OnOk result (length self.new.waiting.items
-            + open_ends ends.now (length at.now) self.new.choices.items
-            ≤ length self.old.waiting.items
-            + open_ends ends.now (length at.now) self.old.choices.items) }
-        ensures decided { OnOk result
-            (WhereMeant F.Fn V.Fn problem.now (λ m. ArePartlyDecided m change (labelling
-            at.now) (summed_count self.old) self.old →
-            ArePartlyDecided m change (labelling at.now) (summed_count self.old) self.new)) }
+        ensures total { OnOk result (total_left step.now self.new ≤ total_left step.now self.old) }
+        ensures less { OnOk result
+            (length self.new.waiting.items + ends_left step.now self.new
+            ≤ length self.old.waiting.items + ends_left step.now self.old) }
+        ensures decided { OnOk result (WhereFound F.Fn V.Fn step.now (λ m move f.
+            ArePartlyDecided m move f (summed_count self.old) self.old →
+            ArePartlyDecided m move f (summed_count self.old) self.new)) }
     {
         let place = site as usize;
         if !self.choices[place].is_open() || !self.can_decide(place) {
             return Ok(());
         }
         let value = self.told_value(place);
-        self.decide(problem, ends, table, at, change, site, value)
+        self.decide(step, site, value)
     }
 
     /// Decides the sites that wait, and those whose values then can be told, until none is left.
     pub(crate) fn settle_all<F: Fn(u32, u32) -> i64 + Sync, V: Fn(u32, u32) -> i64 + Sync>(
         &mut self,
-        problem: &Problem<F, V>,
-        ends: &Neighbours,
-        table: &RiseTable,
-        at: &[u8],
-        change: Move,
+        step: &MoveToFind<F, V>,
     ) -> Result<(), AllocError>
-        requires posed { IsPosed F.Fn V.Fn problem.now }
-        requires asked { IsAsked problem.now at.now change }
-        requires by_site { AreBySite problem.now.pairs ends.now }
-        requires labels { IsRiseTable problem.now.data_cost.labels table.now }
-        requires table { WhereMeant F.Fn V.Fn problem.now (λ m. IsTableOf m change table.now) }
-        requires sized { IsSummed (length at.now) self.old }
-        requires left { open_ends ends.now (length at.now) self.old.choices.items ≤ 2 * length
-            problem.now.pairs.list }
-        requires range { IsWithinRange
-            (budget_of (open_ends ends.now (length at.now) self.old.choices.items)) self.old }
+        requires posed { IsPosedMove F.Fn V.Fn step.now }
+        requires budget { IsInBudget step.now self.old }
         requires waiting { AreWaiting (summed_count self.old) self.old }
-        ensures sized { OnOk result (IsSummed (length at.now) self.new) }
+        ensures budget { OnOk result (IsInBudget step.now self.new) }
         ensures same { OnOk result (summed_count self.new ≡ summed_count self.old) }
         ensures waiting { OnOk result (AreWaiting (summed_count self.old) self.new) }
         ensures none { OnOk result (self.new.waiting.items ≡ []) }
-        ensures left { OnOk result (open_ends ends.now (length at.now) self.new.choices.items ≤
-            2 * length problem.now.pairs.list) }
-        ensures range { OnOk result (IsWithinRange
-            (budget_of (open_ends ends.now (length at.now) self.new.choices.items)) self.new) }
-        ensures total { OnOk result (greatest_total self.new
-            + surplus_limit * open_ends ends.now (length at.now) self.new.choices.items
-            ≤ greatest_total self.old
-            + surplus_limit * open_ends ends.now (length at.now) self.old.choices.items) }
-        ensures decided { OnOk result
-            (WhereMeant F.Fn V.Fn problem.now (λ m. ArePartlyDecided m change (labelling
-            at.now) (summed_count self.old) self.old →
-            ArePartlyDecided m change (labelling at.now) (summed_count self.old) self.new)) }
+        ensures total { OnOk result (total_left step.now self.new ≤ total_left step.now self.old) }
+        ensures decided { OnOk result (WhereFound F.Fn V.Fn step.now (λ m move f.
+            ArePartlyDecided m move f (summed_count self.old) self.old →
+            ArePartlyDecided m move f (summed_count self.old) self.new)) }
     {
         'settling: while let Some(site) = self.waiting.pop() {
-            self.settle(problem, ends, table, at, change, site)?;
+            self.settle(step, site)?;
         }
         Ok(())
     }

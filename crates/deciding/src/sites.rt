@@ -1,17 +1,20 @@
 //! Deciding the sites of a move.
-ghost use Rattle.std.specs.Prelude.{◌≡◌, ◌<◌, ◌≤◌, ℕ, [], All, length, IfOk, OnOk, OnErr, false};
-ghost use Rattle.compile_cut.specs.Weights.{weights_size};
+ghost use Rattle.std.specs.Prelude.{◌≡◌, ◌<◌, ◌≤◌, ℕ, [], All, length, IfOk, IfErr, OnOk, OnErr, IsTrue, false};
 ghost use Rattle.move_energy.specs.BySite.{AreBySite};
-ghost use Rattle.move_energy.specs.Choices.{choice_at};
-ghost use Rattle.move_energy.specs.Limits.{weights_limit};
+ghost use Rattle.move_energy.specs.Choices.{choice_at, AreAllOpen};
+ghost use Rattle.move_energy.specs.Problems.{IsPrepareRefusal};
 ghost use Rattle.move_energy.specs.Weights.{AreWeights};
 ghost use Rattle.labellings.specs.Energies.{labelling};
 ghost use Rattle.cost_store.specs.Posed.{IsPosed, IsAsked, WhereMeant};
-ghost use Rattle.deciding.specs.Decided.{IsDecidedMove};
-ghost use Rattle.deciding.specs.Listed.{AreListed, AreListsEmpty};
-ghost use Rattle.deciding.specs.Rising.{IsRiseTable, IsTableOf};
-ghost use Rattle.deciding.specs.Working.{AreOfSites, AreOfNoSites};
+ghost use Rattle.deciding.specs.Decided.{IsDecidedMove, KnowsSites};
+ghost use Rattle.deciding.specs.Listed.{AreListsEmpty};
+ghost use Rattle.deciding.specs.declared.finding.RiseNumbers.{RiseNumbers};
+ghost use Rattle.deciding.specs.Parts.{AreReadable, AreRisesOf, ArePassedChoices, AreNumbersOf};
+ghost use Rattle.deciding.specs.Rising.{IsTableOf};
+ghost use Rattle.deciding.specs.Working.{AreOfNoSites};
 
+use crate::finding::MoveToFind;
+use crate::reading::list_own_rises;
 use crate::table::RiseTable;
 use crate::testing::test_terms;
 use crate::{Bounds, Lists};
@@ -19,7 +22,6 @@ use cost_store::Problem;
 use label_field::Pairs;
 use labellings::Move;
 use move_energy::{BuildError, Neighbours, group_pairs};
-use solvers::How;
 use std::alloc::{AllocError, Global};
 
 /// The neighbours of each site by a list of pairs, made once a run, and the room in which the sites
@@ -30,7 +32,7 @@ pub struct Deciding {
     pub table: RiseTable,
     pub bounds: Bounds,
     pub lists: Lists,
-    own_rises: Vec<i32>,
+    pub own_rises: Vec<i32>,
 }
 
 impl Deciding {
@@ -90,20 +92,15 @@ impl Deciding {
         requires posed { IsPosed F.Fn V.Fn problem.now }
         requires by_site { AreBySite problem.now.pairs self.old.ends }
         ensures kept { self.new.ends ≡ self.old.ends }
-        ensures count { OnOk result (length self.new.bounds.choices.items ≡ length at.now) }
-        ensures sized { OnOk result (AreOfSites (length at.now) self.new.bounds) }
+        ensures known { OnOk result
+            (KnowsSites problem.now.data_cost.labels change at.now self.new) }
         ensures weights { WhereMeant F.Fn V.Fn problem.now (λ m. OnOk result (AreWeights m change
             (labelling at.now) (choice_at self.new.bounds.choices.items)
             self.new.bounds.greatest.items)) }
-        ensures small { OnOk result (weights_size self.new.bounds.greatest.items ≤ weights_limit) }
         ensures decided { WhereMeant F.Fn V.Fn problem.now (λ m. IsDecidedMove m change at.now
             self.new.bounds.choices.items result) }
-        ensures table { OnOk result (IsRiseTable problem.now.data_cost.labels self.new.table) }
         ensures rises { WhereMeant F.Fn V.Fn problem.now (λ m.
             OnOk result (IsTableOf m change self.new.table)) }
-        ensures listed { OnOk result
-            (AreListed change (labelling at.now) self.new.bounds.choices.items
-            self.new.lists) }
         ensures refused { OnErr result (self.new.lists.listed ≡ false) }
     {
         self.lists.listed = false;
@@ -111,60 +108,54 @@ impl Deciding {
         self.table
             .make(problem, change, at.len(), self.ends.weight)?;
         self.bounds.open_sites(at, change)?;
-        self.bounds
-            .decide_sites(problem, &self.ends, &self.table, at, change)?;
+        let step = MoveToFind {
+            problem,
+            ends: &self.ends,
+            table: &self.table,
+            at,
+            change,
+        };
+        self.bounds.decide_sites(&step)?;
         self.lists.fill(at, change, &self.bounds.choices)?;
         Ok(())
     }
 
-    /// What `decide` does. Where the way to cut asks for parts of the sites, most sites are decided
-    /// side by side, each part by what its own sites tell; what is left is decided as there. The
-    /// choices are the same, whatever the number of parts.
-    pub fn decide_by_parts<F: Fn(u32, u32) -> i64 + Sync, V: Fn(u32, u32) -> i64 + Sync, H: How>(
+    /// Opens the sites of a move, and reads the numbers by which threads decide them: `table` then
+    /// has the rises of all pairs, and `own_rises` has by how much its own cost rises at each site.
+    /// No, and nothing is opened, where the table lacks a pair. Refused as `decide` is.
+    pub fn open<F: Fn(u32, u32) -> i64 + Sync, V: Fn(u32, u32) -> i64 + Sync>(
         &mut self,
         problem: &Problem<F, V>,
         at: &[u8],
         change: Move,
-        how: &H,
-    ) -> Result<(), BuildError>
-        requires ready { H.ready how.now }
+    ) -> Result<bool, BuildError>
         requires asked { IsAsked problem.now at.now change }
         requires posed { IsPosed F.Fn V.Fn problem.now }
         requires by_site { AreBySite problem.now.pairs self.old.ends }
         ensures kept { self.new.ends ≡ self.old.ends }
-        ensures count { OnOk result (length self.new.bounds.choices.items ≡ length at.now) }
-        ensures sized { OnOk result (AreOfSites (length at.now) self.new.bounds) }
-        ensures weights { WhereMeant F.Fn V.Fn problem.now (λ m. OnOk result (AreWeights m change
-            (labelling at.now) (choice_at self.new.bounds.choices.items)
-            self.new.bounds.greatest.items)) }
-        ensures small { OnOk result (weights_size self.new.bounds.greatest.items ≤ weights_limit) }
-        ensures decided { WhereMeant F.Fn V.Fn problem.now (λ m. IsDecidedMove m change at.now
-            self.new.bounds.choices.items result) }
-        ensures table { OnOk result (IsRiseTable problem.now.data_cost.labels self.new.table) }
-        ensures rises { WhereMeant F.Fn V.Fn problem.now (λ m.
-            OnOk result (IsTableOf m change self.new.table)) }
-        ensures listed { OnOk result
-            (AreListed change (labelling at.now) self.new.bounds.choices.items
-            self.new.lists) }
-        ensures refused { OnErr result (self.new.lists.listed ≡ false) }
+        ensures listed { self.new.lists.listed ≡ false }
+        ensures opened { IfOk result (λ read. IsTrue read →
+            AreAllOpen change at.now self.new.bounds.choices.items) }
+        ensures readable { IfOk result (λ read. IsTrue read → (numbers : RiseNumbers) →
+            AreNumbersOf problem.now.pairs at.now self.new numbers → AreReadable numbers) }
+        ensures rises { WhereMeant F.Fn V.Fn problem.now (λ m. IfOk result (λ read. IsTrue read →
+            (numbers : RiseNumbers) → AreNumbersOf problem.now.pairs at.now self.new numbers →
+            AreRisesOf m change numbers)) }
+        ensures passed { WhereMeant F.Fn V.Fn problem.now (λ m. IfOk result (λ read. IsTrue read →
+            ArePassedChoices m change (labelling at.now)
+            (choice_at self.new.bounds.choices.items))) }
+        ensures refused { WhereMeant F.Fn V.Fn problem.now (λ m.
+            IfErr result (IsPrepareRefusal m change (labelling at.now))) }
     {
         self.lists.listed = false;
-        test_terms(problem, at, change)?;
         self.table
             .make(problem, change, at.len(), self.ends.weight)?;
+        if !self.table.covers_all(&self.ends) {
+            return Ok(false);
+        }
+        test_terms(problem, at, change)?;
         self.bounds.open_sites(at, change)?;
-        self.bounds.sweep_parts(
-            &mut self.own_rises,
-            problem,
-            &self.ends,
-            &self.table,
-            at,
-            change,
-            how,
-        )?;
-        self.bounds
-            .decide_sites(problem, &self.ends, &self.table, at, change)?;
-        self.lists.fill(at, change, &self.bounds.choices)?;
-        Ok(())
+        list_own_rises(&mut self.own_rises, problem, at, change)?;
+        Ok(true)
     }
 }

@@ -2,22 +2,23 @@
 //! its value.
 ghost use Rattle.std.specs.Prelude.{◌≡◌, ◌≢◌, ◌<◌, ◌≤◌, ◌*◌, ◌+◌, ◌-◌, ◌↔◌, ◌++◌, ◌∷◌, [], ℕ, pos, replicate, length, OnOk, IfOk};
 ghost use Rattle.label_field.specs.Limits.{site_limit};
-ghost use Rattle.move_energy.specs.BySite.{AreBySite, degree};
+ghost use Rattle.move_energy.specs.BySite.{degree};
 ghost use Rattle.move_energy.specs.Limits.{weights_limit};
 ghost use Rattle.cost_store.specs.Limits.{site_cost_limit, pair_cost_limit};
 ghost use Rattle.labellings.specs.Energies.{labelling};
-ghost use Rattle.cost_store.specs.Posed.{IsPosed, IsAsked, WhereMeant};
 ghost use Rattle.move_energy.specs.declared.choice.Choice.TheVariants.{Open, One};
 ghost use Rattle.move_energy.specs.Choices.{choice_at, Changes};
-ghost use Rattle.deciding.specs.Rising.{IsRiseTable, IsTableOf};
-ghost use Rattle.deciding.specs.Working.{summed_count, CanDecide, AreOfSites, IsSummed, IsWithinRange, IsAnswered, AddsBounds, PassesClosed, AreUndecided, AreUnsummed, AreWaiting, ArePartlyDecided, open_ends, budget_of, greatest_total};
+ghost use Rattle.deciding.specs.Finding.{IsPosedMove, WhereFound, IsInBudget, ends_left};
+ghost use Rattle.deciding.specs.Working.{summed_count, CanDecide, AreOfSites, IsSummed};
+ghost use Rattle.deciding.specs.Working.{IsWithinRange, IsAnswered, AddsBounds, PassesClosed};
+ghost use Rattle.deciding.specs.Working.{AreUndecided, AreUnsummed, AreWaiting, ArePartlyDecided};
+ghost use Rattle.deciding.specs.Working.{budget_of, greatest_total};
 
 use crate::Bounds;
+use crate::finding::MoveToFind;
 use crate::rising::site_rises;
-use crate::table::RiseTable;
-use cost_store::Problem;
 use labellings::Move;
-use move_energy::{Choice, Neighbours};
+use move_energy::Choice;
 use std::alloc::AllocError;
 
 /// What is known of a site before anything is summed. Where the move cannot change its label its
@@ -142,42 +143,28 @@ impl Bounds {
     /// value.
     fn sum_site<F: Fn(u32, u32) -> i64 + Sync, V: Fn(u32, u32) -> i64 + Sync>(
         &mut self,
-        problem: &Problem<F, V>,
-        ends: &Neighbours,
-        table: &RiseTable,
-        at: &[u8],
-        change: Move,
+        step: &MoveToFind<F, V>,
         site: u32,
     ) -> Result<(), AllocError>
-        requires posed { IsPosed F.Fn V.Fn problem.now }
-        requires asked { IsAsked problem.now at.now change }
-        requires by_site { AreBySite problem.now.pairs ends.now }
-        requires labels { IsRiseTable problem.now.data_cost.labels table.now }
-        requires table { WhereMeant F.Fn V.Fn problem.now (λ m. IsTableOf m change table.now) }
-        requires site { (site < length at.now) × (summed_count self.old ≡ site) }
+        requires posed { IsPosedMove F.Fn V.Fn step.now }
+        requires site { (site < length step.now.at.now) × (summed_count self.old ≡ site) }
         requires opened { choice_at self.old.choices.items site ≡ Open }
-        requires sized { IsSummed (length at.now) self.old }
-        requires left { open_ends ends.now (length at.now) self.old.choices.items ≤ 2 * length
-            problem.now.pairs.list }
-        requires range { IsWithinRange
-            (budget_of (open_ends ends.now (length at.now) self.old.choices.items)) self.old }
+        requires budget { IsInBudget step.now self.old }
         requires waiting { AreWaiting site self.old }
-        ensures left { OnOk result (open_ends ends.now (length at.now) self.new.choices.items ≤
-            open_ends ends.now (length at.now) self.old.choices.items) }
+        ensures left { OnOk result (ends_left step.now self.new ≤ ends_left step.now self.old) }
         ensures summed { OnOk result (summed_count self.new ≡ site + 1) }
-        ensures sized { OnOk result (IsSummed (length at.now) self.new) }
-        ensures range { OnOk result (IsWithinRange
-            (budget_of (open_ends ends.now (length at.now) self.old.choices.items)) self.new) }
+        ensures sized { OnOk result (IsSummed (length step.now.at.now) self.new) }
+        ensures range { OnOk result
+            (IsWithinRange (budget_of (ends_left step.now self.old)) self.new) }
         ensures total { OnOk result
             (greatest_total self.new ≤ greatest_total self.old + site_cost_limit
-            + pair_cost_limit * degree ends.now site) }
+            + pair_cost_limit * degree step.now.ends.now site) }
         ensures waiting { OnOk result (AreWaiting (site + 1) self.new) }
-        ensures decided { OnOk result
-            (WhereMeant F.Fn V.Fn problem.now (λ m. ArePartlyDecided m change (labelling
-            at.now) site self.old
-            → ArePartlyDecided m change (labelling at.now) (site + 1) self.new)) }
+        ensures decided { OnOk result (WhereFound F.Fn V.Fn step.now (λ m move f.
+            ArePartlyDecided m move f site self.old
+            → ArePartlyDecided m move f (site + 1) self.new)) }
     {
-        let rises = site_rises(problem, ends, table, &self.choices, at, change, site);
+        let rises = site_rises(step, &self.choices, site);
         self.add_bounds(rises.least, rises.greatest)?;
         self.answer(site, rises.beside)
     }
@@ -187,38 +174,28 @@ impl Bounds {
     /// that were summed before.
     pub(crate) fn decide_sites<F: Fn(u32, u32) -> i64 + Sync, V: Fn(u32, u32) -> i64 + Sync>(
         &mut self,
-        problem: &Problem<F, V>,
-        ends: &Neighbours,
-        table: &RiseTable,
-        at: &[u8],
-        change: Move,
+        step: &MoveToFind<F, V>,
     ) -> Result<(), AllocError>
-        requires posed { IsPosed F.Fn V.Fn problem.now }
-        requires asked { IsAsked problem.now at.now change }
-        requires by_site { AreBySite problem.now.pairs ends.now }
-        requires labels { IsRiseTable problem.now.data_cost.labels table.now }
-        requires table { WhereMeant F.Fn V.Fn problem.now (λ m. IsTableOf m change table.now) }
-        requires unsummed { AreUnsummed (length at.now) self.old }
-        requires begun { WhereMeant F.Fn V.Fn problem.now
-            (λ m. ArePartlyDecided m change (labelling at.now) 0
-            self.old) }
-        ensures sized { OnOk result (AreOfSites (length at.now) self.new) }
+        requires posed { IsPosedMove F.Fn V.Fn step.now }
+        requires unsummed { AreUnsummed (length step.now.at.now) self.old }
+        requires begun { WhereFound F.Fn V.Fn step.now
+            (λ m move f. ArePartlyDecided m move f 0 self.old) }
+        ensures sized { OnOk result (AreOfSites (length step.now.at.now) self.new) }
         ensures total { OnOk result (greatest_total self.new ≤ weights_limit) }
-        ensures none { OnOk result
-            ((u : ℕ) → u < length at.now → choice_at self.new.choices.items u ≡ Open →
-            ¬ CanDecide self.new u) }
-        ensures decided { OnOk result
-            (WhereMeant F.Fn V.Fn problem.now (λ m. ArePartlyDecided m change
-            (labelling at.now) (length at.now) self.new)) }
+        ensures none { OnOk result ((u : ℕ) → u < length step.now.at.now →
+            choice_at self.new.choices.items u ≡ Open → ¬ CanDecide self.new u) }
+        ensures decided { OnOk result (WhereFound F.Fn V.Fn step.now (λ m move f.
+            ArePartlyDecided m move f (length step.now.at.now) self.new)) }
     {
+        let sites = step.at.len();
         let mut site = 0usize;
-        while site < at.len() {
+        while site < sites {
             let next = self.pass_closed(site)?;
-            if next == at.len() {
+            if next == sites {
                 return Ok(());
             }
-            self.sum_site(problem, ends, table, at, change, next as u32)?;
-            self.settle_all(problem, ends, table, at, change)?;
+            self.sum_site(step, next as u32)?;
+            self.settle_all(step)?;
             site = next + 1;
         }
         Ok(())

@@ -11,6 +11,7 @@ use crate::rising::{Turn, end_rise};
 use cost_store::Problem;
 use label_field::WEIGHT_LIMIT;
 use labellings::Move;
+use move_energy::Neighbours;
 use std::alloc::{AllocError, Global};
 
 /// The most labels of which a move has a table.
@@ -92,6 +93,14 @@ impl RiseTable {
         ensures { result ≡ true → (self.now.stands ≡ true) × (self.now.weight ≡ weight) }
     {
         self.stands && self.weight == weight
+    }
+
+    /// Whether the rises of all these pairs stand here.
+    pub(crate) fn covers_all(&self, ends: &Neighbours) -> bool
+        ensures { result ≡ true → (ends.now.even ≡ true) × (self.now.stands ≡ true)
+            × (self.now.weight ≡ ends.now.weight) }
+    {
+        ends.even && self.covers(ends.weight)
     }
 
     /// The rises of an end of this label whose neighbour has the other label.

@@ -100,14 +100,7 @@ move_plain move.NoBound fault is = absurd is
 
 pub picture_plain : (e : VisionError) → (¬ IsWrite e) → IsPlain (picture_fault e)
 picture_plain vision.OutOfMemory other = (refl, (refl, refl))
-picture_plain vision.NotPgm other = (refl, (refl, refl))
-picture_plain (vision.BadHeader at) other = (refl, (refl, refl))
-picture_plain vision.ZeroSize other = (refl, (refl, refl))
-picture_plain vision.TooLarge other = (refl, (refl, refl))
-picture_plain vision.BadMaxval other = (refl, (refl, refl))
-picture_plain vision.Truncated other = (refl, (refl, refl))
-picture_plain (vision.SampleAboveMax index) other = (refl, (refl, refl))
-picture_plain (vision.BadSample at) other = (refl, (refl, refl))
+picture_plain (vision.Image reason) other = (refl, (refl, refl))
 picture_plain vision.SizesDiffer other = (refl, (refl, refl))
 picture_plain (vision.BadSeed index) other = (refl, (refl, refl))
 picture_plain vision.TooManyLevels other = (refl, (refl, refl))
@@ -120,14 +113,7 @@ picture_plain (vision.Write failed) other = absurd (other tt)
 -- no read failed where an image command was refused
 pub picture_unread : (e : VisionError) → is_failed_read (picture_fault e) ≡ false
 picture_unread vision.OutOfMemory = refl
-picture_unread vision.NotPgm = refl
-picture_unread (vision.BadHeader at) = refl
-picture_unread vision.ZeroSize = refl
-picture_unread vision.TooLarge = refl
-picture_unread vision.BadMaxval = refl
-picture_unread vision.Truncated = refl
-picture_unread (vision.SampleAboveMax index) = refl
-picture_unread (vision.BadSample at) = refl
+picture_unread (vision.Image reason) = refl
 picture_unread vision.SizesDiffer = refl
 picture_unread (vision.BadSeed index) = refl
 picture_unread vision.TooManyLevels = refl

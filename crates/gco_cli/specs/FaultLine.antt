@@ -3,12 +3,18 @@ use Rattle.std.specs.Prelude.{ℕ, Bool, true, false, List, [], ◌++◌, Option
 use Rattle.regular.specs.declared.fixed.Fixed.{Fixed}
 use Rattle.problem_files.specs.EnergyFieldName.{field_name}
 use Rattle.problem_files.specs.LabelFieldNames.{field_name as label_field_name}
+use Rattle.pgm_image.specs.declared.error.PgmError.{PgmError}
+use Rattle.pgm_image.specs.declared.error.PgmError.TheVariants as image
+use Rattle.problem_files.specs.declared.energy_fault.EnergyFault.{EnergyFault}
+use Rattle.problem_files.specs.declared.energy_fault.EnergyFault.TheVariants as energy
+use Rattle.problem_files.specs.declared.label_fault.LabelFault.{LabelFault}
+use Rattle.problem_files.specs.declared.label_fault.LabelFault.TheVariants as label
 use Rattle.problem_files.specs.declared.label_fault.LabelKey.{LabelKey}
 use Rattle.problem_files.specs.declared.label_fault.LabelKey.TheVariants.{LabelCosts}
 use Rattle.command_line.specs.declared.task.OptionName.{OptionName}
 use Rattle.command_line.specs.declared.task.OptionName.TheVariants as option
 use Rattle.gco_cli.specs.declared.fault.Fault.{Fault}
-use Rattle.gco_cli.specs.declared.fault.Fault.TheVariants.{OutOfMemory, NotPgm, BadHeader, ZeroSize, TooLarge, BadMaxval, Truncated, SampleAboveMax, BadSample, Write, NoSuchSite, NoSuchLabel, SamePair, TooManyPairs, WeightRange, CostRange, NoSuchVariable, SameVariable, ValueRange, ConstantRange, TooManyTerms, TermNotRegular, Workers, BadOptions, PairNotRegular, SizesDiffer, BadSeed, LabelCostInSwap, BadToml, BadEnergyField, BadEnergyElement, BadLabelField, BadLabelElement, BadOption, TooManyLevels, ReadFailed, InputTooLong}
+use Rattle.gco_cli.specs.declared.fault.Fault.TheVariants.{OutOfMemory, Image, Write, EnergyFile, LabelFile, TermNotRegular, Workers, BadOptions, PairNotRegular, SizesDiffer, BadSeed, LabelCostInSwap, BadOption, TooManyLevels, ReadFailed, InputTooLong}
 
 -- a yes-no value as a digit
 abbrev pub bit_text : Bool → List ℕ
@@ -43,29 +49,52 @@ option_words option.Smooth = codes "29 smooth"
 option_words option.Neighbours = codes "29 neighbours"
 option_words option.Moves = codes "29 moves"
 
+-- why no image stands where one is to begin
+abbrev pub image_words : PgmError → List ℕ
+image_words image.OutOfMemory = codes "0"
+image_words image.NotPgm = codes "1"
+image_words (image.BadHeader at) = codes "2 at " ++ decimal at
+image_words image.ZeroSize = codes "3"
+image_words image.TooLarge = codes "4"
+image_words image.BadMaxval = codes "5"
+image_words image.Truncated = codes "6"
+image_words (image.SampleAboveMax index) = codes "7 sample " ++ decimal index
+image_words (image.BadSample at) = codes "8 at " ++ decimal at
+
+-- why a file names no energy
+abbrev pub energy_file_words : EnergyFault → List ℕ
+energy_file_words energy.OutOfMemory = codes "0"
+energy_file_words (energy.NoSuchVariable term) = codes "16 term " ++ decimal term
+energy_file_words (energy.SameVariable term) = codes "17 term " ++ decimal term
+energy_file_words (energy.ValueRange term) = codes "18 term " ++ decimal term
+energy_file_words energy.ConstantRange = codes "18 constant"
+energy_file_words energy.TooManyTerms = codes "19"
+energy_file_words energy.BadToml = codes "28"
+energy_file_words (energy.BadField key) = codes "29 " ++ field_name key
+energy_file_words (energy.BadElement key place) =
+    codes "29 " ++ field_name key ++ codes " " ++ decimal place
+
+-- why a file names no problem of labels
+abbrev pub label_file_words : LabelFault → List ℕ
+label_file_words label.OutOfMemory = codes "0"
+label_file_words (label.NoSuchSite pair) = codes "10 pair " ++ decimal pair
+label_file_words (label.NoSuchLabel site) = codes "11 site " ++ decimal site
+label_file_words (label.SamePair pair) = codes "12 pair " ++ decimal pair
+label_file_words label.TooManyPairs = codes "13"
+label_file_words (label.WeightRange pair) = codes "14 pair " ++ decimal pair
+label_file_words (label.CostRange key place) = codes "15 " ++ cost_words key place
+label_file_words label.BadToml = codes "28"
+label_file_words (label.BadField key) = codes "29 " ++ label_field_name key
+label_file_words (label.BadElement key place) =
+    codes "29 " ++ label_field_name key ++ codes " " ++ decimal place
+
 -- what stands between `refused ` and the end of the line
 abbrev pub fault_words : Fault → List ℕ
 fault_words OutOfMemory = codes "0"
-fault_words NotPgm = codes "1"
-fault_words (BadHeader at) = codes "2 at " ++ decimal at
-fault_words ZeroSize = codes "3"
-fault_words TooLarge = codes "4"
-fault_words BadMaxval = codes "5"
-fault_words Truncated = codes "6"
-fault_words (SampleAboveMax index) = codes "7 sample " ++ decimal index
-fault_words (BadSample at) = codes "8 at " ++ decimal at
+fault_words (Image reason) = image_words reason
 fault_words (Write failed) = codes "9 after " ++ decimal failed.count
-fault_words (NoSuchSite pair) = codes "10 pair " ++ decimal pair
-fault_words (NoSuchLabel site) = codes "11 site " ++ decimal site
-fault_words (SamePair pair) = codes "12 pair " ++ decimal pair
-fault_words TooManyPairs = codes "13"
-fault_words (WeightRange pair) = codes "14 pair " ++ decimal pair
-fault_words (CostRange key place) = codes "15 " ++ cost_words key place
-fault_words (NoSuchVariable term) = codes "16 term " ++ decimal term
-fault_words (SameVariable term) = codes "17 term " ++ decimal term
-fault_words (ValueRange term) = codes "18 term " ++ decimal term
-fault_words ConstantRange = codes "18 constant"
-fault_words TooManyTerms = codes "19"
+fault_words (LabelFile reason) = label_file_words reason
+fault_words (EnergyFile reason) = energy_file_words reason
 fault_words (TermNotRegular failing) =
     codes "20 term " ++ decimal failing.term ++ fixed_words failing.fixed
 fault_words Workers = codes "22"
@@ -74,13 +103,6 @@ fault_words (PairNotRegular pair alpha beta) = move_words pair alpha beta
 fault_words SizesDiffer = codes "25"
 fault_words (BadSeed index) = codes "26 sample " ++ decimal index
 fault_words LabelCostInSwap = codes "27"
-fault_words BadToml = codes "28"
-fault_words (BadEnergyField key) = codes "29 " ++ field_name key
-fault_words (BadEnergyElement key place) =
-    codes "29 " ++ field_name key ++ codes " " ++ decimal place
-fault_words (BadLabelField key) = codes "29 " ++ label_field_name key
-fault_words (BadLabelElement key place) =
-    codes "29 " ++ label_field_name key ++ codes " " ++ decimal place
 fault_words (BadOption option) = option_words option
 fault_words TooManyLevels = codes "30"
 fault_words ReadFailed = codes "31"

@@ -1,5 +1,4 @@
--- What the libraries refuse, as the program tells it: each case by itself, and memory as memory,
--- whoever asked for it.
+-- What the libraries refuse, as the program tells it: memory as memory, whoever asked for it.
 use Rattle.std.specs.Prelude.{◌≡◌}
 use Rattle.byte_streams.specs.declared.input.ReadError.{ReadError}
 use Rattle.byte_streams.specs.declared.input.ReadError.TheVariants as read
@@ -14,7 +13,7 @@ use Rattle.moves.specs.declared.error.MoveError.TheVariants as move
 use Rattle.vision.specs.declared.error.VisionError.{VisionError}
 use Rattle.vision.specs.declared.error.VisionError.TheVariants as vision
 use Rattle.gco_cli.specs.declared.fault.Fault.{Fault}
-use Rattle.gco_cli.specs.declared.fault.Fault.TheVariants.{OutOfMemory, NotPgm, BadHeader, ZeroSize, TooLarge, BadMaxval, Truncated, SampleAboveMax, BadSample, Write, NoSuchSite, NoSuchLabel, SamePair, TooManyPairs, WeightRange, CostRange, NoSuchVariable, SameVariable, ValueRange, ConstantRange, TooManyTerms, Workers, BadOptions, PairNotRegular, SizesDiffer, BadSeed, LabelCostInSwap, BadToml, BadEnergyField, BadEnergyElement, BadLabelField, BadLabelElement, TooManyLevels, ReadFailed, InputTooLong}
+use Rattle.gco_cli.specs.declared.fault.Fault.TheVariants.{OutOfMemory, Image, Write, EnergyFile, LabelFile, Workers, BadOptions, PairNotRegular, SizesDiffer, BadSeed, LabelCostInSwap, TooManyLevels, ReadFailed, InputTooLong}
 
 -- why an input was not read
 abbrev pub read_fault : ReadError → Fault
@@ -25,27 +24,12 @@ read_fault read.InputTooLong = InputTooLong
 -- why a file names no energy
 abbrev pub energy_fault : EnergyFault → Fault
 energy_fault energy.OutOfMemory = OutOfMemory
-energy_fault energy.BadToml = BadToml
-energy_fault (energy.BadField key) = BadEnergyField key
-energy_fault (energy.BadElement key place) = BadEnergyElement key place
-energy_fault (energy.NoSuchVariable term) = NoSuchVariable term
-energy_fault (energy.SameVariable term) = SameVariable term
-energy_fault (energy.ValueRange term) = ValueRange term
-energy_fault energy.ConstantRange = ConstantRange
-energy_fault energy.TooManyTerms = TooManyTerms
+energy_fault reason = EnergyFile reason
 
 -- why a file names no problem of labels
 abbrev pub label_fault : LabelFault → Fault
 label_fault label.OutOfMemory = OutOfMemory
-label_fault label.BadToml = BadToml
-label_fault (label.BadField key) = BadLabelField key
-label_fault (label.BadElement key place) = BadLabelElement key place
-label_fault (label.CostRange key place) = CostRange key place
-label_fault (label.NoSuchSite pair) = NoSuchSite pair
-label_fault (label.SamePair pair) = SamePair pair
-label_fault label.TooManyPairs = TooManyPairs
-label_fault (label.WeightRange pair) = WeightRange pair
-label_fault (label.NoSuchLabel site) = NoSuchLabel site
+label_fault reason = LabelFile reason
 
 -- why a cut was refused
 abbrev pub cut_fault : SolveError → Fault
@@ -66,14 +50,7 @@ TellsMove move.NoBound fault = ⊥
 -- why an image command was refused
 abbrev pub picture_fault : VisionError → Fault
 picture_fault vision.OutOfMemory = OutOfMemory
-picture_fault vision.NotPgm = NotPgm
-picture_fault (vision.BadHeader at) = BadHeader at
-picture_fault vision.ZeroSize = ZeroSize
-picture_fault vision.TooLarge = TooLarge
-picture_fault vision.BadMaxval = BadMaxval
-picture_fault vision.Truncated = Truncated
-picture_fault (vision.SampleAboveMax index) = SampleAboveMax index
-picture_fault (vision.BadSample at) = BadSample at
+picture_fault (vision.Image reason) = Image reason
 picture_fault vision.SizesDiffer = SizesDiffer
 picture_fault (vision.BadSeed index) = BadSeed index
 picture_fault vision.TooManyLevels = TooManyLevels

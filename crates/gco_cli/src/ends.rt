@@ -3,7 +3,8 @@ ghost use Rattle.std.specs.Prelude.{◌≡◌, MatchResult};
 ghost use Rattle.gco_cli.specs.Refusals.{SaysRefusal, exit_status};
 ghost use Rattle.byte_streams.specs.Streams.{Took};
 
-use crate::fault_line::{Line, line_of};
+use crate::fault_line::line_of;
+use crate::line::Line;
 use crate::refusal::Refusal;
 use byte_streams::{Sink, put_text};
 

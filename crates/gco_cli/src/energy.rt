@@ -8,7 +8,7 @@ ghost use Rattle.gco_cli.specs.Inputs.{OfSomeInput};
 
 use crate::answers::answer;
 use crate::fault::Fault;
-use crate::fault_line::Line;
+use crate::line::Line;
 use crate::written::Answer;
 use byte_streams::{Source, read_input};
 use problem_files::read_energy;

@@ -1,20 +1,17 @@
 //! The line of a fault, made in a buffer of fixed size.
 ghost use Rattle.std.specs.Prelude.{◌≡◌, ◌≤◌, ◌+◌, ◌++◌, length, decimal, codes};
 ghost use Rattle.arrayvec.specs.ArrayString.{array_string_len};
-ghost use Rattle.gco_cli.specs.FaultLine.{beta_words, cost_words, fault_line, fault_words, fixed_words, move_words, option_words};
+ghost use Rattle.gco_cli.specs.FaultLine.{beta_words, cost_words, energy_file_words, fault_line};
+ghost use Rattle.gco_cli.specs.FaultLine.{fault_words, fixed_words, image_words, label_file_words};
+ghost use Rattle.gco_cli.specs.FaultLine.{move_words, option_words};
 
 use crate::fault::Fault;
+use crate::line::{Line, push_number};
 use arrayvec::ArrayString;
 use command_line::OptionName;
-use itoa::Buffer;
-use problem_files::LabelKey;
+use pgm_image::PgmError;
+use problem_files::{EnergyFault, LabelFault, LabelKey};
 use regular::Fixed;
-
-/// The most bytes of a line.
-pub const LINE_LIMIT: usize = 256;
-
-/// A line of standard error.
-pub type Line = ArrayString<LINE_LIMIT>;
 
 /// The line of a fault, its end included. It takes no memory.
 pub fn line_of(fault: Fault) -> Line
@@ -35,42 +32,79 @@ fn push_words(line: &mut Line, fault: Fault)
 {
     match fault {
         Fault::OutOfMemory => line.push_str("0"),
-        Fault::NotPgm => line.push_str("1"),
-        Fault::BadHeader(at) => push_numbered(line, "2 at ", at),
-        Fault::ZeroSize => line.push_str("3"),
-        Fault::TooLarge => line.push_str("4"),
-        Fault::BadMaxval => line.push_str("5"),
-        Fault::Truncated => line.push_str("6"),
-        Fault::SampleAboveMax(index) => push_numbered(line, "7 sample ", index),
-        Fault::BadSample(at) => push_numbered(line, "8 at ", at),
-        Fault::Write(failed) => push_numbered(line, "9 after ", failed.count),
-        Fault::NoSuchSite(pair) => push_numbered(line, "10 pair ", pair),
-        Fault::NoSuchLabel(site) => push_numbered(line, "11 site ", site),
-        Fault::SamePair(pair) => push_numbered(line, "12 pair ", pair),
-        Fault::TooManyPairs => line.push_str("13"),
-        Fault::WeightRange(pair) => push_numbered(line, "14 pair ", pair),
-        Fault::CostRange(key, place) => push_cost(line, key, place),
-        Fault::NoSuchVariable(term) => push_numbered(line, "16 term ", term),
-        Fault::SameVariable(term) => push_numbered(line, "17 term ", term),
-        Fault::ValueRange(term) => push_numbered(line, "18 term ", term),
-        Fault::ConstantRange => line.push_str("18 constant"),
-        Fault::TooManyTerms => line.push_str("19"),
+        Fault::Image(reason) => push_image(line, reason),
+        Fault::Write(failed) => push_number(line, "9 after ", failed.count as u64),
+        Fault::LabelFile(reason) => push_label_file(line, reason),
+        Fault::EnergyFile(reason) => push_energy_file(line, reason),
         Fault::TermNotRegular(failing) => push_term(line, failing.term, failing.fixed),
         Fault::Workers => line.push_str("22"),
         Fault::BadOptions => line.push_str("23"),
         Fault::PairNotRegular { pair, alpha, beta } => push_move(line, pair, alpha, beta),
         Fault::SizesDiffer => line.push_str("25"),
-        Fault::BadSeed(index) => push_numbered(line, "26 sample ", index),
+        Fault::BadSeed(index) => push_number(line, "26 sample ", index as u64),
         Fault::LabelCostInSwap => line.push_str("27"),
-        Fault::BadToml => line.push_str("28"),
-        Fault::BadEnergyField(key) => push_field(line, "29 ", key.name()),
-        Fault::BadEnergyElement(key, place) => push_element(line, "29 ", key.name(), place),
-        Fault::BadLabelField(key) => push_field(line, "29 ", key.name()),
-        Fault::BadLabelElement(key, place) => push_element(line, "29 ", key.name(), place),
         Fault::BadOption(option) => line.push_str(option_words(option)),
         Fault::TooManyLevels => line.push_str("30"),
         Fault::ReadFailed => line.push_str("31"),
         Fault::InputTooLong => line.push_str("32"),
+    }
+}
+
+// Why no image stands where one is to begin.
+fn push_image(line: &mut Line, reason: PgmError)
+    requires { array_string_len line.old ≤ 60 }
+    ensures bytes { line.new.bytes ≡ line.old.bytes ++ image_words reason }
+    ensures len { array_string_len line.new ≤ array_string_len line.old + 40 }
+{
+    match reason {
+        PgmError::OutOfMemory => line.push_str("0"),
+        PgmError::NotPgm => line.push_str("1"),
+        PgmError::BadHeader(at) => push_number(line, "2 at ", at as u64),
+        PgmError::ZeroSize => line.push_str("3"),
+        PgmError::TooLarge => line.push_str("4"),
+        PgmError::BadMaxval => line.push_str("5"),
+        PgmError::Truncated => line.push_str("6"),
+        PgmError::SampleAboveMax(index) => push_number(line, "7 sample ", index as u64),
+        PgmError::BadSample(at) => push_number(line, "8 at ", at as u64),
+    }
+}
+
+// Why a file names no energy.
+fn push_energy_file(line: &mut Line, reason: EnergyFault)
+    requires { array_string_len line.old ≤ 60 }
+    ensures bytes { line.new.bytes ≡ line.old.bytes ++ energy_file_words reason }
+    ensures len { array_string_len line.new ≤ array_string_len line.old + 90 }
+{
+    match reason {
+        EnergyFault::OutOfMemory => line.push_str("0"),
+        EnergyFault::NoSuchVariable(term) => push_number(line, "16 term ", term as u64),
+        EnergyFault::SameVariable(term) => push_number(line, "17 term ", term as u64),
+        EnergyFault::ValueRange(term) => push_number(line, "18 term ", term as u64),
+        EnergyFault::ConstantRange => line.push_str("18 constant"),
+        EnergyFault::TooManyTerms => line.push_str("19"),
+        EnergyFault::BadToml => line.push_str("28"),
+        EnergyFault::BadField(key) => push_field(line, "29 ", key.name()),
+        EnergyFault::BadElement(key, place) => push_element(line, "29 ", key.name(), place),
+    }
+}
+
+// Why a file names no problem of labels.
+fn push_label_file(line: &mut Line, reason: LabelFault)
+    requires { array_string_len line.old ≤ 60 }
+    ensures bytes { line.new.bytes ≡ line.old.bytes ++ label_file_words reason }
+    ensures len { array_string_len line.new ≤ array_string_len line.old + 90 }
+{
+    match reason {
+        LabelFault::OutOfMemory => line.push_str("0"),
+        LabelFault::NoSuchSite(pair) => push_number(line, "10 pair ", pair as u64),
+        LabelFault::NoSuchLabel(site) => push_number(line, "11 site ", site as u64),
+        LabelFault::SamePair(pair) => push_number(line, "12 pair ", pair as u64),
+        LabelFault::TooManyPairs => line.push_str("13"),
+        LabelFault::WeightRange(pair) => push_number(line, "14 pair ", pair as u64),
+        LabelFault::CostRange(key, place) => push_cost(line, key, place),
+        LabelFault::BadToml => line.push_str("28"),
+        LabelFault::BadField(key) => push_field(line, "29 ", key.name()),
+        LabelFault::BadElement(key, place) => push_element(line, "29 ", key.name(), place),
     }
 }
 
@@ -82,7 +116,7 @@ fn push_cost(line: &mut Line, key: LabelKey, place: usize)
     ensures len { array_string_len line.new ≤ array_string_len line.old + 90 }
 {
     match key {
-        LabelKey::LabelCosts => push_numbered(line, "15 label ", place),
+        LabelKey::LabelCosts => push_number(line, "15 label ", place as u64),
         key => push_element(line, "15 ", key.name(), place),
     }
 }
@@ -97,7 +131,7 @@ fn push_element(line: &mut Line, number: &str, name: &str, place: usize)
     ensures len { array_string_len line.new ≤ array_string_len line.old + 90 }
 {
     push_field(line, number, name);
-    push_numbered(line, " ", place);
+    push_number(line, " ", place as u64);
 }
 
 // A field after its number.
@@ -120,9 +154,9 @@ fn push_term(line: &mut Line, term: usize, fixed: Option<Fixed>)
         ≡ line.old.bytes ++ codes "20 term " ++ decimal term ++ fixed_words fixed }
     ensures len { array_string_len line.new ≤ array_string_len line.old + 130 }
 {
-    push_numbered(line, "20 term ", term);
+    push_number(line, "20 term ", term as u64);
     if let Some(fixed) = fixed {
-        push_numbered(line, " fixed ", fixed.position);
+        push_number(line, " fixed ", fixed.position as u64);
         line.push_str(if fixed.value { " at 1" } else { " at 0" });
     }
 }
@@ -133,8 +167,8 @@ fn push_move(line: &mut Line, pair: usize, alpha: u32, beta: Option<u32>)
     ensures bytes { line.new.bytes ≡ line.old.bytes ++ move_words pair alpha beta }
     ensures len { array_string_len line.new ≤ array_string_len line.old + 180 }
 {
-    push_numbered(line, "24 pair ", pair);
-    push_numbered(line, " alpha ", alpha as usize);
+    push_number(line, "24 pair ", pair as u64);
+    push_number(line, " alpha ", u64::from(alpha));
     push_beta(line, beta);
 }
 
@@ -145,20 +179,8 @@ fn push_beta(line: &mut Line, beta: Option<u32>)
     ensures len { array_string_len line.new ≤ array_string_len line.old + 60 }
 {
     if let Some(beta) = beta {
-        push_numbered(line, " beta ", beta as usize);
+        push_number(line, " beta ", u64::from(beta));
     }
-}
-
-// Words of at most 20 bytes, and a number after them.
-fn push_numbered(line: &mut Line, words: &str, number: usize)
-    requires room { array_string_len line.old + 60 ≤ LINE_LIMIT }
-    requires short { length words.now ≤ 20 }
-    ensures bytes { line.new.bytes ≡ line.old.bytes ++ words.now ++ decimal number }
-    ensures len { array_string_len line.new ≤ array_string_len line.old + 60 }
-{
-    let mut digits = Buffer::new();
-    line.push_str(words);
-    line.push_str(digits.format(number));
 }
 
 // The words of an option whose value is no name that it takes.

@@ -1,5 +1,5 @@
 //! `gco label`.
-ghost use Rattle.std.specs.Prelude.{◌≡◌, ◌≤◌, ◌++◌, decimal, OnOk, IfOk, IfErr, IfSome};
+ghost use Rattle.std.specs.Prelude.{◌≡◌, ◌≤◌, ◌++◌, codes, decimal, OnOk, IfOk, IfErr, IfSome};
 ghost use Rattle.command_line.specs.declared.task.Task.TheVariants.{Label as LabelTask};
 ghost use Rattle.problem_files.specs.Limits.{IsInLimits};
 ghost use Rattle.problem_files.specs.Names.{problem_view};
@@ -15,8 +15,8 @@ ghost use Rattle.gco_cli.specs.Run.{TellsRead};
 ghost use Rattle.gco_cli.specs.Inputs.{OfSomeInput};
 
 use crate::fault::Fault;
-use crate::fault_line::Line;
 use crate::library_faults::move_fault;
+use crate::line::Line;
 use crate::lines::{Parts, bound_line, energy_words};
 use crate::written::Answer;
 use byte_streams::{Source, read_input};
@@ -151,16 +151,16 @@ fn push_labels(text: &mut Vec<u8>, labels: &[u8]) -> Result<(), AllocError>
     ensures { OnOk result (text.new.items ≡ text.old.items ++ numbers_text labels.now) }
 {
     for label in labels {
-        push_number(text, b" ", u64::from(*label))?;
+        push_label(text, *label)?;
     }
     Ok(())
 }
 
-// Words, and a number after them.
-fn push_number(text: &mut Vec<u8>, words: &[u8], number: u64) -> Result<(), AllocError>
-    ensures { OnOk result (text.new.items ≡ text.old.items ++ words.now ++ decimal number) }
+// A blank, and a label after it.
+fn push_label(text: &mut Vec<u8>, label: u8) -> Result<(), AllocError>
+    ensures { OnOk result (text.new.items ≡ text.old.items ++ codes " " ++ decimal label) }
 {
     let mut digits = Buffer::new();
-    text.extend_from_slice(words)?;
-    text.extend_from_slice(digits.format(number).as_bytes())
+    text.push(b' ')?;
+    text.extend_from_slice(digits.format(label).as_bytes())
 }

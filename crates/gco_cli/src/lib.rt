@@ -9,6 +9,7 @@ mod fault;
 mod fault_line;
 mod label;
 mod library_faults;
+mod line;
 mod lines;
 mod pictures;
 mod program;
@@ -19,7 +20,8 @@ mod unread;
 mod written;
 
 pub use fault::Fault;
-pub use fault_line::{LINE_LIMIT, Line, line_of};
+pub use fault_line::line_of;
+pub use line::{LINE_LIMIT, Line};
 pub use program::run_program;
 pub use runs::{run, run_gated, run_words};
 pub use unread::refuse_unread;

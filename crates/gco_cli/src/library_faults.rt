@@ -1,4 +1,4 @@
-//! What the libraries refuse, as faults of the program: each case by itself, and memory as memory.
+//! What the libraries refuse, as faults of the program: memory as memory, whoever asked for it.
 ghost use Rattle.std.specs.Prelude.{◌≡◌};
 ghost use Rattle.moves.specs.Problems.{IsRunRefusal};
 ghost use Rattle.vision.specs.Faults.{any_cut};
@@ -41,14 +41,7 @@ impl From<EnergyFault> for Fault {
     fn from(error: EnergyFault) -> Fault {
         match error {
             EnergyFault::OutOfMemory => Fault::OutOfMemory,
-            EnergyFault::BadToml => Fault::BadToml,
-            EnergyFault::BadField(key) => Fault::BadEnergyField(key),
-            EnergyFault::BadElement(key, place) => Fault::BadEnergyElement(key, place),
-            EnergyFault::NoSuchVariable(term) => Fault::NoSuchVariable(term),
-            EnergyFault::SameVariable(term) => Fault::SameVariable(term),
-            EnergyFault::ValueRange(term) => Fault::ValueRange(term),
-            EnergyFault::ConstantRange => Fault::ConstantRange,
-            EnergyFault::TooManyTerms => Fault::TooManyTerms,
+            reason => Fault::EnergyFile(reason),
         }
     }
 }
@@ -67,15 +60,7 @@ impl From<LabelFault> for Fault {
     fn from(error: LabelFault) -> Fault {
         match error {
             LabelFault::OutOfMemory => Fault::OutOfMemory,
-            LabelFault::BadToml => Fault::BadToml,
-            LabelFault::BadField(key) => Fault::BadLabelField(key),
-            LabelFault::BadElement(key, place) => Fault::BadLabelElement(key, place),
-            LabelFault::CostRange(key, place) => Fault::CostRange(key, place),
-            LabelFault::NoSuchSite(pair) => Fault::NoSuchSite(pair),
-            LabelFault::SamePair(pair) => Fault::SamePair(pair),
-            LabelFault::TooManyPairs => Fault::TooManyPairs,
-            LabelFault::WeightRange(pair) => Fault::WeightRange(pair),
-            LabelFault::NoSuchLabel(site) => Fault::NoSuchLabel(site),
+            reason => Fault::LabelFile(reason),
         }
     }
 }
@@ -98,14 +83,7 @@ impl From<VisionError> for Fault {
     fn from(error: VisionError) -> Fault {
         match error {
             VisionError::OutOfMemory => Fault::OutOfMemory,
-            VisionError::NotPgm => Fault::NotPgm,
-            VisionError::BadHeader(at) => Fault::BadHeader(at),
-            VisionError::ZeroSize => Fault::ZeroSize,
-            VisionError::TooLarge => Fault::TooLarge,
-            VisionError::BadMaxval => Fault::BadMaxval,
-            VisionError::Truncated => Fault::Truncated,
-            VisionError::SampleAboveMax(index) => Fault::SampleAboveMax(index),
-            VisionError::BadSample(at) => Fault::BadSample(at),
+            VisionError::Image(reason) => Fault::Image(reason),
             VisionError::SizesDiffer => Fault::SizesDiffer,
             VisionError::BadSeed(index) => Fault::BadSeed(index),
             VisionError::TooManyLevels => Fault::TooManyLevels,

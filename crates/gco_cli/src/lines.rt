@@ -1,13 +1,12 @@
 //! The lines that tell an energy, and how near it is to the least. They take no memory.
-ghost use Rattle.std.specs.Prelude.{◌≡◌, ◌≤◌, ◌+◌, ◌++◌, IfSome, decimal, length};
+ghost use Rattle.std.specs.Prelude.{◌≡◌, ◌≤◌, ◌+◌, ◌++◌, IfSome};
 ghost use Rattle.arrayvec.specs.ArrayString.{array_string_len};
 ghost use Rattle.run_options.specs.Limits.{greatest_smooth_cost};
 ghost use Rattle.gco_cli.specs.Lines.{bound_line, energy_words, label_words, near_words};
 ghost use Rattle.gco_cli.specs.Pictures.{report_parts, picture_lines};
 
-use crate::fault_line::{LINE_LIMIT, Line};
+use crate::line::{Line, push_number};
 use arrayvec::ArrayString;
-use itoa::Buffer;
 use moves::Bound;
 use vision::Report;
 
@@ -94,16 +93,4 @@ fn push_near(line: &mut Line, bound: Option<Bound>)
             push_number(line, " ", 2 * bound.vmax);
         }
     }
-}
-
-// Words of at most 20 bytes, and a number after them.
-fn push_number(line: &mut Line, words: &str, number: u64)
-    requires room { array_string_len line.old + 40 ≤ LINE_LIMIT }
-    requires short { length words.now ≤ 20 }
-    ensures bytes { line.new.bytes ≡ line.old.bytes ++ words.now ++ decimal number }
-    ensures len { array_string_len line.new ≤ array_string_len line.old + 40 }
-{
-    let mut digits = Buffer::new();
-    line.push_str(words);
-    line.push_str(digits.format(number));
 }

@@ -9,7 +9,7 @@ ghost use Rattle.gco_cli.specs.Pictures.{HasPictureError, IsPictureJob, asks_bou
 ghost use Rattle.gco_cli.specs.Run.{Refuses, TellsRead, Writes};
 
 use crate::fault::Fault;
-use crate::fault_line::Line;
+use crate::line::Line;
 use crate::lines::report_lines;
 use byte_streams::{Sink, Source, read_input};
 use command_line::PictureOptions;

@@ -9,7 +9,7 @@ ghost use Rattle.gco_cli.specs.Run.{IsDue, IsRun, IsUnread, Refuses, TellsRead, 
 
 use crate::ends::say_end;
 use crate::fault::Fault;
-use crate::fault_line::Line;
+use crate::line::Line;
 use crate::refusal::Refusal;
 use crate::tasks::{end_without_task, run_task};
 use crate::unread::refuse_unread;

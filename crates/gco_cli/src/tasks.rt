@@ -7,8 +7,8 @@ ghost use Rattle.gco_cli.specs.Run.{Refuses, TellsRead, Writes};
 
 use crate::energy::answer_energy;
 use crate::fault::Fault;
-use crate::fault_line::Line;
 use crate::label::answer_label;
+use crate::line::Line;
 use crate::pictures::picture;
 use crate::refusal::Refusal;
 use crate::written::write_text;

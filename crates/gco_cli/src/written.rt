@@ -4,7 +4,7 @@ ghost use Rattle.gco_cli.specs.Run.{IsCutIn};
 ghost use Rattle.byte_streams.specs.Streams.{Takes};
 
 use crate::fault::Fault;
-use crate::fault_line::Line;
+use crate::line::Line;
 use byte_streams::{Sink, put_text};
 
 /// What a command answers. It is made whole before any of it is written.

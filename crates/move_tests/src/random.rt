@@ -54,12 +54,12 @@ impl How for CutAlone {
     }
 }
 
-/// As `Alone`, but a strip has so many open sites, so many strips are laid out at once, and what is
-/// left goes to its solver.
+/// As `Alone`, but a move is closed in by so many parts, a strip has so many open sites, and what
+/// is left goes to its solver.
 #[derive(Clone, Copy)]
 pub struct InStrips {
+    pub parts: usize,
     pub sites: usize,
-    pub at_once: usize,
 }
 
 impl How for InStrips {
@@ -77,8 +77,8 @@ impl How for InStrips {
         self.sites
     }
 
-    fn sides_at_once(&self) -> usize {
-        self.at_once.max(1)
+    fn parts(&self, _sites: usize) -> usize {
+        self.parts.max(1)
     }
 
     fn fork(&self) -> InOrder {
@@ -86,11 +86,11 @@ impl How for InStrips {
     }
 }
 
-/// So many open sites the strips of a row have that is made once more for each, and for each so
-/// many of them are cut side by side.
+/// How many open sites a strip has where a row is made strip by strip: once for each number, and
+/// for each by so many parts.
 pub const STRIPS: &[usize] = &[1, 2, 3];
 
-pub const AT_ONCE: &[usize] = &[1, 2, 3];
+pub const PARTS: &[usize] = &[1, 2, 3];
 
 /// A number of a row, at most so great.
 pub fn number(row: &[u8; BYTES], place: usize, most: u32) -> u32
@@ -318,7 +318,7 @@ pub fn is_right<H: How>(
 }
 
 /// Whether a row is right that is made strip by strip, for each size of the strips, and for each
-/// number of strips at once.
+/// number of parts.
 fn is_right_in_strips(
     rt: &impl Abort,
     alloc: Global,
@@ -327,10 +327,10 @@ fn is_right_in_strips(
 ) -> bool {
     let mut all = true;
     for sites in STRIPS {
-        for at_once in AT_ONCE {
+        for parts in PARTS {
             let how = InStrips {
+                parts: *parts,
                 sites: *sites,
-                at_once: *at_once,
             };
             all = is_right(rt, alloc, row, chain, &how) && all;
         }

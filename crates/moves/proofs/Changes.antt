@@ -24,9 +24,8 @@ use Rattle.pseudo_bool.specs.Energies.{assignment}
 use Rattle.move_energy.specs.declared.choice.Choice.{Choice}
 use Rattle.move_energy.specs.declared.choice.Choice.TheVariants.{Open, Zero as DecidedZero, One as DecidedOne}
 use Rattle.move_energy.specs.Choices.{bit_of, choice_at, choice_of, is_open, open_rank, value_of, AreSettled}
-use Rattle.deciding.specs.declared.listing.Lists.{Lists}
 use Rattle.deciding.specs.declared.sites.Deciding.{Deciding}
-use Rattle.deciding.specs.Listed.{AreListed, changes}
+use Rattle.deciding.specs.Listed.{changes}
 use Rattle.moves.specs.declared.workspace.Workspace.{Workspace}
 use Rattle.moves.specs.Building.{site_values, moves_site, moved_met, HasChanges, AreChangesListed, HasListsOfMove, IsRestListed}
 

@@ -1,8 +1,13 @@
 -- The energy of a move, and what its least assignment says of the sites.
-use Rattle.std.specs.Prelude.{◌≡◌, ◌<◌, ◌≤◌, ◌==◌, ℕ, Bool, true, false, not, List, length, vec_len, IsTrue, Result, Ok, Err, ℤ, pos}
+use Rattle.std.specs.Prelude.{◌≡◌, ◌≢◌, ◌<◌, ◌≤◌, ◌==◌, ℕ, Bool, true, false, not}
+use Rattle.std.specs.Prelude.{List, length, vec_len, IsTrue, IsFalse, Result, Ok, Err, ℤ, pos, ◌-ℤ◌}
+use Rattle.std.specs.Prelude.{slice_index}
+use Rattle.label_field.specs.LabelFields.{LabelField}
+use Rattle.cost_store.specs.declared.problem.Problem.{Problem}
+use Rattle.cost_store.specs.Posed.{Closure, IsPosed, IsAsked, WhereMeant}
 use Rattle.labellings.specs.declared.change.Move.{Move}
-use Rattle.labellings.specs.Energies.{Instance, labelling, energy}
-use Rattle.labellings.specs.Moves.{IsAllowed, labelling_made}
+use Rattle.labellings.specs.Energies.{Instance, labelling, energy, plain_energy}
+use Rattle.labellings.specs.Moves.{IsAllowed, label_after, labelling_made}
 use Rattle.pseudo_bool.specs.Energies.{assignment}
 use Rattle.compile_cut.specs.Quadratics.{quadratic_value}
 use Rattle.compile_cut.specs.Weights.{weights_size}
@@ -74,6 +79,41 @@ site_values choices p = bit_of (choice_at choices p) false
 abbrev pub moves_site : Move → (ℕ → ℕ) → List Choice → ℕ → Bool
 moves_site move f choices p = not (labelling_made move f (site_values choices) p == f p)
 
+-- do the values change the label of a site of the move from these labels?
+abbrev pub changed_here : Move → List ℕ → List Choice → ℕ → Bool
+changed_here move f choices = moves_site move (labelling f) choices
+
+-- by how much more the labels that the values make come to, by this measure
+abbrev pub rise_by : ((ℕ → ℕ) → ℕ) → Move → List ℕ → List Choice → ℤ
+rise_by measure move f choices =
+    pos (measure (labelling_made move (labelling f) (site_values choices)))
+    -ℤ pos (measure (labelling f))
+
+-- they have a lower energy, label costs left out
+abbrev pub LowersEnergy : Instance → Move → List ℕ → List Choice → Type 0
+LowersEnergy m move f choices = plain_energy m
+    (labelling_made move (labelling f) (site_values choices)) < plain_energy m (labelling f)
+
+-- each site has the label that its value makes
+abbrev pub GivesMade : Move → List Choice → List ℕ → List ℕ → Type 0
+GivesMade move choices f g = (p : ℕ) → p < length f
+    → slice_index g p ≡ label_after move (slice_index f p) (site_values choices p)
+
+-- the answer tells whether a label changed
+abbrev pub TellsChange : Bool → List ℕ → List ℕ → Type 0
+TellsChange changed f g = (IsTrue changed → g ≢ f) × (IsFalse changed → g ≡ f)
+
+-- as many sites and labels as before
+abbrev pub KeepsSizes : LabelField → LabelField → Type 0
+KeepsSizes old new = (new.labels ≡ old.labels) × (length new.at ≡ length old.at)
+
+-- the move is asked of a posed problem, and there is a choice for each site
+pub record IsValuedMove {F V : Type 0} (f : Closure F) (v : Closure V) (problem : Problem F V)
+    (at : List ℕ) (move : Move) (choices : List Choice) : Type 0 where
+  pub posed : IsPosed f v problem
+  pub asked : IsAsked problem at move
+  pub count : length choices ≡ length at
+
 -- the sum of a value over the pairs that are counted at a site, where its label changes
 abbrev pub moved_met : Neighbours → (ℕ → Bool) → (Pair → ℕ) → ℕ → ℕ
 moved_met ends moved value site = count_if (moved site) (met_at ends moved value site)
@@ -122,3 +162,13 @@ MakesPlain m move f made = (bits : List Bool)
 abbrev pub IsBuiltPlain : Instance → Move → List ℕ → MoveEnergy → Result Unit BuildError → Type 0
 IsBuiltPlain m move f made (Ok done) = IsAllowed m move (labelling f) × MakesPlain m move f made
 IsBuiltPlain m move f made (Err e) = IsPrepareRefusal m move (labelling f) e
+
+-- the move from these labels is allowed
+abbrev pub IsAllowedFrom : {F V : Type 0} → Closure F → Closure V → Problem F V → List ℕ → Move
+    → Type 0
+IsAllowedFrom {F} {V} f v problem at move =
+    WhereMeant f v problem (λ m. IsAllowed m move (labelling at))
+
+-- what was grouped and decided stays as it is
+abbrev pub KeepsDecided : Workspace → Workspace → Type 0
+KeepsDecided old new = (new.grouped ≡ old.grouped) × (new.deciding ≡ old.deciding)

@@ -1,7 +1,10 @@
 -- The stages of an expansion that is made once more, and what it answers.
 use Rattle.std.specs.Prelude.{◌≡◌, ℕ, ◌<◌, Bool, true, List, length, Option, Some, None, Result, Ok, Err}
 use Rattle.std.specs.List.{All, Contains}
+use Rattle.label_field.specs.LabelFields.{LabelField}
 use Rattle.label_field.specs.PairLists.{PairList}
+use Rattle.cost_store.specs.declared.problem.Problem.{Problem}
+use Rattle.cost_store.specs.Posed.{Closure, IsPosed, FitsProblem, WhereMeant}
 use Rattle.labellings.specs.declared.change.Move.{Move}
 use Rattle.labellings.specs.declared.change.Move.TheVariants.{Expand}
 use Rattle.labellings.specs.Energies.{Instance, labelling}
@@ -12,12 +15,13 @@ use Rattle.move_energy.specs.Choices.{choice_at, value_of, AreOpenSites}
 use Rattle.deciding.specs.Decisions.{IsSmallestLeast}
 use Rattle.deciding.specs.MoveValues.{move_value}
 use Rattle.stages.specs.declared.changes.Changes.{Changes}
-use Rattle.stages.specs.Changes.{changed_after}
+use Rattle.stages.specs.Changes.{AreStamped, changed_after}
 use Rattle.closing_in.specs.Fixing.{with_choices, fixed_value, AreLeastZeros}
 use Rattle.stages.specs.Fresh.{WasExpanded, AreFresh}
 use Rattle.stages.specs.Looking.{is_marked}
 use Rattle.moves.specs.declared.error.MoveError.{MoveError}
 use Rattle.moves.specs.declared.workspace.Workspace.{Workspace}
+use Rattle.moves.specs.Building.{IsGroupedFor}
 use Rattle.moves.specs.Problems.{IsMoved}
 
 -- the bits of the open sites and what is fixed are the least values of a stage: of all sites, some
@@ -75,3 +79,18 @@ abbrev pub IsLater : Instance → ℕ → List ℕ → List ℕ → Result (Opti
 IsLater m a f g (Ok None) = g ≡ f
 IsLater m a f g (Ok (Some changed)) = IsMoved m (Expand a) f g (Ok changed)
 IsLater m a f g (Err e) = IsMoved m (Expand a) f g (Err e)
+
+-- what is remembered of the moves of a run is true of its labels
+abbrev pub AreStampsOf : {F V : Type 0} → Closure F → Closure V → Problem F V → LabelField → Changes
+    → Type 0
+AreStampsOf {F} {V} f v problem field changes =
+    WhereMeant f v problem (λ m. AreStamped m (labelling field.at) changes)
+
+-- a run is under way: its labels are of a posed problem, the pairs are by their sites once they
+-- were grouped, and what is remembered is true of the labels
+pub record IsUnderWay {F V : Type 0} (f : Closure F) (v : Closure V) (problem : Problem F V)
+    (field : LabelField) (space : Workspace) (changes : Changes) : Type 0 where
+  pub posed : IsPosed f v problem
+  pub fits : FitsProblem problem field
+  pub by_site : IsGroupedFor problem.pairs space
+  pub stamped : AreStampsOf f v problem field changes

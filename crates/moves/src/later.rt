@@ -13,6 +13,8 @@ ghost use Rattle.moves.specs.Building.{IsGroupedFor};
 ghost use Rattle.moves.specs.Problems.{IsMade, IsCutRefusal, IsMoveRefusal};
 ghost use Rattle.moves.specs.Stages.{IsStageReady, AreStageZeros, AreStageFresh, IsTakenLeast};
 ghost use Rattle.moves.specs.Stages.{HasTaken, IsLater};
+ghost use Rattle.moves.specs.Stages.{IsUnderWay};
+ghost use Rattle.moves.specs.Building.{TellsChange};
 
 use crate::stage::{Standing, make_stage};
 use crate::taking::relabel_site;
@@ -142,7 +144,7 @@ fn look<F: Fn(u32, u32) -> i64 + Sync, V: Fn(u32, u32) -> i64 + Sync, H: How>(
         if total > at.len() / OPENED_SHARE {
             return Ok(false);
         }
-        match make_stage(alloc, problem, space, at, alpha, how)? {
+        match make_stage(problem, space, at, alpha, how)? {
             Standing::Closed => return Ok(true),
             Standing::Open => {}
         }
@@ -158,8 +160,7 @@ fn take(labelling: &mut Labelling, alpha: u32, sites: &[u32]) -> bool
     ensures each { (took : ℕ → Bool) → ((p : ℕ) → p < length labelling.old.at →
         (took p ≡ true) ↔ Contains sites.now p)
         → HasTaken alpha took labelling.old.at labelling.new.at }
-    ensures changed { (IsTrue result → labelling.new.at ≢ labelling.old.at)
-        × (IsFalse result → labelling.new.at ≡ labelling.old.at) }
+    ensures changed { TellsChange result labelling.old.at labelling.new.at }
 {
     let mut changed = false;
     for index in 0..sites.len() {
@@ -184,11 +185,7 @@ pub(crate) fn make_later<F: Fn(u32, u32) -> i64 + Sync, V: Fn(u32, u32) -> i64 +
     how: &H,
 ) -> Result<Option<bool>, MoveError>
     requires ready { H.ready how.now }
-    requires fits { FitsProblem problem.now labelling.old }
-    requires posed { IsPosed F.Fn V.Fn problem.now }
-    requires by_site { IsGroupedFor problem.now.pairs space.old }
-    requires stamped { WhereMeant F.Fn V.Fn problem.now
-        (λ m. AreStamped m (labelling_of labelling.old.at) changes.now) }
+    requires under_way { IsUnderWay F.Fn V.Fn problem.now labelling.old space.old changes.now }
     ensures by_site { IsGroupedFor problem.now.pairs space.new }
     ensures sizes { AreOfOneSize labelling.old labelling.new }
     ensures moved { WhereMeant F.Fn V.Fn problem.now

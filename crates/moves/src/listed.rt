@@ -1,15 +1,15 @@
 //! Whether a move whose changes are listed lowers the energy: the listed sites and their pairs
 //! alone are asked.
-ghost use Rattle.std.specs.Prelude.{◌≡◌, ◌<◌, ◌≤◌, ◌*◌, ◌↔◌, ℕ, pos, ◌-ℤ◌, All, length, unsigned_abs, IsTrue};
+ghost use Rattle.std.specs.Prelude.{◌≡◌, ◌<◌, ◌≤◌, ◌*◌, ◌↔◌, length, unsigned_abs, IsTrue};
 ghost use Rattle.sums.specs.Sums.{count_if};
-ghost use Rattle.label_field.specs.Limits.{site_limit};
 ghost use Rattle.label_field.specs.PairLists.{IsPair};
 ghost use Rattle.move_energy.specs.BySite.{AreBySite, is_counted as is_counted_at, met_at};
-ghost use Rattle.labellings.specs.Energies.{labelling, plain_energy, data_energy, smooth_energy, pair_cost as cost_of_pair};
-ghost use Rattle.labellings.specs.Moves.{labelling_made};
+ghost use Rattle.labellings.specs.Energies.{labelling, data_energy, smooth_energy};
+ghost use Rattle.labellings.specs.Energies.{pair_cost as cost_of_pair};
 ghost use Rattle.cost_store.specs.Limits.{pair_cost_limit, data_energy_limit, smooth_energy_limit};
 ghost use Rattle.cost_store.specs.Posed.{IsPosed, WhereMeant, IsAsked};
-ghost use Rattle.moves.specs.Building.{site_values, moves_site, moved_met, HasChanges, AreChangesListed};
+ghost use Rattle.moves.specs.Building.{moves_site, moved_met, HasChanges, AreChangesListed};
+ghost use Rattle.moves.specs.Building.{IsValuedMove, LowersEnergy, changed_here, rise_by};
 
 use crate::lowering::{is_negative, lowers_all, made_label, pair_rise, site_rise};
 use crate::workspace::Workspace;
@@ -46,13 +46,10 @@ fn data_rise_listed<F: Fn(u32, u32) -> i64 + Sync, V: Fn(u32, u32) -> i64 + Sync
     choices: &[Choice],
     sites: &[u32],
 ) -> i64
-    requires posed { IsPosed F.Fn V.Fn problem.now }
-    requires asked { IsAsked problem.now at.now change }
-    requires choices { length choices.now ≡ length at.now }
+    requires valued { IsValuedMove F.Fn V.Fn problem.now at.now change choices.now }
     requires changes { HasChanges change at.now choices.now sites.now }
     ensures rise { WhereMeant F.Fn V.Fn problem.now
-        (λ m. result ≡ pos (data_energy m (labelling_made change (labelling
-        at.now) (site_values choices.now))) -ℤ pos (data_energy m (labelling at.now))) }
+        (λ m. result ≡ rise_by (data_energy m) change at.now choices.now) }
     ensures range { unsigned_abs result ≤ data_energy_limit }
 {
     let mut total = 0i64;
@@ -72,19 +69,14 @@ fn counted_rise<F: Fn(u32, u32) -> i64 + Sync, V: Fn(u32, u32) -> i64 + Sync>(
     site: u32,
     pair: Pair,
 ) -> i64
-    requires posed { IsPosed F.Fn V.Fn problem.now }
+    requires valued { IsValuedMove F.Fn V.Fn problem.now at.now change choices.now }
     requires pair { IsPair (length at.now) pair }
-    requires asked { IsAsked problem.now at.now change }
-    requires choices { length choices.now ≡ length at.now }
     ensures rise { WhereMeant F.Fn V.Fn problem.now
-        (λ m. result ≡ pos (count_if (is_counted_at (moves_site change
-        (labelling at.now) choices.now) site pair)
-        (cost_of_pair m (labelling_made change (labelling at.now)
-        (site_values choices.now)) pair))
-        -ℤ pos (count_if (is_counted_at (moves_site change (labelling at.now)
-        choices.now) site pair) (cost_of_pair m (labelling at.now) pair))) }
+        (λ m. result ≡ rise_by (λ f. count_if (is_counted_at
+        (changed_here change at.now choices.now) site pair) (cost_of_pair m f pair))
+        change at.now choices.now) }
     ensures range { unsigned_abs result ≤ pair_cost_limit
-        * count_if (is_counted_at (moves_site change (labelling at.now) choices.now) site pair) 1 }
+        * count_if (is_counted_at (changed_here change at.now choices.now) site pair) 1 }
 {
     if !is_counted(at, change, choices, site, pair) {
         return 0;
@@ -101,18 +93,14 @@ fn met_rise<F: Fn(u32, u32) -> i64 + Sync, V: Fn(u32, u32) -> i64 + Sync>(
     choices: &[Choice],
     site: u32,
 ) -> i64
-    requires posed { IsPosed F.Fn V.Fn problem.now }
-    requires asked { IsAsked problem.now at.now change }
-    requires choices { length choices.now ≡ length at.now }
+    requires valued { IsValuedMove F.Fn V.Fn problem.now at.now change choices.now }
     requires by_site { AreBySite problem.now.pairs ends.now }
     requires site { site < length at.now }
-    ensures rise { WhereMeant F.Fn V.Fn problem.now (λ m. result ≡ pos (met_at ends.now
-        (moves_site change (labelling at.now) choices.now)
-        (cost_of_pair m (labelling_made change (labelling at.now)
-        (site_values choices.now))) site) -ℤ pos (met_at ends.now (moves_site change
-        (labelling at.now) choices.now) (cost_of_pair m (labelling at.now)) site)) }
-    ensures range { unsigned_abs result ≤ pair_cost_limit * met_at ends.now (moves_site
-        change (labelling at.now) choices.now) (λ pair. 1) site }
+    ensures rise { WhereMeant F.Fn V.Fn problem.now (λ m. result ≡ rise_by (λ f. met_at ends.now
+        (changed_here change at.now choices.now) (cost_of_pair m f) site)
+        change at.now choices.now) }
+    ensures range { unsigned_abs result ≤ pair_cost_limit
+        * met_at ends.now (changed_here change at.now choices.now) (λ pair. 1) site }
 {
     let mut total = 0i64;
     for number in 0..ends_at(&problem.pairs, ends, site) {
@@ -131,18 +119,14 @@ fn moved_rise<F: Fn(u32, u32) -> i64 + Sync, V: Fn(u32, u32) -> i64 + Sync>(
     choices: &[Choice],
     site: u32,
 ) -> i64
-    requires posed { IsPosed F.Fn V.Fn problem.now }
-    requires asked { IsAsked problem.now at.now change }
-    requires choices { length choices.now ≡ length at.now }
+    requires valued { IsValuedMove F.Fn V.Fn problem.now at.now change choices.now }
     requires by_site { AreBySite problem.now.pairs ends.now }
     requires site { site < length at.now }
-    ensures rise { WhereMeant F.Fn V.Fn problem.now (λ m. result ≡ pos (moved_met ends.now
-        (moves_site change (labelling at.now) choices.now)
-        (cost_of_pair m (labelling_made change (labelling at.now)
-        (site_values choices.now))) site) -ℤ pos (moved_met ends.now (moves_site change
-        (labelling at.now) choices.now) (cost_of_pair m (labelling at.now)) site)) }
-    ensures range { unsigned_abs result ≤ pair_cost_limit * moved_met ends.now
-        (moves_site change (labelling at.now) choices.now) (λ pair. 1) site }
+    ensures rise { WhereMeant F.Fn V.Fn problem.now (λ m. result ≡ rise_by (λ f. moved_met ends.now
+        (changed_here change at.now choices.now) (cost_of_pair m f) site)
+        change at.now choices.now) }
+    ensures range { unsigned_abs result ≤ pair_cost_limit
+        * moved_met ends.now (changed_here change at.now choices.now) (λ pair. 1) site }
 {
     if !is_moved(at, change, choices, site) {
         return 0;
@@ -159,14 +143,11 @@ fn smooth_rise_listed<F: Fn(u32, u32) -> i64 + Sync, V: Fn(u32, u32) -> i64 + Sy
     choices: &[Choice],
     sites: &[u32],
 ) -> i64
-    requires posed { IsPosed F.Fn V.Fn problem.now }
-    requires asked { IsAsked problem.now at.now change }
-    requires choices { length choices.now ≡ length at.now }
+    requires valued { IsValuedMove F.Fn V.Fn problem.now at.now change choices.now }
     requires by_site { AreBySite problem.now.pairs ends.now }
     requires changes { HasChanges change at.now choices.now sites.now }
     ensures rise { WhereMeant F.Fn V.Fn problem.now
-        (λ m. result ≡ pos (smooth_energy m (labelling_made change (labelling
-        at.now) (site_values choices.now))) -ℤ pos (smooth_energy m (labelling at.now))) }
+        (λ m. result ≡ rise_by (smooth_energy m) change at.now choices.now) }
     ensures range { unsigned_abs result ≤ smooth_energy_limit }
 {
     let mut total = 0i64;
@@ -188,10 +169,8 @@ fn lowers_listed<F: Fn(u32, u32) -> i64 + Sync, V: Fn(u32, u32) -> i64 + Sync>(
     requires asked { IsAsked problem.now at.now change }
     requires choices { length space.now.built.variables.choices.items ≡ length at.now }
     requires changes { AreChangesListed problem.now.pairs change at.now space.now }
-    ensures { WhereMeant F.Fn V.Fn problem.now
-        (λ m. IsTrue result ↔ plain_energy m (labelling_made change (labelling at.now)
-        (site_values space.now.built.variables.choices.items))
-        < plain_energy m (labelling at.now)) }
+    ensures { WhereMeant F.Fn V.Fn problem.now (λ m. IsTrue result
+        ↔ LowersEnergy m change at.now space.now.built.variables.choices.items) }
 {
     let choices = space.built.variables.choices.as_slice();
     let sites = space.deciding.lists.changing.as_slice();
@@ -213,10 +192,8 @@ pub(crate) fn lowers<F: Fn(u32, u32) -> i64 + Sync, V: Fn(u32, u32) -> i64 + Syn
     requires choices { length space.now.built.variables.choices.items ≡ length at.now }
     requires changes { IsTrue space.now.deciding.lists.listed →
         AreChangesListed problem.now.pairs change at.now space.now }
-    ensures { WhereMeant F.Fn V.Fn problem.now
-        (λ m. IsTrue result ↔ plain_energy m (labelling_made change (labelling at.now)
-        (site_values space.now.built.variables.choices.items))
-        < plain_energy m (labelling at.now)) }
+    ensures { WhereMeant F.Fn V.Fn problem.now (λ m. IsTrue result
+        ↔ LowersEnergy m change at.now space.now.built.variables.choices.items) }
 {
     if space.deciding.lists.listed {
         lowers_listed(problem, at, change, space)

@@ -1,13 +1,13 @@
 //! Whether the labels that the values of a move's sites make have a lower energy. Only what changes
 //! is asked.
-ghost use Rattle.std.specs.Prelude.{◌≡◌, ◌<◌, ◌≤◌, ◌↔◌, ℕ, pos, ◌-ℤ◌, ◌<ℤ◌, All, length, unsigned_abs, IsTrue};
-ghost use Rattle.label_field.specs.Limits.{site_limit};
+ghost use Rattle.std.specs.Prelude.{◌≡◌, ◌<◌, ◌≤◌, ◌↔◌, pos, ◌<ℤ◌, length, unsigned_abs, IsTrue};
 ghost use Rattle.label_field.specs.PairLists.{IsPair};
-ghost use Rattle.labellings.specs.Energies.{labelling, plain_energy, data_energy, smooth_energy, pair_cost as cost_of_pair};
-ghost use Rattle.labellings.specs.Moves.{label_after, labelling_made};
+ghost use Rattle.labellings.specs.Energies.{labelling, data_energy, smooth_energy};
+ghost use Rattle.labellings.specs.Energies.{pair_cost as cost_of_pair};
+ghost use Rattle.labellings.specs.Moves.{labelling_made};
 ghost use Rattle.cost_store.specs.Limits.{site_cost_limit, pair_cost_limit, data_energy_limit, smooth_energy_limit};
 ghost use Rattle.cost_store.specs.Posed.{IsPosed, WhereMeant, IsAsked};
-ghost use Rattle.moves.specs.Building.{site_values};
+ghost use Rattle.moves.specs.Building.{site_values, IsValuedMove, LowersEnergy, rise_by};
 
 use crate::taking::value_of;
 use cost_store::Problem;
@@ -39,14 +39,10 @@ pub(crate) fn site_rise<F: Fn(u32, u32) -> i64 + Sync, V: Fn(u32, u32) -> i64 + 
     choices: &[Choice],
     site: u32,
 ) -> i64
-    requires posed { IsPosed F.Fn V.Fn problem.now }
+    requires valued { IsValuedMove F.Fn V.Fn problem.now at.now change choices.now }
     requires site { site < length at.now }
-    requires asked { IsAsked problem.now at.now change }
-    requires choices { length choices.now ≡ length at.now }
     ensures rise { WhereMeant F.Fn V.Fn problem.now
-        (λ m. result ≡ pos (m.data_cost site (labelling_made change (labelling
-        at.now) (site_values choices.now) site))
-        -ℤ pos (m.data_cost site (labelling at.now site))) }
+        (λ m. result ≡ rise_by (λ f. m.data_cost site (f site)) change at.now choices.now) }
     ensures range { unsigned_abs result ≤ site_cost_limit }
 {
     let old = u32::from(at[site as usize]);
@@ -64,12 +60,9 @@ fn data_rise<F: Fn(u32, u32) -> i64 + Sync, V: Fn(u32, u32) -> i64 + Sync>(
     change: Move,
     choices: &[Choice],
 ) -> i64
-    requires posed { IsPosed F.Fn V.Fn problem.now }
-    requires asked { IsAsked problem.now at.now change }
-    requires choices { length choices.now ≡ length at.now }
+    requires valued { IsValuedMove F.Fn V.Fn problem.now at.now change choices.now }
     ensures rise { WhereMeant F.Fn V.Fn problem.now
-        (λ m. result ≡ pos (data_energy m (labelling_made change (labelling
-        at.now) (site_values choices.now))) -ℤ pos (data_energy m (labelling at.now))) }
+        (λ m. result ≡ rise_by (data_energy m) change at.now choices.now) }
     ensures range { unsigned_abs result ≤ data_energy_limit }
 {
     let mut total = 0i64;
@@ -87,13 +80,10 @@ pub(crate) fn pair_rise<F: Fn(u32, u32) -> i64 + Sync, V: Fn(u32, u32) -> i64 + 
     choices: &[Choice],
     pair: Pair,
 ) -> i64
-    requires posed { IsPosed F.Fn V.Fn problem.now }
+    requires valued { IsValuedMove F.Fn V.Fn problem.now at.now change choices.now }
     requires pair { IsPair (length at.now) pair }
-    requires asked { IsAsked problem.now at.now change }
-    requires choices { length choices.now ≡ length at.now }
     ensures rise { WhereMeant F.Fn V.Fn problem.now
-        (λ m. result ≡ pos (cost_of_pair m (labelling_made change (labelling
-        at.now) (site_values choices.now)) pair) -ℤ pos (cost_of_pair m (labelling at.now) pair)) }
+        (λ m. result ≡ rise_by (λ f. cost_of_pair m f pair) change at.now choices.now) }
     ensures range { unsigned_abs result ≤ pair_cost_limit }
 {
     let first = u32::from(at[pair.first as usize]);
@@ -115,12 +105,9 @@ fn smooth_rise<F: Fn(u32, u32) -> i64 + Sync, V: Fn(u32, u32) -> i64 + Sync>(
     change: Move,
     choices: &[Choice],
 ) -> i64
-    requires posed { IsPosed F.Fn V.Fn problem.now }
-    requires asked { IsAsked problem.now at.now change }
-    requires choices { length choices.now ≡ length at.now }
+    requires valued { IsValuedMove F.Fn V.Fn problem.now at.now change choices.now }
     ensures rise { WhereMeant F.Fn V.Fn problem.now
-        (λ m. result ≡ pos (smooth_energy m (labelling_made change (labelling
-        at.now) (site_values choices.now))) -ℤ pos (smooth_energy m (labelling at.now))) }
+        (λ m. result ≡ rise_by (smooth_energy m) change at.now choices.now) }
     ensures range { unsigned_abs result ≤ smooth_energy_limit }
 {
     let mut total = 0i64;
@@ -141,8 +128,7 @@ pub(crate) fn lowers_all<F: Fn(u32, u32) -> i64 + Sync, V: Fn(u32, u32) -> i64 +
     requires asked { IsAsked problem.now at.now change }
     requires choices { length choices.now ≡ length at.now }
     ensures { WhereMeant F.Fn V.Fn problem.now
-        (λ m. IsTrue result ↔ plain_energy m (labelling_made change (labelling at.now)
-        (site_values choices.now)) < plain_energy m (labelling at.now)) }
+        (λ m. IsTrue result ↔ LowersEnergy m change at.now choices.now) }
 {
     let rise = data_rise(problem, at, change, choices);
     is_negative(rise + smooth_rise(problem, at, change, choices))

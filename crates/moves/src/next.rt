@@ -10,6 +10,7 @@ ghost use Rattle.stages.specs.Looking.{is_marked, AreTaking};
 ghost use Rattle.moves.specs.Building.{IsGroupedFor, site_values};
 ghost use Rattle.moves.specs.Problems.{IsMoved, IsMoveRefusal};
 ghost use Rattle.moves.specs.Stages.{HasTaken};
+ghost use Rattle.moves.specs.Stages.{IsUnderWay, AreStampsOf};
 
 use crate::later::make_later;
 use crate::one_move::make_move;
@@ -33,8 +34,7 @@ pub(crate) fn begin_run<F: Fn(u32, u32) -> i64 + Sync, V: Fn(u32, u32) -> i64 + 
     cycles: u32,
 ) -> Changes
     requires fits { FitsProblem problem.now labelling.now }
-    ensures { WhereMeant F.Fn V.Fn problem.now
-        (λ m. AreStamped m (labelling_of labelling.now.at) result) }
+    ensures { AreStampsOf F.Fn V.Fn problem.now labelling.now result }
 {
     let comes_again = moves == Moves::Expansion && cycles > 1;
     if !comes_again || !problem.smooth_cost.by_metric || has_cost(costs_of(&problem.label_costs)) {
@@ -94,19 +94,14 @@ fn make_expansion<F: Fn(u32, u32) -> i64 + Sync, V: Fn(u32, u32) -> i64 + Sync, 
     how: &H,
 ) -> Result<bool, MoveError>
     requires ready { H.ready how.now }
-    requires fits { FitsProblem problem.now labelling.old }
-    requires posed { IsPosed F.Fn V.Fn problem.now }
-    requires by_site { IsGroupedFor problem.now.pairs space.old }
-    requires stamped { WhereMeant F.Fn V.Fn problem.now
-        (λ m. AreStamped m (labelling_of labelling.old.at) changes.old) }
+    requires under_way { IsUnderWay F.Fn V.Fn problem.now labelling.old space.old changes.old }
     ensures by_site { IsGroupedFor problem.now.pairs space.new }
     ensures sizes { AreOfOneSize labelling.old labelling.new }
     ensures moved { WhereMeant F.Fn V.Fn problem.now
         (λ m. IsMoved m (Expand alpha) labelling.old.at labelling.new.at result) }
     ensures refused { IfErr result
         (IsMoveRefusal (H.refuses how.now) labelling.old.labels (Expand alpha)) }
-    ensures stamped { WhereMeant F.Fn V.Fn problem.now
-        (λ m. AreStamped m (labelling_of labelling.new.at) changes.new) }
+    ensures stamped { AreStampsOf F.Fn V.Fn problem.now labelling.new changes.new }
 {
     let later = make_later(alloc, problem, space, labelling, alpha, changes, how)?;
     match later {
@@ -132,18 +127,13 @@ pub(crate) fn make_next<F: Fn(u32, u32) -> i64 + Sync, V: Fn(u32, u32) -> i64 + 
     how: &H,
 ) -> Result<bool, MoveError>
     requires ready { H.ready how.now }
-    requires fits { FitsProblem problem.now labelling.old }
-    requires posed { IsPosed F.Fn V.Fn problem.now }
-    requires by_site { IsGroupedFor problem.now.pairs space.old }
-    requires stamped { WhereMeant F.Fn V.Fn problem.now
-        (λ m. AreStamped m (labelling_of labelling.old.at) changes.old) }
+    requires under_way { IsUnderWay F.Fn V.Fn problem.now labelling.old space.old changes.old }
     ensures by_site { IsGroupedFor problem.now.pairs space.new }
     ensures sizes { AreOfOneSize labelling.old labelling.new }
     ensures moved { WhereMeant F.Fn V.Fn problem.now
         (λ m. IsMoved m change labelling.old.at labelling.new.at result) }
     ensures refused { IfErr result (IsMoveRefusal (H.refuses how.now) labelling.old.labels change) }
-    ensures stamped { WhereMeant F.Fn V.Fn problem.now
-        (λ m. AreStamped m (labelling_of labelling.new.at) changes.new) }
+    ensures stamped { AreStampsOf F.Fn V.Fn problem.now labelling.new changes.new }
 {
     match change {
         Move::Expand(alpha) => {

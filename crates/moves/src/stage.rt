@@ -2,26 +2,21 @@
 //! shows.
 ghost use Rattle.std.specs.Prelude.{◌≡◌, ◌+◌, ◌<◌, ◌≤◌, ℕ, Bool, false, true, length, vec_len};
 ghost use Rattle.std.specs.Prelude.{OnOk, IfOk, IfErr};
-ghost use Rattle.label_field.specs.Limits.{site_limit, label_limit};
-ghost use Rattle.pseudo_bool.specs.Energies.{assignment};
-ghost use Rattle.pseudo_bool.specs.Limits.{term_limit};
-ghost use Rattle.compile_cut.specs.Quadratics.{IsQuadraticBounded, quadratic_value};
-ghost use Rattle.deciding.specs.Decisions.{IsSmallestLeast};
 ghost use Rattle.move_energy.specs.BySite.{AreBySite};
 ghost use Rattle.labellings.specs.declared.change.Move.TheVariants.{Expand};
 ghost use Rattle.labellings.specs.Energies.{labelling};
-ghost use Rattle.labellings.specs.Moves.{IsAllowed};
 ghost use Rattle.cost_store.specs.Posed.{IsPosed, WhereMeant, IsAsked};
 ghost use Rattle.move_energy.specs.declared.choice.Choice.TheVariants.{Zero};
 ghost use Rattle.move_energy.specs.Choices.{choice_at, value_of, open_count, IsNumbering};
 ghost use Rattle.move_energy.specs.Choices.{AreOpenSites};
 ghost use Rattle.stages.specs.Looking.{is_marked, IsClosedIn, AreTaking};
+ghost use Rattle.moves.specs.Building.{IsAllowedFrom, IsValuedMove, KeepsDecided};
 ghost use Rattle.moves.specs.Problems.{IsCutRefusal};
 ghost use Rattle.moves.specs.Stages.{IsStageLeast, IsStageReady, AreStageZeros, EndsMove};
 
-use crate::one_move::minimise;
+use crate::one_move::cut_small;
 use crate::workspace::Workspace;
-use crate::{Alone, How, MoveError};
+use crate::{How, MoveError};
 use compile_cut::Quadratic;
 use cost_store::Problem;
 use label_field::Pairs;
@@ -38,61 +33,42 @@ pub(crate) enum Standing {
     Open,
 }
 
-/// The least assignment of a form with the fewest ones. A form of fewer nodes than a strip has is
-/// cut on the thread of the caller: workers would take longer to share it than one takes to cut it.
-fn cut_small<H: How>(
-    alloc: Global,
-    form: Quadratic,
-    how: &H,
-    cutting: &mut plain_cut::Workspace,
-) -> Result<Vec<bool>, MoveError>
-    requires ready { H.ready how.now }
-    requires bounded { IsQuadraticBounded term_limit form }
-    requires few { vec_len form.weights ≤ site_limit + label_limit }
-    ensures count { IfOk result (λ bits. length bits.items ≡ vec_len form.weights) }
-    ensures least { IfOk result (λ bits. IsSmallestLeast (vec_len form.weights)
-        (quadratic_value form) (assignment bits.items)) }
-    ensures refused { IfErr result (IsCutRefusal (H.refuses how.now)) }
-{
-    if form.weights.len() < how.strip_sites() {
-        return minimise(alloc, form, &Alone, cutting);
-    }
-    minimise(alloc, form, how, cutting)
+/// The sites that a stage looks at: those that are open, listed, and the neighbours of all sites.
+#[derive(Clone, Copy)]
+struct StageSites<'a> {
+    ends: &'a Neighbours,
+    opened: &'a [u32],
 }
 
 /// The cut of a partly fixed move, over the listed open sites: a bit for each.
 fn cut_stage<F: Fn(u32, u32) -> i64 + Sync, V: Fn(u32, u32) -> i64 + Sync, H: How>(
-    alloc: Global,
     problem: &Problem<F, V>,
     built: &mut MoveEnergy,
-    ends: &Neighbours,
-    opened: &[u32],
+    sites: &StageSites,
     at: &[u8],
     change: Move,
     how: &H,
     cutting: &mut plain_cut::Workspace,
 ) -> Result<Vec<bool>, MoveError>
     requires ready { H.ready how.now }
-    requires asked { IsAsked problem.now at.now change }
-    requires posed { IsPosed F.Fn V.Fn problem.now }
-    requires choices { length built.old.variables.choices.items ≡ length at.now }
-    requires by_site { AreBySite problem.now.pairs ends.now }
-    requires opened { AreOpenSites built.old.variables.choices.items opened.now }
-    requires allowed { WhereMeant F.Fn V.Fn problem.now
-        (λ m. IsAllowed m change (labelling at.now)) }
+    requires valued { IsValuedMove F.Fn V.Fn problem.now at.now change
+        built.old.variables.choices.items }
+    requires by_site { AreBySite problem.now.pairs sites.now.ends.now }
+    requires opened { AreOpenSites built.old.variables.choices.items sites.now.opened.now }
+    requires allowed { IsAllowedFrom F.Fn V.Fn problem.now at.now change }
     ensures kept { built.new.variables.choices.items ≡ built.old.variables.choices.items }
     ensures numbering { OnOk result (IsNumbering built.new.variables.choices.items
         built.new.variables.of_sites.items) }
     ensures count { IfOk result
         (λ bits. length bits.items ≡ open_count built.new.variables.choices.items) }
-    ensures least { WhereMeant F.Fn V.Fn problem.now
-        (λ m. IfOk result (λ bits. IsStageLeast m change
-        (labelling at.now) built.new.variables.choices.items bits.items)) }
+    ensures least { WhereMeant F.Fn V.Fn problem.now (λ m. IfOk result (λ bits. IsStageLeast m
+        change (labelling at.now) built.new.variables.choices.items bits.items)) }
     ensures refused { IfErr result (IsCutRefusal (H.refuses how.now)) }
 {
-    built.build_listed(alloc, problem, ends, opened, at, change)?;
+    let alloc = *built.form.weights.allocator();
+    built.build_listed(alloc, problem, sites.ends, sites.opened, at, change)?;
     let form = replace(&mut built.form, Quadratic::new(alloc));
-    cut_small(alloc, form, how, cutting)
+    cut_small(alloc, form, how.strip_sites(), how, cutting)
 }
 
 /// What is done with what a cut showed: where the sites that take the label are not closed in, more
@@ -102,8 +78,7 @@ fn end_stage(space: &mut Workspace, pairs: &Pairs, bits: &[bool]) -> Result<Stan
     requires numbering { IsNumbering space.old.built.variables.choices.items
         space.old.built.variables.of_sites.items }
     requires bits { length bits.now ≡ open_count space.old.built.variables.choices.items }
-    ensures same { (space.new.grouped ≡ space.old.grouped)
-        × (space.new.deciding ≡ space.old.deciding) }
+    ensures same { KeepsDecided space.old space.new }
     ensures fresh { space.new.stage.fresh.items ≡ space.old.stage.fresh.items }
     ensures closed { IfOk result (λ standing. standing ≡ Standing.Closed → IsClosedIn pairs.now
         (value_of space.old.built.variables.choices.items bits.now)
@@ -139,7 +114,6 @@ fn end_stage(space: &mut Workspace, pairs: &Pairs, bits: &[bool]) -> Result<Stan
 
 /// One stage: its cut, and what is done with what that shows.
 pub(crate) fn make_stage<F: Fn(u32, u32) -> i64 + Sync, V: Fn(u32, u32) -> i64 + Sync, H: How>(
-    alloc: Global,
     problem: &Problem<F, V>,
     space: &mut Workspace,
     at: &[u8],
@@ -150,10 +124,8 @@ pub(crate) fn make_stage<F: Fn(u32, u32) -> i64 + Sync, V: Fn(u32, u32) -> i64 +
     requires asked { IsAsked problem.now at.now (Expand alpha) }
     requires posed { IsPosed F.Fn V.Fn problem.now }
     requires stage { IsStageReady problem.now.pairs space.old }
-    requires allowed { WhereMeant F.Fn V.Fn problem.now
-        (λ m. IsAllowed m (Expand alpha) (labelling at.now)) }
-    ensures same { (space.new.grouped ≡ space.old.grouped)
-        × (space.new.deciding ≡ space.old.deciding) }
+    requires allowed { IsAllowedFrom F.Fn V.Fn problem.now at.now (Expand alpha) }
+    ensures same { KeepsDecided space.old space.new }
     ensures fresh { space.new.stage.fresh.items ≡ space.old.stage.fresh.items }
     ensures closed { WhereMeant F.Fn V.Fn problem.now (λ m. IfOk result (λ standing.
         standing ≡ Standing.Closed → EndsMove m alpha at.now space.old space.new)) }
@@ -166,12 +138,14 @@ pub(crate) fn make_stage<F: Fn(u32, u32) -> i64 + Sync, V: Fn(u32, u32) -> i64 +
         AreStageZeros m alpha at.now space.old → AreStageZeros m alpha at.now space.new)) }
     ensures refused { IfErr result (IsCutRefusal (H.refuses how.now)) }
 {
+    let sites = StageSites {
+        ends: &space.deciding.ends,
+        opened: &space.stage.opened,
+    };
     let bits = cut_stage(
-        alloc,
         problem,
         &mut space.built,
-        &space.deciding.ends,
-        &space.stage.opened,
+        &sites,
         at,
         Move::Expand(alpha),
         how,

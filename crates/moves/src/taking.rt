@@ -1,11 +1,12 @@
 //! The labels that the values of a move's sites make.
-ghost use Rattle.std.specs.Prelude.{◌≡◌, ◌≢◌, ◌≤◌, ◌<◌, ◌↔◌, ℕ, length, IsTrue, IsFalse, slice_index, slice_set};
+ghost use Rattle.std.specs.Prelude.{◌≡◌, ◌≢◌, ◌<◌, ◌↔◌, ℕ, length, IsTrue, slice_index, slice_set};
 ghost use Rattle.labellings.specs.declared.change.Move.TheVariants.{Expand};
 ghost use Rattle.labellings.specs.Energies.{labelling};
 ghost use Rattle.labellings.specs.Moves.{IsBest, IsMoveOf, label_after};
 ghost use Rattle.cost_store.specs.Posed.{IsPosed, WhereMeant, FitsProblem, AreOfOneSize};
 ghost use Rattle.deciding.specs.Decisions.{IsSmallestLeast};
 ghost use Rattle.moves.specs.Building.{site_values, made_value, HasChanges, AreChangesListed};
+ghost use Rattle.moves.specs.Building.{GivesMade, KeepsSizes, TellsChange};
 ghost use Rattle.cost_store.specs.LabelCosts.{costs_of};
 ghost use Rattle.moves.specs.LabelCosts.{IsFreeFor};
 ghost use Rattle.moves.specs.Problems.{IsMade};
@@ -38,13 +39,11 @@ pub(crate) fn take_best<F: Fn(u32, u32) -> i64 + Sync, V: Fn(u32, u32) -> i64 + 
     ensures made { IsMade change field.old.at field.new.at result }
     ensures taken { (a : ℕ) → change ≡ Expand a →
         HasTaken a (site_values space.now.built.variables.choices.items) field.old.at field.new.at }
-    ensures best { WhereMeant F.Fn V.Fn problem.now
-        (λ m. IsSmallestLeast m.sites (made_value m change (labelling
-        field.old.at)) (site_values space.now.built.variables.choices.items)
-        → (IsBest m change field.old.at
-        field.new.at × ((IsTrue result → field.new.at ≢ field.old.at)
-        × (IsFalse result → field.new.at ≡
-        field.old.at)))) }
+    ensures best { WhereMeant F.Fn V.Fn problem.now (λ m. IsSmallestLeast m.sites
+        (made_value m change (labelling field.old.at))
+        (site_values space.now.built.variables.choices.items) →
+        IsBest m change field.old.at field.new.at
+        × TellsChange result field.old.at field.new.at) }
 {
     match change {
         Move::Expand(_) => relabel(field, space, change),
@@ -64,13 +63,10 @@ fn relabel(labelling: &mut Labelling, space: &Workspace, change: Move) -> bool
     requires choices { length space.now.built.variables.choices.items ≡ length labelling.old.at }
     requires changes { IsTrue space.now.deciding.lists.listed → HasChanges change labelling.old.at
         space.now.built.variables.choices.items space.now.deciding.lists.changing.items }
-    ensures sizes { (labelling.new.labels ≡ labelling.old.labels)
-        × (length labelling.new.at ≡ length labelling.old.at) }
-    ensures each { (p : ℕ) → p < length labelling.old.at
-        → slice_index labelling.new.at p ≡ label_after change
-        (slice_index labelling.old.at p) (site_values space.now.built.variables.choices.items p) }
-    ensures changed { (IsTrue result → labelling.new.at ≢ labelling.old.at) × (IsFalse result →
-        labelling.new.at ≡ labelling.old.at) }
+    ensures sizes { KeepsSizes labelling.old labelling.new }
+    ensures each { GivesMade change space.now.built.variables.choices.items
+        labelling.old.at labelling.new.at }
+    ensures changed { TellsChange result labelling.old.at labelling.new.at }
 {
     let choices = space.built.variables.choices.as_slice();
     if space.deciding.lists.listed {
@@ -91,12 +87,9 @@ fn relabel_listed(
     requires below { IsMoveOf labelling.old.labels change }
     requires choices { length choices.now ≡ length labelling.old.at }
     requires changes { HasChanges change labelling.old.at choices.now sites.now }
-    ensures sizes { (labelling.new.labels ≡ labelling.old.labels)
-        × (length labelling.new.at ≡ length labelling.old.at) }
-    ensures each { (p : ℕ) → p < length labelling.old.at → slice_index labelling.new.at p ≡
-        label_after change (slice_index labelling.old.at p) (site_values choices.now p) }
-    ensures changed { (IsTrue result → labelling.new.at ≢ labelling.old.at) × (IsFalse result →
-        labelling.new.at ≡ labelling.old.at) }
+    ensures sizes { KeepsSizes labelling.old labelling.new }
+    ensures each { GivesMade change choices.now labelling.old.at labelling.new.at }
+    ensures changed { TellsChange result labelling.old.at labelling.new.at }
 {
     let mut changed = false;
     for index in 0..sites.len() {
@@ -112,13 +105,9 @@ fn relabel_listed(
 fn relabel_all(labelling: &mut Labelling, choices: &[Choice], change: Move) -> bool
     requires below { IsMoveOf labelling.old.labels change }
     requires choices { length choices.now ≡ length labelling.old.at }
-    ensures sizes { (labelling.new.labels ≡ labelling.old.labels)
-        × (length labelling.new.at ≡ length labelling.old.at) }
-    ensures each { (p : ℕ) → p < length labelling.old.at
-        → slice_index labelling.new.at p ≡ label_after change
-        (slice_index labelling.old.at p) (site_values choices.now p) }
-    ensures changed { (IsTrue result → labelling.new.at ≢ labelling.old.at) × (IsFalse result →
-        labelling.new.at ≡ labelling.old.at) }
+    ensures sizes { KeepsSizes labelling.old labelling.new }
+    ensures each { GivesMade change choices.now labelling.old.at labelling.new.at }
+    ensures changed { TellsChange result labelling.old.at labelling.new.at }
 {
     let mut changed = false;
     for site in 0..labelling.sites() {

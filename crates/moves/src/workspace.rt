@@ -1,5 +1,5 @@
 //! The energy of a move, of which sites are decided before it is built.
-ghost use Rattle.std.specs.Prelude.{◌≡◌, ◌+◌, ◌<◌, ◌≤◌, All, length, vec_len, false, OnOk, IsTrue};
+ghost use Rattle.std.specs.Prelude.{◌≡◌, ◌+◌, ◌<◌, ◌≤◌, All, length, vec_len, false, IfOk, IfErr, OnOk, IsTrue};
 ghost use Rattle.move_energy.specs.BySite.{AreBySite};
 ghost use Rattle.labellings.specs.Energies.{labelling};
 ghost use Rattle.labellings.specs.Moves.{IsAllowed};
@@ -8,7 +8,7 @@ ghost use Rattle.pseudo_bool.specs.Limits.{term_limit};
 ghost use Rattle.compile_cut.specs.Quadratics.{IsQuadraticBounded};
 ghost use Rattle.cost_store.specs.Posed.{IsPosed, WhereMeant, IsAsked};
 ghost use Rattle.move_energy.specs.Choices.{choice_at, AreOpenSites, AreSettled};
-ghost use Rattle.move_energy.specs.Problems.{Stands};
+ghost use Rattle.move_energy.specs.Problems.{Stands, IsPrepareRefusal};
 ghost use Rattle.deciding.specs.Decided.{IsDecidedMove};
 ghost use Rattle.deciding.specs.MoveValues.{move_value};
 ghost use Rattle.deciding.specs.Rising.{IsRiseTable, IsTableOf};
@@ -20,9 +20,8 @@ ghost use Rattle.moves.specs.LabelCosts.{IsFreeFor};
 ghost use Rattle.labellings.specs.declared.change.Move.TheVariants.{Expand};
 ghost use Rattle.move_energy.specs.LabelCosts.{AreCostsOf};
 
-use crate::strip_size::strip_size;
 use cost_store::{Problem, costs_of, has_cost};
-use deciding::{Bounds, Deciding, Lists};
+use deciding::{Bounds, Deciding, Lists, MoveToFind, RiseNumbers};
 use label_field::Pairs;
 use labellings::Move;
 use move_energy::{BuildError, MoveEnergy, Neighbours, add_label_costs};
@@ -30,7 +29,7 @@ use solvers::How;
 use stages::Stage;
 use std::alloc::{AllocError, Global};
 use std::mem::swap;
-use strips::Strips;
+use strips::{Basis, Strips, close_parts};
 
 /// The most sites whose bounds and whose variables' numbers keep their memory for the next move.
 /// The bounds of more sites, over 5 MB, and their numbers, over 1 MB, are given back once the
@@ -136,15 +135,13 @@ impl Workspace {
 }
 
 /// Decides the sites of a move, which the workspace then knows.
-fn decide<F: Fn(u32, u32) -> i64 + Sync, V: Fn(u32, u32) -> i64 + Sync, H: How>(
+fn decide<F: Fn(u32, u32) -> i64 + Sync, V: Fn(u32, u32) -> i64 + Sync>(
     alloc: Global,
     problem: &Problem<F, V>,
     space: &mut Workspace,
     at: &[u8],
     change: Move,
-    how: &H,
 ) -> Result<(), BuildError>
-    requires ready { H.ready how.now }
     requires asked { IsAsked problem.now at.now change }
     requires posed { IsPosed F.Fn V.Fn problem.now }
     requires by_site { IsGroupedFor problem.now.pairs space.old }
@@ -162,7 +159,7 @@ fn decide<F: Fn(u32, u32) -> i64 + Sync, V: Fn(u32, u32) -> i64 + Sync, H: How>(
         IsTableOf m change space.new.deciding.table)) }
 {
     space.group(alloc, &problem.pairs)?;
-    space.deciding.decide_by_parts(problem, at, change, how)?;
+    space.deciding.decide(problem, at, change)?;
     swap(
         &mut space.deciding.bounds.choices,
         &mut space.built.variables.choices,
@@ -282,16 +279,13 @@ fn build_open<F: Fn(u32, u32) -> i64 + Sync, V: Fn(u32, u32) -> i64 + Sync>(
 
 /// The energy of the last strip of a move whose sites are decided: all strips before it are closed
 /// in, so many sites each, and only its own open sites are left.
-fn build_strips<F: Fn(u32, u32) -> i64 + Sync, V: Fn(u32, u32) -> i64 + Sync, H: How>(
-    alloc: Global,
+fn build_strips<F: Fn(u32, u32) -> i64 + Sync, V: Fn(u32, u32) -> i64 + Sync>(
     problem: &Problem<F, V>,
     space: &mut Workspace,
     at: &[u8],
     change: Move,
     size: usize,
-    how: &H,
 ) -> Result<(), AllocError>
-    requires ready { H.ready how.now }
     requires asked { IsAsked problem.now at.now change }
     requires posed { IsPosed F.Fn V.Fn problem.now }
     requires some { 0 < size }
@@ -322,27 +316,125 @@ fn build_strips<F: Fn(u32, u32) -> i64 + Sync, V: Fn(u32, u32) -> i64 + Sync, H:
         &mut space.deciding.bounds.choices,
         &mut space.built.variables.choices,
     );
-    space.strips.close_in(
-        alloc,
+    let step = MoveToFind {
         problem,
-        &space.deciding.ends,
-        &space.deciding.table,
-        &mut space.built,
-        &space.deciding.bounds.choices,
-        &space.deciding.bounds.greatest,
-        size,
+        ends: &space.deciding.ends,
+        table: &space.deciding.table,
         at,
         change,
-        how,
-    )?;
+    };
+    let basis = Basis {
+        start: &space.deciding.bounds.choices,
+        weights: &space.deciding.bounds.greatest,
+    };
+    space
+        .strips
+        .close_in(&step, &basis, &mut space.built, size)?;
     if space.deciding.lists.listed {
         swap(&mut space.deciding.lists.opened, &mut space.strips.opened);
     }
     Ok(())
 }
 
-/// The energy of a move whose sites were decided first. Where more are open than one net takes, it
-/// is that of the last strip.
+/// Decides and closes in the sites of a move by parts, side by side, where the way to cut asks for
+/// parts and the rises of all pairs can be read. It answers whether it did.
+fn close_apart<F: Fn(u32, u32) -> i64 + Sync, V: Fn(u32, u32) -> i64 + Sync, H: How>(
+    alloc: Global,
+    problem: &Problem<F, V>,
+    space: &mut Workspace,
+    at: &[u8],
+    change: Move,
+    how: &H,
+) -> Result<bool, BuildError>
+    requires ready { H.ready how.now }
+    requires asked { IsAsked problem.now at.now change }
+    requires posed { IsPosed F.Fn V.Fn problem.now }
+    requires by_site { IsGroupedFor problem.now.pairs space.old }
+    ensures by_site { IsGroupedFor problem.now.pairs space.new }
+    ensures near { IfOk result (λ done. IsTrue done →
+        HasListsOfMove problem.now.pairs change at.now space.new) }
+    ensures choices { IfOk result (λ done. IsTrue done →
+        length space.new.built.variables.choices.items ≡ length at.now) }
+    ensures closed { WhereMeant F.Fn V.Fn problem.now (λ m. IfOk result (λ done. IsTrue done →
+        IsAllowed m change (labelling at.now)
+        × Agree m.sites (move_value m change (labelling at.now))
+        (choice_at space.new.built.variables.choices.items))) }
+    ensures refused { WhereMeant F.Fn V.Fn problem.now (λ m.
+        IfErr result (IsPrepareRefusal m change (labelling at.now))) }
+{
+    let parts = how.parts(at.len()).min(at.len());
+    if parts < 2 {
+        return Ok(false);
+    }
+    space.group(alloc, &problem.pairs)?;
+    if !space.deciding.open(problem, at, change)? {
+        return Ok(false);
+    }
+    swap(
+        &mut space.deciding.bounds.choices,
+        &mut space.built.variables.choices,
+    );
+    let numbers = RiseNumbers {
+        pairs: &problem.pairs,
+        ends: &space.deciding.ends,
+        table: &space.deciding.table,
+        own: &space.deciding.own_rises,
+        at,
+    };
+    let size = how.strip_sites().max(1);
+    let fork = how.fork();
+    close_parts(
+        &fork,
+        &numbers,
+        &mut space.built.variables.choices,
+        parts,
+        size,
+    )?;
+    space
+        .deciding
+        .lists
+        .fill(at, change, &space.built.variables.choices)?;
+    Ok(true)
+}
+
+/// The energy of what the parts of a move left open, by the costs of its sites and pairs.
+fn build_rest<F: Fn(u32, u32) -> i64 + Sync, V: Fn(u32, u32) -> i64 + Sync>(
+    alloc: Global,
+    problem: &Problem<F, V>,
+    space: &mut Workspace,
+    at: &[u8],
+    change: Move,
+) -> Result<(), AllocError>
+    requires asked { IsAsked problem.now at.now change }
+    requires posed { IsPosed F.Fn V.Fn problem.now }
+    requires choices { length space.old.built.variables.choices.items ≡ length at.now }
+    requires near { HasListsOfMove problem.now.pairs change at.now space.old }
+    requires allowed { WhereMeant F.Fn V.Fn problem.now
+        (λ m. IsAllowed m change (labelling at.now)) }
+    ensures same { (space.new.grouped ≡ space.old.grouped)
+        × (space.new.deciding ≡ space.old.deciding) }
+    ensures kept { space.new.built.variables.choices.items
+        ≡ space.old.built.variables.choices.items }
+    ensures bounded { OnOk result (IsQuadraticBounded term_limit space.new.built.form) }
+    ensures few { OnOk result (vec_len space.new.built.form.weights ≤ site_limit) }
+    ensures stands { WhereMeant F.Fn V.Fn problem.now
+        (λ m. OnOk result (Stands m change at.now space.new.built)) }
+{
+    let ends = &space.deciding.ends;
+    let lists = &space.deciding.lists;
+    if lists.listed {
+        return space
+            .built
+            .build_listed(alloc, problem, ends, &lists.opened, at, change);
+    }
+    match space.built.build(alloc, problem, at, change) {
+        Ok(()) => Ok(()),
+        Err(_) => Err(AllocError),
+    }
+}
+
+/// The energy of a move whose sites were decided first. Where it was closed in by parts, it is that
+/// of the rest, and where more sites are open than one net takes, that of the last strip.
 fn build_decided<F: Fn(u32, u32) -> i64 + Sync, V: Fn(u32, u32) -> i64 + Sync, H: How>(
     alloc: Global,
     problem: &Problem<F, V>,
@@ -363,11 +455,14 @@ fn build_decided<F: Fn(u32, u32) -> i64 + Sync, V: Fn(u32, u32) -> i64 + Sync, H
     ensures built { WhereMeant F.Fn V.Fn problem.now
         (λ m. IsBuiltPlain m change at.now space.new.built result) }
 {
-    decide(alloc, problem, space, at, change, how)?;
-    let opened = space.deciding.lists.count;
-    let strip = strip_size(how.strip_sites(), how.sides_at_once(), opened);
-    if let Some(size) = strip {
-        build_strips(alloc, problem, space, at, change, size, how)?;
+    if close_apart(alloc, problem, space, at, change, how)? {
+        build_rest(alloc, problem, space, at, change)?;
+        return Ok(());
+    }
+    decide(alloc, problem, space, at, change)?;
+    let size = how.strip_sites();
+    if size > 0 && space.deciding.lists.count > size {
+        build_strips(problem, space, at, change, size)?;
         return Ok(());
     }
     build_open(alloc, problem, space, at, change)?;

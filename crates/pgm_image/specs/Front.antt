@@ -26,9 +26,17 @@ pub record Front (bytes : List ℕ) (p : Picture) (used : ℕ) : Type 0 where
   pub whole : bytes ≡ header ++ (body ++ rest)
   pub used_is : used ≡ length header + length body
 
--- A header stands at the front, and what follows it, with its last byte, is so.
-pub record AfterHeader (Says : Form → ℕ → ℕ → ℕ → ℕ → List ℕ → Type 0)
-    (bytes : List ℕ) : Type 0 where
+-- what a header says, its last byte, and the bytes behind it
+pub record HeaderAndRest : Type 0 where
+  pub form : Form
+  pub width : ℕ
+  pub height : ℕ
+  pub maxval : ℕ
+  pub last : ℕ
+  pub rest : List ℕ
+
+-- A header stands at the front, and this holds of it and of what follows it.
+pub record AfterHeader (Holds : HeaderAndRest → Type 0) (bytes : List ℕ) : Type 0 where
   pub form : Form
   pub header : List ℕ
   pub rest : List ℕ
@@ -37,7 +45,14 @@ pub record AfterHeader (Says : Form → ℕ → ℕ → ℕ → ℕ → List ℕ
   pub maxval : ℕ
   pub is_header : IsHeader form header width height maxval
   pub whole : bytes ≡ header ++ rest
-  pub says : Says form width height maxval is_header.last rest
+  pub says : Holds (record {
+    form = form;
+    width = width;
+    height = height;
+    maxval = maxval;
+    last = is_header.last;
+    rest = rest;
+  })
 
 -- the three numbers are within their limits
 abbrev pub FitNumbers : ℕ → ℕ → ℕ → Type 0
@@ -82,23 +97,24 @@ HasBad Plain count m last rest end at = (xs : List ℕ) × (tail : List ℕ) × 
 
 -- Why no image is at the front. Out of memory comes only behind a header within the limits.
 abbrev pub RefusesFront : List ℕ → PgmError → Type 0
-RefusesFront bytes OutOfMemory = AfterHeader (λ form w h m last rest. FitNumbers w h m) bytes
+RefusesFront bytes OutOfMemory = AfterHeader (λ h. FitNumbers h.width h.height h.maxval) bytes
 RefusesFront bytes NotPgm = (form : Form) (rest : List ℕ) → bytes ≡ magic form ++ rest → ⊥
 RefusesFront bytes (BadHeader at) =
     ((form : Form) × (rest : List ℕ) × (bytes ≡ magic form ++ rest)) × StopsAt IsAnyHeader bytes at
-RefusesFront bytes ZeroSize = AfterHeader (λ form w h m last rest. (w ≡ 0) ⊎ (h ≡ 0)) bytes
-RefusesFront bytes TooLarge = AfterHeader (λ form w h m last rest. IsTooLarge w h) bytes
+RefusesFront bytes ZeroSize = AfterHeader (λ h. (h.width ≡ 0) ⊎ (h.height ≡ 0)) bytes
+RefusesFront bytes TooLarge = AfterHeader (λ h. IsTooLarge h.width h.height) bytes
 RefusesFront bytes BadMaxval =
-    AfterHeader (λ form w h m last rest. SizeFits w h × ((m ≡ 0) ⊎ (maxval_limit < m))) bytes
+    AfterHeader (λ h. SizeFits h.width h.height × ((h.maxval ≡ 0) ⊎ (maxval_limit < h.maxval)))
+    bytes
 RefusesFront bytes Truncated =
-    AfterHeader (λ form w h m last rest.
-    FitNumbers w h m × EndsEarly form (w * h) m last rest) bytes
+    AfterHeader (λ h. FitNumbers h.width h.height h.maxval
+    × EndsEarly h.form (h.width * h.height) h.maxval h.last h.rest) bytes
 RefusesFront bytes (SampleAboveMax i) =
-    AfterHeader (λ form w h m last rest.
-    FitNumbers w h m × HasAbove form (w * h) m last rest i) bytes
+    AfterHeader (λ h. FitNumbers h.width h.height h.maxval
+    × HasAbove h.form (h.width * h.height) h.maxval h.last h.rest i) bytes
 RefusesFront bytes (BadSample at) =
-    AfterHeader (λ form w h m last rest.
-    FitNumbers w h m × HasBad form (w * h) m last rest (length bytes) at) bytes
+    AfterHeader (λ h. FitNumbers h.width h.height h.maxval
+    × HasBad h.form (h.width * h.height) h.maxval h.last h.rest (length bytes) at) bytes
 
 -- what the format says of some bytes: their image, or its refusal
 abbrev pub IsReadingOf : List ℕ → Result (Picture × ℕ) PgmError → Type 0

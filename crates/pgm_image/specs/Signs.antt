@@ -11,13 +11,14 @@ is_line_end b = (b == 13) || (b == 10)
 abbrev pub is_digit : ℕ → Bool
 is_digit b = nat_le 48 b && nat_le b 57
 
--- numbers are kept up to the cap, which is above every limit
+-- above every limit of a header's numbers
+abbrev pub number_cap : ℕ
+number_cap = 10000000
+
+-- numbers are kept up to the cap
 abbrev pub cap : ℕ → ℕ
-cap n = if nat_lt n 10000000 then n else 10000000
+cap n = if nat_lt n number_cap then n else number_cap
 
 -- one more digit, and no more than the cap
 abbrev pub with_digit : ℕ → ℕ → ℕ
-with_digit n b =
-    if nat_lt n 10000000
-    then (if nat_lt (10 * n + (b - 48)) 10000000 then 10 * n + (b - 48) else 10000000)
-    else 10000000
+with_digit n b = if nat_lt n number_cap then cap (10 * n + (b - 48)) else number_cap

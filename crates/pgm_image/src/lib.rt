@@ -17,4 +17,5 @@ pub use byte_streams::{Sink, Watched};
 pub use error::{PgmError, WriteError};
 pub use image::{Image, MAXVAL_LIMIT, SAMPLE_LIMIT, SIDE_LIMIT};
 pub use reading::read_image;
+pub use signs::is_space;
 pub use writing::{put_image, write_image};

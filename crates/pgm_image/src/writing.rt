@@ -23,7 +23,7 @@ const PART_LIMIT: usize = 2048;
 const PART_ROOM: usize = 4096;
 
 fn push_number(text: &mut ArrayString<HEADER_ROOM>, number: u32)
-    requires { array_string_len text.old + 40 ≤ 256 }
+    requires { array_string_len text.old + 40 ≤ HEADER_ROOM }
     ensures bytes { text.new.bytes ≡ text.old.bytes ++ decimal number }
     ensures len { array_string_len text.new ≤ array_string_len text.old + 40 }
 {
@@ -51,7 +51,7 @@ fn header_of(image: &Image) -> ArrayString<HEADER_ROOM>
 /// One sample's bytes, at the end.
 #[tactic(auto, unfolding(crate::specs::Raster::as_two_bytes))]
 fn push_sample(bytes: &mut ArrayVec<u8, PART_ROOM>, maxval: u32, sample: u16)
-    requires room { array_vec_len bytes.old + 2 ≤ 4096 }
+    requires room { array_vec_len bytes.old + 2 ≤ PART_ROOM }
     requires small { sample ≤ maxval }
     ensures bytes { bytes.new.items ≡ bytes.old.items ++ raster maxval (sample ∷ []) }
     ensures len { array_vec_len bytes.new ≤ array_vec_len bytes.old + 2 }

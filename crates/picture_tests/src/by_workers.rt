@@ -83,11 +83,12 @@ pub fn stripes(alloc: Global) -> Result<Vec<u8>, AllocError> {
     Ok(picture)
 }
 
-/// Whether workers restore the picture to itself, as energies say.
+/// Whether workers restore the picture to itself, and tell this energy, all of it of pairs.
 pub fn is_kept<R: Threads + Wait + Sync + Abort>(
     rt: &R,
     alloc: Global,
     picture: &[u8],
+    energy: i64,
     options: Options,
     gate: &(dyn Gate + Sync),
 ) -> bool {
@@ -104,9 +105,9 @@ pub fn is_kept<R: Threads + Wait + Sync + Abort>(
     let report = run_restore(alloc, picture, &RESTORE, &how, &mut sink);
     report
         == Ok(Report {
-            energy: 2_048,
+            energy,
             data_part: 0,
-            smooth_part: 2_048,
+            smooth_part: energy,
             label_part: 0,
             bound: None,
         })
@@ -126,7 +127,7 @@ fn gate_calls<R: Threads + Wait + Sync + Abort>(
         calls: AtomicU32::new(0),
         answer,
     };
-    if is_kept(rt, alloc, picture.as_slice(), options, &counter) {
+    if is_kept(rt, alloc, picture.as_slice(), 2_048, options, &counter) {
         Ok(Some(counter.calls.load(Ordering::SeqCst)))
     } else {
         Ok(None)

@@ -66,7 +66,7 @@ fn noes<R: Threads + Wait + Sync + Abort>(
     turn: u32,
 ) -> Result<Option<u32>, AllocError> {
     let gate = Until::new(alloc, turn, SHORT.blocks)?;
-    let is_right = is_kept(rt, alloc, picture, SHORT, &gate);
+    let is_right = is_kept(rt, alloc, picture, 2_048, SHORT, &gate);
     let went_on = gate.went_on.load(Ordering::SeqCst);
     let noes = gate.noes.load(Ordering::SeqCst);
     Ok(if is_right && !went_on {

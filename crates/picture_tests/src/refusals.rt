@@ -3,6 +3,7 @@ use crate::pictures::{ROW, SWAPS};
 use crate::streams::CutWriter;
 use crate::tasks::{RESTORE, SEGMENT, STEREO, Task, run};
 use byte_streams::Watched;
+use pgm_image::PgmError;
 use run_options::RestoreOptions;
 use vision::VisionError;
 
@@ -16,7 +17,11 @@ const COSTLY: RestoreOptions = RestoreOptions {
 
 /// A command, its input, and why it is refused.
 const ROWS: [(Task, &[u8], VisionError); 17] = [
-    (Task::Restore(RESTORE), b"", VisionError::NotPgm),
+    (
+        Task::Restore(RESTORE),
+        b"",
+        VisionError::Image(PgmError::NotPgm),
+    ),
     (
         Task::Restore(RESTORE),
         b"P5\n1 1\n256\n\x01\x00",
@@ -25,31 +30,39 @@ const ROWS: [(Task, &[u8], VisionError); 17] = [
     (
         Task::Restore(RESTORE),
         b"P5\n1 1\n256\n\x01",
-        VisionError::Truncated,
+        VisionError::Image(PgmError::Truncated),
     ),
     // The first image is read to its end before the second is looked at.
-    (PART, b"P5\n3 1\n2\n\x01\x00", VisionError::Truncated),
-    (PART, b"P5\n3 1\n255\n\x0a\x0c\xc8", VisionError::NotPgm),
+    (
+        PART,
+        b"P5\n3 1\n2\n\x01\x00",
+        VisionError::Image(PgmError::Truncated),
+    ),
+    (
+        PART,
+        b"P5\n3 1\n255\n\x0a\x0c\xc8",
+        VisionError::Image(PgmError::NotPgm),
+    ),
     (
         PART,
         b"P5\n3 1\n255\n\x0a\x0c\xc8 \n\t",
-        VisionError::NotPgm,
+        VisionError::Image(PgmError::NotPgm),
     ),
     (
         PART,
         b"P5 3 1 255\n\x0a\x0c\xc8P5 3 1 2x",
-        VisionError::BadHeader(22),
+        VisionError::Image(PgmError::BadHeader(22)),
     ),
     (
         PART,
         b"P5 3 1 255\n\x0a\x0c\xc8\n P2 3 1 2 1 0#",
-        VisionError::BadSample(28),
+        VisionError::Image(PgmError::BadSample(28)),
     ),
     // No comment is skipped between the images.
     (
         PART,
         b"P5 3 1 255\n\x0a\x0c\xc8# seeds\nP5 3 1 2\n\x01\x00\x02",
-        VisionError::NotPgm,
+        VisionError::Image(PgmError::NotPgm),
     ),
     (
         PART,
@@ -91,7 +104,7 @@ const ROWS: [(Task, &[u8], VisionError); 17] = [
     (
         Task::Restore(COSTLY),
         b"P5\n1 1\n256\n\x01",
-        VisionError::Truncated,
+        VisionError::Image(PgmError::Truncated),
     ),
 ];
 

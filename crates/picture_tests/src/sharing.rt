@@ -2,8 +2,7 @@
 //! with as much room.
 use crate::by_workers::TWO;
 use flow_network::{Arc, Net};
-use moves::How;
-use rounds::Workers;
+use rounds::{Lent, side_parallel};
 use std::alloc::AllocError;
 use std::hint::spin_loop;
 use std::process::Abort;
@@ -86,12 +85,8 @@ fn count_calls<R: Threads + Wait + Abort + AllocGlobal + Sync>(
     };
     let net = fan(rt)?;
     let gate: &(dyn Gate + Sync) = &counts;
-    let how = Workers {
-        rt,
-        options,
-        gate: &gate,
-    };
-    assert!(*rt; how.side(rt.alloc(), net).is_ok());
+    let lent = Lent { gate };
+    assert!(*rt; side_parallel(rt, rt.alloc(), net, &options, &lent).is_ok());
     Ok((
         counts.first.load(Ordering::SeqCst),
         counts.later.load(Ordering::SeqCst),

@@ -27,8 +27,8 @@ use Rattle.problem_files.specs.PairFields.{is_site, is_weight, pair_at, pair_fie
 use Rattle.problem_files.specs.Problem.{integers_of}
 use Rattle.problem_files.specs.SmoothFields.{listed_from, smooth_at, smooth_from, smooth_in, table_named}
 use Rattle.problem_files.specs.StartFields.{start_field, start_from, start_in}
-use Rattle.problem_files.specs.Stated.{integers}
-use Rattle.problem_files.specs.StatedLabels.{StatesCosts, StatesLabelCosts, StatesMoves, StatesNumber, StatesNumbers, StatesPair, StatesPairList, StatesPairs, StatesProblem, StatesSmooth, StatesStart, TextStatesProblem}
+use Rattle.problem_files.specs.Stated.{StateEach, StatesList, integers}
+use Rattle.problem_files.specs.StatedLabels.{StatesCosts, StatesLabelCosts, StatesMoves, StatesNumber, StatesNumbers, StatesPair, StatesProblem, StatesSmooth, StatesStart, TextStatesProblem}
 use Rattle.problem_files.specs.declared.label_fault.LabelKey.TheVariants as field
 use Rattle.problem_files.specs.declared.label_fault.LabelFault.{LabelFault}
 use Rattle.problem_files.specs.declared.label_fault.LabelFault.TheVariants.{BadElement, BadField, NoSuchSite, SamePair, TooManyPairs, WeightRange}
@@ -194,7 +194,7 @@ unfolding pair_at
 pair_at_stated n i d pair e =
     pair_stated n i d (option_and_then integers_of (as_array d)) pair (λ zs is. array_stated (as_array d) d zs (as_array_back d) is) e
 
-pairs_stated : (n i : ℕ) (ds : Items) (pairs : List Pair) → pairs_from n i (list_of ds) ≡ Ok pairs → StatesPairs ds pairs
+pairs_stated : (n i : ℕ) (ds : Items) (pairs : List Pair) → pairs_from n i (list_of ds) ≡ Ok pairs → StateEach StatesPair ds pairs
 pairs_stated n i no_items pairs e = let is : pairs ≡ [] = cc in rw is tt
 pairs_stated n i (item d ds) pairs e =
     let (pair, here, more) = then_ok (pair_at n i d) (λ pair. and_then (pairs_from n (i + 1) (list_of ds)) (λ pairs. Ok (pair ∷ pairs))) pairs e in
@@ -203,17 +203,17 @@ pairs_stated n i (item d ds) pairs e =
     rw is (pair_at_stated n i d pair here, pairs_stated n (i + 1) ds rest there)
 
 listed_pairs : (n : ℕ) (o : Option Items) (d : Data) (pairs : List Pair) → ((ds : Items) → o ≡ Some ds → d ≡ array ds)
-    → pairs_listed n (option_map list_of o) ≡ Ok pairs → StatesPairList (Some d) pairs
+    → pairs_listed n (option_map list_of o) ≡ Ok pairs → StatesList StatesPair (Some d) pairs
 listed_pairs n None d pairs is e = absurd (let never = e in cc)
 listed_pairs n (Some ds) d pairs is e =
     let kept = if_ok (nat_le (length (list_of ds)) pair_limit) (pairs_from n 0 (list_of ds)) TooManyPairs pairs e in
     (ds, is ds refl, pairs_stated n 0 ds pairs kept.1)
 
-pairs_at_stated : (n : ℕ) (o : Option Data) (pairs : List Pair) → pairs_field n o ≡ Ok pairs → StatesPairList o pairs
+pairs_at_stated : (n : ℕ) (o : Option Data) (pairs : List Pair) → pairs_field n o ≡ Ok pairs → StatesList StatesPair o pairs
 pairs_at_stated n None pairs e = let is : pairs ≡ [] = cc in is
 pairs_at_stated n (Some d) pairs e = listed_pairs n (as_array d) d pairs (as_array_back d) e
 
-pair_list_stated : (ms : Members) (n : ℕ) (pairs : List Pair) → pairs_in ms n ≡ Ok pairs → StatesPairList (get_member (codes "pairs") ms) pairs
+pair_list_stated : (ms : Members) (n : ℕ) (pairs : List Pair) → pairs_in ms n ≡ Ok pairs → StatesList StatesPair (get_member (codes "pairs") ms) pairs
 unfolding pairs_in
 pair_list_stated ms n pairs e = pairs_at_stated n (get_member (codes "pairs") ms) pairs e
 

@@ -12,7 +12,7 @@ use Rattle.problem_files.specs.declared.energy_fault.EnergyFault.TheVariants.{No
 use Rattle.problem_files.specs.Problem.{and_then, term_or_fault, constant_at, constant_in, integers_at, integers_of, is_distinct, is_value, is_variable, item_count, energy_of_table, term_at, term_from, term_field, terms_at, terms_from, terms_in, variables_from, variables_in}
 use Rattle.toml.specs.Parse.{parse_document}
 use Rattle.problem_files.specs.Text.{TextStates, energy_in, named_by}
-use Rattle.problem_files.specs.Stated.{States, StatesConstant, StatesList, StatesTerm, StatesTerms, integers}
+use Rattle.problem_files.specs.Stated.{States, StatesConstant, StateEach, StatesList, StatesTerm, integers}
 
 -- a step that has no fault
 record IsStepped {A B : Type 0} (r : Result A EnergyFault) (next : A → Result B EnergyFault) (b : B) : Type 0 where
@@ -132,7 +132,7 @@ term_by n i d (Some on) None term at_on at_values e = absurd (let no = e in cc)
 term_by n i d (Some on) (Some values) term at_on at_values e =
     placed d on values term (array_back (get (codes "on") d) on at_on) (array_back (get (codes "values") d) values at_values) (listed n i on values term e)
 
-terms_back : (n i : ℕ) (ds : Items) (terms : List Term) → terms_from n i ds ≡ Ok terms → StatesTerms ds terms
+terms_back : (n i : ℕ) (ds : Items) (terms : List Term) → terms_from n i ds ≡ Ok terms → StateEach StatesTerm ds terms
 terms_back n i no_items terms e = let is : terms ≡ [] = cc in rw is tt
 terms_back n i (item d ds) terms e =
     let first = stepped (term_at n i d) (λ term. and_then (terms_from n (i + 1) ds) (λ more. Ok (term ∷ more))) terms e in
@@ -145,7 +145,7 @@ chosen : {A : Type 0} (test : Bool) (r : Result A EnergyFault) (fault : EnergyFa
 chosen true r fault x e = e
 chosen false r fault x e = absurd (let no = e in cc)
 
-list_back : (n : ℕ) (o : Option Data) (terms : List Term) → terms_at n o ≡ Ok terms → StatesList o terms
+list_back : (n : ℕ) (o : Option Data) (terms : List Term) → terms_at n o ≡ Ok terms → StatesList StatesTerm o terms
 list_back n None terms e = cc
 list_back n (Some (array ds)) terms e = (ds, refl, terms_back n 0 ds terms (chosen (nat_le (item_count ds) term_limit) (terms_from n 0 ds) _ terms e))
 list_back n (Some _) terms e = absurd (let no = e in cc)

@@ -22,17 +22,17 @@ StatesTerm d (Three x y z table) =
     (get (codes "on") d ≡ Some (array (integers (pos x ∷ pos y ∷ pos z ∷ []))))
     × (get (codes "values") d ≡ Some (array (integers table)))
 
--- the items have the terms, one each
-abbrev pub StatesTerms : Items → List Term → Type 0
-StatesTerms no_items [] = ⊤
-StatesTerms (item d ds) (term ∷ terms) = StatesTerm d term × StatesTerms ds terms
-StatesTerms no_items (term ∷ terms) = ⊥
-StatesTerms (item d ds) [] = ⊥
+-- each of the items states one of these, in their order
+abbrev pub StateEach : {T : Type 0} → (Data → T → Type 0) → Items → List T → Type 0
+StateEach States no_items [] = ⊤
+StateEach States (item d ds) (x ∷ xs) = States d x × StateEach States ds xs
+StateEach States no_items (x ∷ xs) = ⊥
+StateEach States (item d ds) [] = ⊥
 
--- what stands under `terms`: nothing where there is no term, or the list of the terms
-abbrev pub StatesList : Option Data → List Term → Type 0
-StatesList None terms = terms ≡ []
-StatesList (Some d) terms = (ds : Items) × (d ≡ array ds) × StatesTerms ds terms
+-- what stands under the key of a list: nothing where the list is empty, or items that state it
+abbrev pub StatesList : {T : Type 0} → (Data → T → Type 0) → Option Data → List T → Type 0
+StatesList States None xs = xs ≡ []
+StatesList States (Some d) xs = (ds : Items) × (d ≡ array ds) × StateEach States ds xs
 
 -- what stands under `constant`: nothing where it is 0, or the constant
 abbrev pub StatesConstant : Option Data → ℤ → Type 0
@@ -43,4 +43,4 @@ StatesConstant (Some d) constant = d ≡ integer constant
 pub record States (ms : Members) (e : Energy) : Type 0 where
   pub variables : get_member (codes "variables") ms ≡ Some (integer (pos e.variables))
   pub constant : StatesConstant (get_member (codes "constant") ms) e.constant
-  pub terms : StatesList (get_member (codes "terms") ms) e.terms
+  pub terms : StatesList StatesTerm (get_member (codes "terms") ms) e.terms

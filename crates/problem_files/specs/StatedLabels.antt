@@ -1,6 +1,6 @@
 -- What a table states of a problem of labels: each of its numbers, as it stands, or what is due
 -- where a field is missing.
-use Rattle.std.specs.Prelude.{◌≡◌, ◌⊎◌, ⊤, ℕ, ℤ, pos, List, [], ◌∷◌, map, replicate, Option, Some, None, codes}
+use Rattle.std.specs.Prelude.{◌≡◌, ◌⊎◌, ℕ, ℤ, pos, List, [], ◌∷◌, map, replicate, Option, Some, None, codes}
 use Rattle.toml.specs.Data.{Data, string, integer, array, Items, no_items, item, Members, get_member}
 use Rattle.toml.specs.Parse.{parse_document}
 use Rattle.label_field.specs.declared.pair.Pair.{Pair}
@@ -9,7 +9,7 @@ use Rattle.labellings.specs.declared.cycles.Moves.TheVariants.{Expansion, Swap}
 use Rattle.run_options.specs.Shapes.{shape_table}
 use Rattle.run_options.specs.declared.shape.Shape.TheVariants.{Potts, Linear, Quadratic}
 use Rattle.problem_files.specs.Names.{Problem}
-use Rattle.problem_files.specs.Stated.{integers}
+use Rattle.problem_files.specs.Stated.{StatesList, integers}
 
 -- the value is the list of these numbers
 abbrev pub StatesNumbers : Data → List ℕ → Type 0
@@ -35,18 +35,6 @@ abbrev pub StatesPair : Data → Pair → Type 0
 StatesPair d pair =
     (d ≡ array (integers (pos pair.first ∷ pos pair.second ∷ pos pair.weight ∷ [])))
     ⊎ ((d ≡ array (integers (pos pair.first ∷ pos pair.second ∷ []))) × (pair.weight ≡ 1))
-
--- the items have the pairs, one each, in their order
-abbrev pub StatesPairs : Items → List Pair → Type 0
-StatesPairs no_items [] = ⊤
-StatesPairs (item d ds) (pair ∷ pairs) = StatesPair d pair × StatesPairs ds pairs
-StatesPairs no_items (pair ∷ pairs) = ⊥
-StatesPairs (item d ds) [] = ⊥
-
--- `pairs`: nothing where there is no pair, or the list of the pairs
-abbrev pub StatesPairList : Option Data → List Pair → Type 0
-StatesPairList None pairs = pairs ≡ []
-StatesPairList (Some d) pairs = (ds : Items) × (d ≡ array ds) × StatesPairs ds pairs
 
 -- `start`: nothing where each of so many sites has label 0, or the list of the labels
 abbrev pub StatesStart : Option Data → ℕ → List ℕ → Type 0
@@ -77,7 +65,7 @@ pub record StatesProblem (ms : Members) (p : Problem) : Type 0 where
   pub labels : get_member (codes "labels") ms ≡ Some (integer (pos p.labels))
   pub costs : (d : Data) × (get_member (codes "data") ms ≡ Some d) × StatesNumbers d p.data_costs
   pub smooth : StatesCosts ms p.labels p.smooth_costs
-  pub pairs : StatesPairList (get_member (codes "pairs") ms) p.pairs.list
+  pub pairs : StatesList StatesPair (get_member (codes "pairs") ms) p.pairs.list
   pub start : StatesStart (get_member (codes "start") ms) p.sites p.start.at
   pub moves : StatesMoves (get_member (codes "moves") ms) p.moves
   pub cycles : StatesNumber (get_member (codes "cycles") ms) 100 p.cycles

@@ -1,5 +1,6 @@
 -- For those who call: what is said of rings, as said of the lists of ports that they were made of.
-use Rattle.std.proofs.Common.{◌≡◌, ◌≢◌, ℕ, ◌*◌, ◌<◌, ◌≤◌, List, [], ◌∷◌, ◌++◌, length, get_or, All, sym, ◌∙◌, ap, subst, arith}
+use Rattle.std.proofs.Common.{◌≡◌, ◌≢◌, ℕ, ◌*◌, ◌<◌, ◌≤◌, List, [], ◌∷◌, ◌++◌, length, get_or, All, Result, Ok, Err, sym, ◌∙◌, ap, subst, arith}
+use Rattle.std.specs.Prelude.{IfErr}
 use Rattle.std.proofs.lemmas.List.{append_cancel_left, get_or_default}
 use Rattle.std.proofs.lemmas.List.Sums.{sum_by-le}
 use Rattle.block_events.specs.declared.message.Message.{Message}
@@ -7,6 +8,11 @@ use Rattle.block_events.specs.States.{way_at}
 use Rattle.block_workers.specs.declared.port.Port.{Port}
 use Rattle.block_workers.specs.Seeing.{AreRising}
 use Rattle.block_workers.proofs.Reading.{place_low}
+use Rattle.solvers.specs.declared.solve_error.SolveError.{SolveError}
+use Rattle.solvers.specs.declared.solve_error.SolveError.TheVariants.{OutOfMemory}
+use Rattle.worker_options.specs.declared.options.Options.{Options}
+use Rattle.worker_options.specs.Ranges.{AreInRange}
+use Rattle.rounds.specs.SolveErrors.{MayFailToSolve}
 use Rattle.rounds.specs.Left.{AreLeft}
 use Rattle.rounds.specs.Mated.{AreMated, ports_in}
 
@@ -37,3 +43,8 @@ ports_few n lists mated =
     let rows : All (λ (ports : List Port). length ports ≤ n) lists =
     λ b d low. subst (λ (ports : List Port). length ports ≤ n) (get_or_default lists b [] d low) (row_few n (get_or lists b []) (mated.rising b)) in
     subst (λ (m : ℕ). ports_in lists ≤ m * n) mated.len (sum_by-le (λ (ports : List Port). length ports) n lists rows)
+
+-- options in their ranges may be refused for memory, as one thread refuses
+pub alone_may_fail : {T : Type 0} (options : Options) (r : Result T SolveError) → AreInRange options → IfErr r (λ e. e ≡ OutOfMemory) → IfErr r (MayFailToSolve options)
+alone_may_fail {T} options (Ok v) fits refused = tt
+alone_may_fail {T} options (Err e) fits refused = (let P : SolveError → Type 0 = λ x. MayFailToSolve options x in subst P (sym refused) fits)

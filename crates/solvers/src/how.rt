@@ -14,7 +14,7 @@ use std::alloc::Global;
 /// A way to cut a net: `ready` is what it asks of its caller, and `refuses` says which refusals may
 /// come.
 pub trait How {
-    /// What does the parts and the strips of a move.
+    /// What does the parts of a move.
     type Fork: Fork;
 
     ghost ready: { Self → Type 0 };
@@ -74,14 +74,7 @@ pub trait How {
         0
     }
 
-    /// How many strips a move closes in side by side: on the thread of the caller one.
-    fn sides_at_once(&self) -> usize
-        ensures { 0 < result }
-    {
-        1
-    }
-
-    /// In how many parts a move of so many sites decides them at first, side by side: on the thread
+    /// In how many parts a move of so many sites is closed in at first, side by side: on the thread
     /// of the caller one. The answers are the same, whatever the number.
     fn parts(&self, _sites: usize) -> usize
         ensures { 0 < result }
@@ -89,7 +82,7 @@ pub trait How {
         1
     }
 
-    /// What does the parts and the strips of a move.
+    /// What does the parts of a move.
     fn fork(&self) -> Self::Fork
         requires ready { ready self.now }
         ensures { Self.Fork.can_do result };

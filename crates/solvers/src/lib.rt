@@ -3,10 +3,8 @@
 
 mod fork;
 mod how;
-mod jobs;
 mod solve_error;
 
 pub use fork::{Fork, InOrder};
 pub use how::{Alone, How};
-pub use jobs::SidesJob;
 pub use solve_error::SolveError;

@@ -4,7 +4,7 @@ use Rattle.std.specs.Prelude.{◌&&◌, ◌||◌, ◌==◌}
 use Rattle.std.proofs.lemmas.Int.{ints, to_z-of_z}
 use Rattle.std.proofs.lemmas.Bool.Decides.{nat_tests}
 use Rattle.std.proofs.lemmas.List.{map_more, take_all}
-use Rattle.std.proofs.lemmas.List.Sums.{sum_by_push, sum_by_more, get_or-le-sum_by}
+use Rattle.std.proofs.lemmas.List.Sums.{sum_by_push, sum_by_more, sum_by-take-le, get_or-le-sum_by}
 use Rattle.std.proofs.lemmas.List.Elements.{All-head, All-tail}
 use Rattle.std.proofs.lemmas.List.FromFn.{get_or-map-range_with_len}
 use Rattle.std.specs.List.{range_with_len}
@@ -24,6 +24,7 @@ use Rattle.move_energy.specs.Weights.{weight_at, pair_surplus, AreWeights}
 use Rattle.move_energy.proofs.Parts.{beside_has}
 use Rattle.move_energy.proofs.Listings.{listed_sites_are_summed}
 use Rattle.move_energy.proofs.Weighed.{open_size, listed_weights_are}
+use Rattle.deciding.specs.Parts.{site_weight}
 use Rattle.deciding.proofs.Left.{left_most}
 use Rattle.closing_in.specs.Agreeing.{choices_or}
 use Rattle.closing_in.specs.Borders.{range_of, not_ones, is_beyond, leads_beyond, pair_border, border_at}
@@ -155,19 +156,17 @@ weight_is w o d small within few =
 pub weight_few : (weights : List ℤ) (p : ℕ) → p < length weights → weights_size weights ≤ 300000000000000 → unsigned_abs (weight_at weights p) ≤ 300000000000000
 weight_few weights p l small = omega (arith, get_or-le-sum_by unsigned_abs weights p (pos 0) l, small)
 
-pub size_more : (weights list new : List ℤ) (opened : List ℕ) (ends : Neighbours) (i site : ℕ) (z o : ℤ) → i < length opened → site ≡ get_or opened i 0
-    → new ≡ list ++ z ∷ [] → z ≡ weight_at weights site -ℤ o → unsigned_abs o ≤ 20000000 * degree ends site
-    → weights_size list ≤ weights_size (map (weight_at weights) (take i opened)) + 20000000 * sum_by (degree ends) (take i opened)
-    → weights_size new ≤ weights_size (map (weight_at weights) (take (i + 1) opened)) + 20000000 * sum_by (degree ends) (take (i + 1) opened)
-size_more weights list new opened ends i site z o l at pushed is within before =
+pub size_more : (weights list new : List ℤ) (opened : List ℕ) (ends : Neighbours) (i site : ℕ) (z o : ℤ) → i < length opened → i < length weights → site ≡ get_or opened i 0
+    → new ≡ list ++ z ∷ [] → z ≡ weight_at weights i -ℤ o → unsigned_abs o ≤ 20000000 * degree ends site
+    → weights_size list ≤ weights_size (take i weights) + 20000000 * sum_by (degree ends) (take i opened)
+    → weights_size new ≤ weights_size (take (i + 1) weights) + 20000000 * sum_by (degree ends) (take (i + 1) opened)
+size_more weights list new opened ends i site z o l has at pushed is within before =
     let size = ap (λ (ws : List ℤ). weights_size ws) pushed ∙ sum_by_push unsigned_abs list z in
-    let mapped = ap (λ (ws : List ℤ). weights_size ws) (map_more (weight_at weights) opened i 0 l)
-    ∙ sum_by_push unsigned_abs (map (weight_at weights) (take i opened)) (weight_at weights (get_or opened i 0)) in
-    let here = ap (λ p. unsigned_abs (weight_at weights p)) at in
+    let more = sum_by_more unsigned_abs weights i (pos 0) has in
     let degrees = sum_by_more (degree ends) opened i 0 l in
     let own = ap (degree ends) at in
     let number = ap unsigned_abs is in
-    omega (arith, size, mapped, here, degrees, own, number, abs-sub (weight_at weights site) o, within, before)
+    omega (arith, size, more, degrees, own, number, abs-sub (weight_at weights i) o, within, before)
 
 pub borders_more : (list new : List ℕ) (opened : List ℕ) (ends : Neighbours) (i site z : ℕ) → i < length opened → site ≡ get_or opened i 0
     → new ≡ list ++ z ∷ [] → z ≤ 20000000 * degree ends site
@@ -179,14 +178,12 @@ borders_more list new opened ends i site z l at pushed within before =
     omega (arith, size, degrees, own, within, before)
 
 pub size_all : (pairs : PairList) (ends : Neighbours) (choices : List Choice) (weights list : List ℤ) (opened : List ℕ) (i : ℕ) → IsPairList pairs → AreBySite pairs ends
-    → length choices ≡ pairs.sites → length weights ≡ length choices → AreOpenSites choices opened → weights_size weights ≤ 300000000000000 → length opened ≤ i
-    → weights_size list ≤ weights_size (map (weight_at weights) (take i opened)) + 20000000 * sum_by (degree ends) (take i opened)
+    → length choices ≡ pairs.sites → AreOpenSites choices opened → weights_size weights ≤ 300000000000000 → length opened ≤ i
+    → weights_size list ≤ weights_size (take i weights) + 20000000 * sum_by (degree ends) (take i opened)
     → weights_size list ≤ 467772160000000
-size_all pairs ends choices weights list opened i are by_site sites size listed small past within =
-    let all = take_all i opened past in
-    let whole = ap (λ (xs : List ℕ). weights_size (map (weight_at weights) xs)) all in
-    let degrees = ap (λ (xs : List ℕ). sum_by (degree ends) xs) all in
-    omega (arith, within, whole, degrees, weights_few choices opened weights size listed, degrees_few pairs ends choices opened by_site sites listed, small, are.count)
+size_all pairs ends choices weights list opened i are by_site sites listed small past within =
+    let degrees = ap (λ (xs : List ℕ). sum_by (degree ends) xs) (take_all i opened past) in
+    omega (arith, within, sum_by-take-le unsigned_abs weights i, degrees, degrees_few pairs ends choices opened by_site sites listed, small, are.count)
 
 pub borders_all : (pairs : PairList) (ends : Neighbours) (choices : List Choice) (list opened : List ℕ) (i : ℕ) → IsPairList pairs → AreBySite pairs ends
     → length choices ≡ pairs.sites → AreOpenSites choices opened → length opened ≤ i
@@ -212,16 +209,19 @@ back : (w b : ℤ) → w ≡ (w -ℤ b) +ℤ b
 back w b = omega (arith, ints)
 
 -- the weights by now are those of the strip with the others at 0
-pub weights_now : (m : Instance) (move : Move) (f : ℕ → ℕ) (start known : List Choice) (from to : ℕ) (weights : List ℤ) → IsInstance m → IsAllowed m move f
-    → m.sites ≡ length known → KeepsChosen start known → AreWeights m move f (choice_at start) weights
-    → AreWeights m move f (choice_at (strip_view known from to)) (list_of (weight_now m move f (choice_at start) (choice_at known) weights) m.sites)
-weights_now m move f start known from to weights pairs allowed size on are =
+pub weights_now : (m : Instance) (move : Move) (f : ℕ → ℕ) (start known : List Choice) (from to : ℕ) → IsInstance m → IsAllowed m move f
+    → m.sites ≡ length known → KeepsChosen start known
+    → AreWeights m move f (choice_at (strip_view known from to)) (list_of (weight_now m move f (choice_at start) (choice_at known)) m.sites)
+weights_now m move f start known from to pairs allowed size on =
     let now = choice_at known in
-    let less = list_of (weight_now m move f (choice_at start) now weights) m.sites in
+    let weights = list_of (site_weight m move f (choice_at start)) m.sites in
+    let less = list_of (weight_now m move f (choice_at start) now) m.sites in
+    let are : AreWeights m move f (choice_at start) weights = λ p l opened. list_of_at (site_weight m move f (choice_at start)) m.sites p l in
     let W : (ℕ → Choice) → Type 0 = λ choice. AreWeights m move f choice less in
     let later = weights_go_on m move f (choice_at start) now weights less pairs allowed are
-    (λ p l opened still. back (weight_at weights p) (pos (border_at m move f (choice_at start) (not_ones now) p))
-    ∙ ap (λ z. z +ℤ pos (border_at m move f (choice_at start) (not_ones now) p)) (sym (list_of_at (weight_now m move f (choice_at start) now weights) m.sites p l))) in
+    (λ p l opened still. list_of_at (site_weight m move f (choice_at start)) m.sites p l
+    ∙ back (site_weight m move f (choice_at start) p) (pos (border_at m move f (choice_at start) (not_ones now) p))
+    ∙ ap (λ z. z +ℤ pos (border_at m move f (choice_at start) (not_ones now) p)) (sym (list_of_at (weight_now m move f (choice_at start) now) m.sites p l))) in
     subst W (sym (view_is known from to))
     (strip_weights m move f now (range_of from to) less
     (weights_same m move f (choices_or (choice_at start) now) now less pairs (λ p l. goes_on_joined start known p on (omega (arith, l, size))) later))

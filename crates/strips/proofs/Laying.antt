@@ -125,18 +125,18 @@ laid_adds nodes zero_form old new list cost none adds laid = record {
 }
 
 -- what the rows of a strip stand for
-pub rows_stand : (m : Instance) (move : Move) (f : ℕ → ℕ) (start known : List Choice) (from to : ℕ) (weights : List ℤ) (opened : List ℕ) (pairs : PairList) (ends : Neighbours)
+pub rows_stand : (m : Instance) (move : Move) (f : ℕ → ℕ) (start known : List Choice) (from to : ℕ) (opened : List ℕ) (pairs : PairList) (ends : Neighbours)
     (nodes : ℕ) (zero_form old new : Quadratic) (list : Vec ℤ)
     → m.sites ≡ pairs.sites → m.pairs ≡ pairs.list → IsInstance m → IsAllowed m move f → AreBySite pairs ends → length known ≡ m.sites
-    → KeepsChosen start known → AreOpenSites (strip_view known from to) opened → AreWeights m move f (choice_at start) weights
+    → KeepsChosen start known → AreOpenSites (strip_view known from to) opened
     → IsConstant (pos 0) nodes zero_form → nodes ≡ length opened → vec_len old.weights ≡ vec_len zero_form.weights → IsLaid list.items old new
-    → list.items ≡ map (weight_now m move f (choice_at start) (choice_at known) weights) opened
+    → list.items ≡ map (weight_now m move f (choice_at start) (choice_at known)) opened
     → AddsCost zero_form old (λ x. sum_by (met_at ends (open_at (strip_view known from to)) (unsaved_surplus m move f (choice_at (strip_view known from to)) (open_rank (strip_view known from to)) x)) opened)
     → StandsFor m move f (choice_at (strip_view known from to)) new (open_rank (strip_view known from to))
-rows_stand m move f start known from to weights opened pairs ends nodes zero_form old new list sites_are pairs_are all allowed by_site size on listed are none count kept laid is adds =
+rows_stand m move f start known from to opened pairs ends nodes zero_form old new list sites_are pairs_are all allowed by_site size on listed none count kept laid is adds =
     let v = strip_view known from to in
     let long = view_length known from to in
-    let weight : ℕ → ℤ = weight_now m move f (choice_at start) (choice_at known) weights in
+    let weight : ℕ → ℤ = weight_now m move f (choice_at start) (choice_at known) in
     let less = list_of weight m.sites in
     let first = alone zero_form list in
     let within = opened_within v opened m.sites listed (long ∙ size) in
@@ -145,7 +145,7 @@ rows_stand m move f start known from to weights opened pairs ends nodes zero_for
     subst W (is ∙ map_now weight m.sites opened within ∙ listed_weights_are v less opened listed) (alone_is nodes zero_form list none) in
     let many : vec_len first.weights ≡ length opened = list.ok.0 ∙ ap (λ (ws : List ℤ). length ws) is ∙ length-map opened weight in
     weighted_stands m move f v less first new all (long ∙ size) allowed
-    (weights_now m move f start known from to weights all allowed (sym size) on are) weighs
+    (weights_now m move f start known from to all allowed (sym size) on) weighs
     (laid.2 ∙ kept ∙ constant_nodes (pos 0) nodes zero_form none ∙ count ∙ sym many)
     (listed_savings m move f v opened pairs ends first new sites_are pairs_are all by_site (long ∙ size ∙ sites_are) listed
     (laid_adds nodes zero_form old new list _ none adds laid))

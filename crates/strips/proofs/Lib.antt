@@ -1,9 +1,11 @@
 pub mod Borders
 pub mod Bounding
 pub mod Cuts
+pub mod Gathering
 pub mod Inside
 pub mod Laying
 pub mod Lessening
 pub mod Listing
 pub mod Ranges
 pub mod Views
+pub mod Weighing

@@ -1,6 +1,6 @@
 -- What a strip is built from: what its sites and pairs are, what is known of them, and a closure
 -- that answers what the two ends of a pair save together.
-use Rattle.std.specs.Prelude.{◌≡◌, ℕ, ◌≤◌, List, length, ℤ, unsigned_abs}
+use Rattle.std.specs.Prelude.{◌≡◌, ℕ, ◌≤◌, Bool, List, map, length, ℤ, unsigned_abs}
 use Rattle.label_field.specs.declared.pair.Pair.{Pair}
 use Rattle.label_field.specs.PairLists.{IsPair, IsPairList, PairList}
 use Rattle.labellings.specs.declared.change.Move.{Move}
@@ -9,10 +9,15 @@ use Rattle.labellings.specs.Moves.{IsAllowed}
 use Rattle.compile_cut.specs.Weights.{weights_size}
 use Rattle.move_energy.specs.declared.by_site.Neighbours.{Neighbours}
 use Rattle.move_energy.specs.declared.choice.Choice.{Choice}
-use Rattle.move_energy.specs.BySite.{AreBySite, pair_beside}
+use Rattle.move_energy.specs.BySite.{AreBySite, is_counted, met_at, pair_beside}
+use Rattle.move_energy.specs.Choices.{choice_at, open_at, open_rank, AreOpenSites}
 use Rattle.move_energy.specs.Limits.{surplus_limit, weights_limit}
-use Rattle.move_energy.specs.Weights.{surplus_of, pair_table}
-use Rattle.strips.specs.Views.{KeepsChosen}
+use Rattle.move_energy.specs.Weights.{surplus_of, pair_table, unsaved_surplus}
+use Rattle.deciding.specs.Parts.{site_weight}
+use Rattle.closing_in.specs.Borders.{border_at, range_of}
+use Rattle.strips.specs.declared.material.Material.{Material}
+use Rattle.strips.specs.declared.material.StripSites.{StripSites}
+use Rattle.strips.specs.Views.{KeepsChosen, strip_view, weight_now}
 
 -- the closure takes each pair that the neighbours tell
 abbrev pub TakesPairs : (Pair → Type 0) → PairList → Neighbours → Type 0
@@ -35,13 +40,71 @@ pub record IsMoveOver (pairs : PairList) (m : Instance) (move : Move) (f : ℕ �
   pub instance : IsInstance m
   pub allowed : IsAllowed m move f
 
+-- what is asked of a closure that answers surpluses: it takes each pair that the neighbours tell,
+-- and its answers are in their range
+pub record CanAsk (takes : Pair → Type 0) (gives : Pair → ℤ → Type 0) (material : Material)
+    : Type 0 where
+  pub takes_pairs : TakesPairs takes material.pairs.now material.ends.now
+  pub gives_small : GivesSmall gives
+
+-- this holds of each move over the pairs of which the closure answers the surpluses
+abbrev pub WhereSaved : (Pair → ℤ → Type 0) → Material → (Instance → Move → (ℕ → ℕ) → Type 0)
+    → Type 0
+WhereSaved gives material P = (m : Instance) (move : Move) (f : ℕ → ℕ)
+    → GivesSurpluses gives m move f
+    → IsMoveOver material.pairs.now m move f → P m move f
+
+-- the listed weights are those of the strip's open sites, by what was known at the start
+abbrev pub AreStartWeights : Material → StripSites → Instance → Move → (ℕ → ℕ) → Type 0
+AreStartWeights material sites m move f = sites.weights.now
+    ≡ map (site_weight m move f (choice_at material.start.now)) sites.opened.now
+
+-- each listed site has a weight, and together they are in their limit
+pub record AreWeighed (sites : StripSites) : Type 0 where
+  pub count : length sites.weights.now ≡ length sites.opened.now
+  pub size : weights_size sites.weights.now ≤ weights_limit
+
 -- the lists are of these sites and pairs, and what was chosen at the start stays
-pub record CanBuild (pairs : PairList) (ends : Neighbours) (start known : List Choice)
-    (weights : List ℤ) : Type 0 where
-  pub pairs_are : IsPairList pairs
-  pub by_site : AreBySite pairs ends
-  pub starts : length start ≡ pairs.sites
-  pub count : length known ≡ pairs.sites
-  pub weighed : length weights ≡ pairs.sites
-  pub size : weights_size weights ≤ weights_limit
-  pub goes_on : KeepsChosen start known
+pub record CanBuild (material : Material) : Type 0 where
+  pub pairs_are : IsPairList material.pairs.now
+  pub by_site : AreBySite material.pairs.now material.ends.now
+  pub starts : length material.start.now ≡ material.pairs.now.sites
+  pub count : length material.known.now ≡ material.pairs.now.sites
+  pub goes_on : KeepsChosen material.start.now material.known.now
+
+-- what a strip sees: what is known, and each open site outside it at 0
+abbrev pub view_by : StripSites → Material → List Choice
+view_by sites material = strip_view material.known.now sites.from sites.to
+
+-- the list has the open sites of the strip
+abbrev pub AreStripSites : Material → StripSites → Type 0
+AreStripSites material sites = AreOpenSites (view_by sites material) sites.opened.now
+
+-- the neighbour at this place is one of two ends in the strip, and its pair counts at this site
+abbrev pub counts_in : Material → StripSites → ℕ → ℕ → Bool
+counts_in material sites site place =
+    is_counted (open_at (view_by sites material)) site (pair_beside material.ends.now site place)
+
+-- how many pairs count at a site: those of two sites of the strip, each at its first end
+abbrev pub met_inside : Material → StripSites → ℕ → ℕ
+met_inside material sites site =
+    met_at material.ends.now (open_at (view_by sites material)) (λ pair. 1) site
+
+-- what a pair does not save of its surplus, where these sites are open in a list of choices
+abbrev pub unsaved_in : Instance → Move → (ℕ → ℕ) → List Choice → (ℕ → Bool) → Pair → ℕ
+unsaved_in m move f view x = unsaved_surplus m move f (choice_at view) (open_rank view) x
+
+-- what the pairs that count at a site do not save
+abbrev pub unsaved_at : Instance → Move → (ℕ → ℕ) → Material → StripSites → (ℕ → Bool) → ℕ → ℕ
+unsaved_at m move f material sites x = met_at material.ends.now (open_at (view_by sites material))
+    (unsaved_in m move f (view_by sites material) x)
+
+-- the border of a site of the strip: what its pairs to open sites outside it come to
+abbrev pub border_of_site : Instance → Move → (ℕ → ℕ) → Material → StripSites → ℕ → ℕ
+border_of_site m move f material sites =
+    border_at m move f (choice_at material.known.now) (range_of sites.from sites.to)
+
+-- the weight of a site by now
+abbrev pub weight_by_now : Instance → Move → (ℕ → ℕ) → Material → ℕ → ℤ
+weight_by_now m move f material =
+    weight_now m move f (choice_at material.start.now) (choice_at material.known.now)

@@ -1,5 +1,6 @@
 pub mod Building
+pub mod Closing
 pub mod Limits
-pub mod Rounds
+pub mod Parts
 pub mod Sides
 pub mod Views

@@ -6,7 +6,7 @@ use Rattle.labellings.specs.Energies.{Instance}
 use Rattle.move_energy.specs.declared.choice.Choice.{Choice}
 use Rattle.move_energy.specs.declared.choice.Choice.TheVariants.{Open, Zero}
 use Rattle.move_energy.specs.Choices.{choice_at}
-use Rattle.move_energy.specs.Weights.{weight_at}
+use Rattle.deciding.specs.Parts.{site_weight}
 use Rattle.closing_in.specs.Agreeing.{or_else}
 use Rattle.closing_in.specs.Strips.{others_at}
 use Rattle.closing_in.specs.Borders.{range_of, border_at, not_ones}
@@ -34,6 +34,6 @@ strip_view known from to = map (choices_seen known from to) (range_with_len 0 (l
 
 -- the weight of a site by now: less by the surplus of its pairs to sites that were open at the
 -- start and are at 1
-abbrev pub weight_now : Instance → Move → (ℕ → ℕ) → (ℕ → Choice) → (ℕ → Choice) → List ℤ → ℕ → ℤ
-weight_now m move f start now weights p =
-    weight_at weights p -ℤ pos (border_at m move f start (not_ones now) p)
+abbrev pub weight_now : Instance → Move → (ℕ → ℕ) → (ℕ → Choice) → (ℕ → Choice) → ℕ → ℤ
+weight_now m move f start now p =
+    site_weight m move f start p -ℤ pos (border_at m move f start (not_ones now) p)

@@ -2,8 +2,6 @@
 ghost use Rattle.std.specs.Prelude.{◌≡◌, ◌<◌, ◌≤◌, ◌+◌, ◌+ℤ◌, ℕ, Bool, List, All, pos, length};
 ghost use Rattle.std.specs.Prelude.{vec_len, sum, slice_index, OnOk};
 ghost use Rattle.label_field.specs.Limits.{site_limit};
-ghost use Rattle.labellings.specs.declared.change.Move.{Move};
-ghost use Rattle.labellings.specs.Energies.{Instance};
 ghost use Rattle.pseudo_bool.specs.Limits.{term_limit};
 ghost use Rattle.compile_cut.specs.Limits.{form_size};
 ghost use Rattle.compile_cut.specs.Quadratics.{IsQuadraticBounded, IsConstant};
@@ -11,16 +9,15 @@ ghost use Rattle.compile_cut.specs.Weights.{weights_size, weights_value};
 ghost use Rattle.move_energy.specs.Choices.{choice_at, open_rank, IsNumbering};
 ghost use Rattle.move_energy.specs.Choices.{AreOpenSites, StandsFor};
 ghost use Rattle.move_energy.specs.declared.choice.Choice.{Choice as AnyChoice};
-ghost use Rattle.move_energy.specs.Weights.{AreWeights};
-ghost use Rattle.closing_in.specs.Borders.{border_at, range_of};
-ghost use Rattle.strips.specs.Building.{TakesPairs, GivesSmall, GivesSurpluses, IsMoveOver, CanBuild};
+ghost use Rattle.strips.specs.Building.{CanAsk, CanBuild, WhereSaved, AreStartWeights};
+ghost use Rattle.strips.specs.Building.{AreWeighed};
+ghost use Rattle.strips.specs.Building.{AreStripSites, view_by, border_of_site};
 ghost use Rattle.strips.specs.Limits.{borders_limit};
-ghost use Rattle.strips.specs.Views.{strip_view};
 
+use crate::material::{Material, StripSites};
 use crate::rows::add_rows;
 use compile_cut::Quadratic;
-use label_field::{Pair, Pairs};
-use move_energy::{Choice, Neighbours};
+use label_field::Pair;
 use std::alloc::AllocError;
 
 /// Numbers the listed sites in their order. What stands at the other sites means nothing. It takes
@@ -65,8 +62,7 @@ fn add_weights(weights: &mut Vec<i64>, list: &[i64])
 }
 
 /// The form of a strip that is a range of sites, and the border of each of its open sites, which
-/// are listed. `start` is what was known when all sites were decided, and `weights` has the weights
-/// of the sites that were open then. `known` is what is known by now.
+/// are listed.
 ///
 /// The form stands for the move with the open sites outside the strip at 0. With those at 1 each
 /// weight is less by the border of its site.
@@ -76,43 +72,33 @@ fn add_weights(weights: &mut Vec<i64>, list: &[i64])
 /// strip to strip.
 pub(crate) fn build_strip<S: Fn(Pair) -> i64>(
     savings: &S,
-    pairs: &Pairs,
-    ends: &Neighbours,
-    start: &[Choice],
-    known: &[Choice],
-    weights: &[i64],
-    opened: &[u32],
-    from: u32,
-    to: u32,
+    material: &Material,
+    sites: &StripSites,
     numbers: &mut Vec<u32>,
     form: &mut Quadratic,
     list: &mut Vec<i64>,
     borders: &mut Vec<u64>,
 ) -> Result<(), AllocError>
-    requires takes { TakesPairs (S.pre savings.now) pairs.now ends.now }
-    requires small { GivesSmall (S.post savings.now) }
-    requires can { CanBuild pairs.now ends.now start.now known.now weights.now }
-    requires opened { AreOpenSites (strip_view known.now from to) opened.now }
+    requires ask { CanAsk (S.pre savings.now) (S.post savings.now) material.now }
+    requires can { CanBuild material.now }
+    requires opened { AreStripSites material.now sites.now }
+    requires weighed { AreWeighed sites.now }
     ensures bounded { OnOk result (IsQuadraticBounded term_limit form.new) }
-    ensures nodes { OnOk result (vec_len form.new.weights ≡ length opened.now) }
+    ensures nodes { OnOk result (vec_len form.new.weights ≡ length sites.now.opened.now) }
     ensures few { OnOk result (vec_len form.new.weights ≤ site_limit) }
-    ensures built { (m : Instance) (move : Move) (f : ℕ → ℕ) →
-        GivesSurpluses (S.post savings.now) m move f → IsMoveOver pairs.now m move f →
-        AreWeights m move f (choice_at start.now) weights.now → OnOk result (StandsFor m move f
-        (choice_at (strip_view known.now from to)) form.new
-        (open_rank (strip_view known.now from to))) }
-    ensures count { OnOk result (length borders.new.items ≡ length opened.now) }
+    ensures built { WhereSaved (S.post savings.now) material.now (λ m move f.
+        AreStartWeights material.now sites.now m move f → OnOk result (StandsFor m move f
+        (choice_at (view_by sites.now material.now)) form.new
+        (open_rank (view_by sites.now material.now)))) }
+    ensures count { OnOk result (length borders.new.items ≡ length sites.now.opened.now) }
     ensures small { OnOk result (sum borders.new.items ≤ borders_limit) }
-    ensures borders { (m : Instance) (move : Move) (f : ℕ → ℕ) →
-        GivesSurpluses (S.post savings.now) m move f → IsMoveOver pairs.now m move f →
-        OnOk result ((k : ℕ) → k < length opened.now → slice_index borders.new.items k ≡
-        border_at m move f (choice_at known.now) (range_of from to) (slice_index opened.now k)) }
+    ensures borders { WhereSaved (S.post savings.now) material.now (λ m move f. OnOk result
+        ((k : ℕ) → k < length sites.now.opened.now → slice_index borders.new.items k ≡
+        border_of_site m move f material.now sites.now (slice_index sites.now.opened.now k))) }
 {
-    number_sites(numbers, known.len(), opened)?;
-    clear_form(form, opened.len())?;
-    add_rows(
-        savings, pairs, ends, form, start, known, weights, opened, from, to, numbers, list, borders,
-    )?;
+    number_sites(numbers, material.known.len(), sites.opened)?;
+    clear_form(form, sites.opened.len())?;
+    add_rows(savings, material, sites, form, numbers, list, borders)?;
     add_weights(&mut form.weights, list);
     Ok(())
 }

@@ -5,10 +5,15 @@
 mod building;
 mod closing;
 mod cutting;
+mod material;
 mod opening;
-mod rounds;
+mod parting;
+mod parts;
 mod rows;
 mod sides;
+mod telling;
 
 pub use closing::Strips;
+pub use material::Basis;
+pub use parting::close_parts;
 pub use sides::least_sides;

@@ -7,37 +7,38 @@ ghost use Rattle.strips.specs.Views.{strip_view};
 use move_energy::Choice;
 use std::alloc::AllocError;
 
-/// Lists the next open sites, from one on, behind those that are listed: so many, or all that are
-/// left. The listed sites are the open ones of a range that ends there. It answers where the range
-/// ends then.
+/// Lists the next open sites, from one on, before another, behind those that are listed: so many,
+/// or all that are left. The listed sites are the open ones of a range that ends there. It answers
+/// where the range ends then.
 pub(crate) fn list_next(
     known: &[Choice],
     opened: &mut Vec<u32>,
     first: u32,
     from: u32,
+    end: u32,
     size: usize,
 ) -> Result<u32, AllocError>
     requires sites { length known.now ≤ site_limit }
     requires some { 0 < size }
-    requires from { (first ≤ from) × (from ≤ length known.now) }
+    requires from { (first ≤ from) × (from ≤ end) × (end ≤ length known.now) }
     requires opened { AreOpenSites (strip_view known.now first from) opened.old.items }
-    ensures inside { IfOk result (λ to. to ≤ length known.now) }
+    ensures inside { IfOk result (λ to. to ≤ end) }
     ensures later { IfOk result (λ to. from ≤ to) }
-    ensures further { IfOk result (λ to. from < length known.now → from < to) }
+    ensures further { IfOk result (λ to. from < end → from < to) }
     ensures opened { IfOk result (λ to.
         AreOpenSites (strip_view known.now first to) opened.new.items) }
 {
     let mut more = 0;
-    for site in from as usize..known.len() {
+    for site in from..end {
         if more == size {
-            return Ok(site as u32);
+            return Ok(site);
         }
-        if known[site].is_open() {
-            opened.push(site as u32)?;
+        if known[site as usize].is_open() {
+            opened.push(site)?;
             more += 1;
         }
     }
-    Ok(known.len() as u32)
+    Ok(end)
 }
 
 /// Lists those of the sites that are still open, behind the ones that are listed.

@@ -1,34 +1,33 @@
 //! The rows of a strip: what its sites weigh by now, what pairs within it save, and its border. All
 //! are found in one pass over the neighbours of each site.
-ghost use Rattle.std.specs.Prelude.{◌≡◌, ◌<◌, ◌≤◌, ◌+◌, ◌*◌, ◌-◌, ◌-ℤ◌, ◌<ℤ◌, ◌∷◌, [], ◌&&◌, ℕ, ℤ};
+ghost use Rattle.std.specs.Prelude.{◌≡◌, ◌<◌, ◌≤◌, ◌+◌, ◌*◌, ◌-◌, ◌-ℤ◌, ◌<ℤ◌, ◌∷◌, [], ◌&&◌};
 ghost use Rattle.std.specs.Prelude.{Bool, true, not, pos, map, length, vec_len, sum, sum_by, All};
 ghost use Rattle.std.specs.Prelude.{unsigned_abs, IfOk, OnOk};
 ghost use Rattle.sums.specs.Sums.{count_if};
 ghost use Rattle.label_field.specs.Limits.{pair_limit};
-ghost use Rattle.label_field.specs.PairLists.{IsPairList};
-ghost use Rattle.labellings.specs.declared.change.Move.{Move};
-ghost use Rattle.labellings.specs.Energies.{Instance};
 ghost use Rattle.pseudo_bool.specs.Energies.{IsValue};
 ghost use Rattle.pseudo_bool.specs.Limits.{term_limit};
 ghost use Rattle.regular.specs.Regularity.{IsRegularTable};
 ghost use Rattle.compile_cut.specs.Quadratics.{IsQuadraticBounded};
 ghost use Rattle.compile_cut.specs.Weights.{weights_size};
-ghost use Rattle.move_energy.specs.BySite.{AreBySite, degree, neighbours_start, neighbour_at, is_counted};
-ghost use Rattle.move_energy.specs.BySite.{met_at, pair_beside as beside_at};
+ghost use Rattle.move_energy.specs.BySite.{degree, neighbours_start};
+ghost use Rattle.move_energy.specs.BySite.{pair_beside as beside_at};
 ghost use Rattle.move_energy.specs.Built.{AddsCost, IsLonger};
-ghost use Rattle.move_energy.specs.Choices.{choice_at, open_at, open_rank, open_count, IsNumbering};
-ghost use Rattle.move_energy.specs.Choices.{AreOpenSites};
+ghost use Rattle.move_energy.specs.Choices.{choice_at, open_at, open_count, IsNumbering};
 ghost use Rattle.move_energy.specs.Limits.{surplus_limit, weights_limit};
-ghost use Rattle.move_energy.specs.Weights.{pair_surplus as surplus_between, unsaved_surplus};
+ghost use Rattle.move_energy.specs.Weights.{pair_surplus as surplus_between};
 ghost use Rattle.closing_in.specs.Borders.{border_at, is_beyond as beyond_of, not_ones, range_of};
 ghost use Rattle.closing_in.specs.Borders.{is_inside as inside_of};
-ghost use Rattle.strips.specs.Building.{TakesPairs, GivesSmall, GivesSurpluses, IsMoveOver};
+ghost use Rattle.strips.specs.Building.{CanAsk, CanBuild, WhereSaved, AreStripSites, view_by};
+ghost use Rattle.strips.specs.Building.{AreStartWeights, AreWeighed};
+ghost use Rattle.strips.specs.Building.{counts_in, met_inside, unsaved_in, unsaved_at};
+ghost use Rattle.strips.specs.Building.{border_of_site, weight_by_now};
 ghost use Rattle.strips.specs.Limits.{borders_limit};
-ghost use Rattle.strips.specs.Views.{strip_view, weight_now};
 
+use crate::material::{Material, StripSites};
 use compile_cut::Quadratic;
-use label_field::{Pair, Pairs};
-use move_energy::{Choice, Neighbours, pair_beside};
+use label_field::Pair;
+use move_energy::{Choice, pair_beside};
 use std::alloc::AllocError;
 
 /// Whether a site that was open at the start is at 1 by now.
@@ -66,29 +65,25 @@ fn is_inside(known: &[Choice], from: u32, to: u32, site: u32) -> bool
 #[inline]
 fn counted_surplus<S: Fn(Pair) -> i64>(
     savings: &S,
-    pairs: &Pairs,
-    ends: &Neighbours,
+    material: &Material,
     site: u32,
     place: u32,
     counts: bool,
 ) -> i64
-    requires takes { TakesPairs (S.pre savings.now) pairs.now ends.now }
-    requires small { GivesSmall (S.post savings.now) }
-    requires pairs { IsPairList pairs.now }
-    requires by_site { AreBySite pairs.now ends.now }
-    requires site { site < pairs.now.sites }
-    requires place { (neighbours_start ends.now site ≤ place)
-        × (place < neighbours_start ends.now (site + 1)) }
-    ensures value { (m : Instance) (move : Move) (f : ℕ → ℕ) →
-        GivesSurpluses (S.post savings.now) m move f → IsMoveOver pairs.now m move f →
-        result ≡ pos (count_if counts
-        (surplus_between m move f (beside_at ends.now site place))) }
+    requires ask { CanAsk (S.pre savings.now) (S.post savings.now) material.now }
+    requires can { CanBuild material.now }
+    requires site { site < material.now.pairs.now.sites }
+    requires place { (neighbours_start material.now.ends.now site ≤ place)
+        × (place < neighbours_start material.now.ends.now (site + 1)) }
+    ensures value { WhereSaved (S.post savings.now) material.now (λ m move f. result
+        ≡ pos (count_if counts
+        (surplus_between m move f (beside_at material.now.ends.now site place)))) }
     ensures range { unsigned_abs result ≤ surplus_limit }
 {
     if !counts {
         return 0;
     }
-    let pair = pair_beside(pairs, ends, site, place);
+    let pair = pair_beside(material.pairs, material.ends, site, place);
     savings(pair)
 }
 
@@ -122,44 +117,35 @@ fn add_saving(form: &mut Quadratic, first: u32, second: u32, surplus: i64) -> Re
 #[inline]
 fn add_inside<S: Fn(Pair) -> i64>(
     savings: &S,
-    pairs: &Pairs,
-    ends: &Neighbours,
+    material: &Material,
+    sites: &StripSites,
     form: &mut Quadratic,
-    known: &[Choice],
-    from: u32,
-    to: u32,
     numbers: &[u32],
     site: u32,
     place: u32,
-    head: u32,
 ) -> Result<(), AllocError>
-    requires takes { TakesPairs (S.pre savings.now) pairs.now ends.now }
-    requires small { GivesSmall (S.post savings.now) }
-    requires pairs { IsPairList pairs.now }
-    requires by_site { AreBySite pairs.now ends.now }
-    requires known { length known.now ≡ pairs.now.sites }
-    requires numbering { IsNumbering (strip_view known.now from to) numbers.now }
-    requires nodes { vec_len form.old.weights ≡ open_count (strip_view known.now from to) }
-    requires site { (site < pairs.now.sites)
-        × (open_at (strip_view known.now from to) site ≡ true) }
-    requires place { (neighbours_start ends.now site ≤ place)
-        × (place < neighbours_start ends.now (site + 1)) }
-    requires head { (head ≡ neighbour_at ends.now place) × (head < pairs.now.sites) }
+    requires ask { CanAsk (S.pre savings.now) (S.post savings.now) material.now }
+    requires can { CanBuild material.now }
+    requires numbering { IsNumbering (view_by sites.now material.now) numbers.now }
+    requires nodes { vec_len form.old.weights ≡ open_count (view_by sites.now material.now) }
+    requires site { (site < material.now.pairs.now.sites)
+        × (open_at (view_by sites.now material.now) site ≡ true) }
+    requires place { (neighbours_start material.now.ends.now site ≤ place)
+        × (place < neighbours_start material.now.ends.now (site + 1)) }
     requires bounded { IsQuadraticBounded term_limit form.old }
-    ensures longer { OnOk result (IsLonger (count_if
-        (is_counted (open_at (strip_view known.now from to)) site
-        (beside_at ends.now site place)) 1) form.old form.new) }
-    ensures adds { (m : Instance) (move : Move) (f : ℕ → ℕ) →
-        GivesSurpluses (S.post savings.now) m move f → IsMoveOver pairs.now m move f →
-        OnOk result (AddsCost form.old form.new (λ x. count_if
-        (is_counted (open_at (strip_view known.now from to)) site (beside_at ends.now site place))
-        (unsaved_surplus m move f (choice_at (strip_view known.now from to))
-        (open_rank (strip_view known.now from to)) x (beside_at ends.now site place)))) }
+    ensures longer { OnOk result (IsLonger
+        (count_if (counts_in material.now sites.now site place) 1) form.old form.new) }
+    ensures adds { WhereSaved (S.post savings.now) material.now (λ m move f.
+        OnOk result (AddsCost form.old form.new
+        (λ x. count_if (counts_in material.now sites.now site place)
+        (unsaved_in m move f (view_by sites.now material.now) x
+        (beside_at material.now.ends.now site place))))) }
 {
-    if !is_inside(known, from, to, head) {
+    let head = material.ends.heads[place as usize];
+    if !is_inside(material.known, sites.from, sites.to, head) {
         return Ok(());
     }
-    let pair = pair_beside(pairs, ends, site, place);
+    let pair = pair_beside(material.pairs, material.ends, site, place);
     if pair.first != site {
         return Ok(());
     }
@@ -185,60 +171,43 @@ struct SiteBorders {
 /// to other sites of the strip save.
 fn add_row<S: Fn(Pair) -> i64>(
     savings: &S,
-    pairs: &Pairs,
-    ends: &Neighbours,
+    material: &Material,
+    sites: &StripSites,
     form: &mut Quadratic,
-    start: &[Choice],
-    known: &[Choice],
-    from: u32,
-    to: u32,
     numbers: &[u32],
     site: u32,
 ) -> Result<SiteBorders, AllocError>
-    requires takes { TakesPairs (S.pre savings.now) pairs.now ends.now }
-    requires small { GivesSmall (S.post savings.now) }
-    requires pairs { IsPairList pairs.now }
-    requires by_site { AreBySite pairs.now ends.now }
-    requires sizes { (length start.now ≡ pairs.now.sites) × (length known.now ≡ pairs.now.sites) }
-    requires numbering { IsNumbering (strip_view known.now from to) numbers.now }
-    requires nodes { vec_len form.old.weights ≡ open_count (strip_view known.now from to) }
-    requires site { (site < pairs.now.sites)
-        × (open_at (strip_view known.now from to) site ≡ true) }
-    requires met { met_at ends.now (open_at (strip_view known.now from to)) (λ pair. 1) site
-        ≤ term_limit }
-    requires bounded { IsQuadraticBounded (term_limit - met_at ends.now
-        (open_at (strip_view known.now from to)) (λ pair. 1) site) form.old }
-    ensures ones { (m : Instance) (move : Move) (f : ℕ → ℕ) →
-        GivesSurpluses (S.post savings.now) m move f → IsMoveOver pairs.now m move f →
-        IfOk result (λ found. found.ones ≡ pos (border_at m move f
-        (choice_at start.now) (not_ones (choice_at known.now)) site)) }
-    ensures beyond { (m : Instance) (move : Move) (f : ℕ → ℕ) →
-        GivesSurpluses (S.post savings.now) m move f → IsMoveOver pairs.now m move f →
-        IfOk result (λ found. found.beyond ≡ pos (border_at m move f
-        (choice_at known.now) (range_of from to) site)) }
+    requires ask { CanAsk (S.pre savings.now) (S.post savings.now) material.now }
+    requires can { CanBuild material.now }
+    requires numbering { IsNumbering (view_by sites.now material.now) numbers.now }
+    requires nodes { vec_len form.old.weights ≡ open_count (view_by sites.now material.now) }
+    requires site { (site < material.now.pairs.now.sites)
+        × (open_at (view_by sites.now material.now) site ≡ true) }
+    requires met { met_inside material.now sites.now site ≤ term_limit }
+    requires bounded { IsQuadraticBounded (term_limit - met_inside material.now sites.now site)
+        form.old }
+    ensures ones { WhereSaved (S.post savings.now) material.now (λ m move f. IfOk result (λ found.
+        found.ones ≡ pos (border_at m move f (choice_at material.now.start.now)
+        (not_ones (choice_at material.now.known.now)) site))) }
+    ensures beyond { WhereSaved (S.post savings.now) material.now (λ m move f. IfOk result (λ found.
+        found.beyond ≡ pos (border_of_site m move f material.now sites.now site))) }
     ensures range { IfOk result (λ found.
-        (unsigned_abs found.ones ≤ surplus_limit * degree ends.now site)
-        × (unsigned_abs found.beyond ≤ surplus_limit * degree ends.now site)) }
-    ensures longer { OnOk result (IsLonger (met_at ends.now (open_at (strip_view known.now from to))
-        (λ pair. 1) site) form.old form.new) }
-    ensures adds { (m : Instance) (move : Move) (f : ℕ → ℕ) →
-        GivesSurpluses (S.post savings.now) m move f → IsMoveOver pairs.now m move f →
-        OnOk result (AddsCost form.old form.new (λ x. met_at ends.now
-        (open_at (strip_view known.now from to)) (unsaved_surplus m move f
-        (choice_at (strip_view known.now from to)) (open_rank (strip_view known.now from to)) x)
-        site)) }
+        (unsigned_abs found.ones ≤ surplus_limit * degree material.now.ends.now site)
+        × (unsigned_abs found.beyond ≤ surplus_limit * degree material.now.ends.now site)) }
+    ensures longer { OnOk result
+        (IsLonger (met_inside material.now sites.now site) form.old form.new) }
+    ensures adds { WhereSaved (S.post savings.now) material.now (λ m move f. OnOk result
+        (AddsCost form.old form.new (λ x. unsaved_at m move f material.now sites.now x site))) }
 {
     let mut ones = 0i64;
     let mut beyond = 0i64;
-    for place in ends.starts[site as usize]..ends.starts[site as usize + 1] {
-        let head = ends.heads[place as usize];
-        let one = is_one(start, known, head);
-        let past = is_beyond(known, from, to, head);
-        ones += counted_surplus(savings, pairs, ends, site, place, one);
-        beyond += counted_surplus(savings, pairs, ends, site, place, past);
-        add_inside(
-            savings, pairs, ends, form, known, from, to, numbers, site, place, head,
-        )?;
+    for place in material.ends.starts[site as usize]..material.ends.starts[site as usize + 1] {
+        let head = material.ends.heads[place as usize];
+        let one = is_one(material.start, material.known, head);
+        let past = is_beyond(material.known, sites.from, sites.to, head);
+        ones += counted_surplus(savings, material, site, place, one);
+        beyond += counted_surplus(savings, material, site, place, past);
+        add_inside(savings, material, sites, form, numbers, site, place)?;
     }
     Ok(SiteBorders { ones, beyond })
 }
@@ -247,61 +216,44 @@ fn add_row<S: Fn(Pair) -> i64>(
 /// the form what pairs of two of them save.
 pub(crate) fn add_rows<S: Fn(Pair) -> i64>(
     savings: &S,
-    pairs: &Pairs,
-    ends: &Neighbours,
+    material: &Material,
+    sites: &StripSites,
     form: &mut Quadratic,
-    start: &[Choice],
-    known: &[Choice],
-    weights: &[i64],
-    opened: &[u32],
-    from: u32,
-    to: u32,
     numbers: &[u32],
     list: &mut Vec<i64>,
     borders: &mut Vec<u64>,
 ) -> Result<(), AllocError>
-    requires takes { TakesPairs (S.pre savings.now) pairs.now ends.now }
-    requires small { GivesSmall (S.post savings.now) }
-    requires pairs { IsPairList pairs.now }
-    requires by_site { AreBySite pairs.now ends.now }
-    requires sizes { (length start.now ≡ pairs.now.sites) × (length known.now ≡ pairs.now.sites) }
-    requires count { length weights.now ≡ pairs.now.sites }
-    requires size { weights_size weights.now ≤ weights_limit }
-    requires opened { AreOpenSites (strip_view known.now from to) opened.now }
-    requires numbering { IsNumbering (strip_view known.now from to) numbers.now }
-    requires nodes { vec_len form.old.weights ≡ open_count (strip_view known.now from to) }
+    requires ask { CanAsk (S.pre savings.now) (S.post savings.now) material.now }
+    requires can { CanBuild material.now }
+    requires opened { AreStripSites material.now sites.now }
+    requires weighed { AreWeighed sites.now }
+    requires numbering { IsNumbering (view_by sites.now material.now) numbers.now }
+    requires nodes { vec_len form.old.weights ≡ open_count (view_by sites.now material.now) }
     requires bounded { IsQuadraticBounded 0 form.old }
-    ensures count { OnOk result ((length list.new.items ≡ length opened.now)
-        × (length borders.new.items ≡ length opened.now)) }
+    ensures count { OnOk result ((length list.new.items ≡ length sites.now.opened.now)
+        × (length borders.new.items ≡ length sites.now.opened.now)) }
     ensures size { OnOk result (weights_size list.new.items ≤ weights_limit + borders_limit) }
     ensures small { OnOk result (sum borders.new.items ≤ borders_limit) }
     ensures nodes { OnOk result (vec_len form.new.weights ≡ vec_len form.old.weights) }
     ensures bounded { OnOk result (IsQuadraticBounded pair_limit form.new) }
-    ensures weights { (m : Instance) (move : Move) (f : ℕ → ℕ) →
-        GivesSurpluses (S.post savings.now) m move f → IsMoveOver pairs.now m move f →
-        OnOk result (list.new.items ≡ map (weight_now m move f
-        (choice_at start.now) (choice_at known.now) weights.now) opened.now) }
-    ensures borders { (m : Instance) (move : Move) (f : ℕ → ℕ) →
-        GivesSurpluses (S.post savings.now) m move f → IsMoveOver pairs.now m move f →
-        OnOk result (borders.new.items ≡ map (border_at m move f
-        (choice_at known.now) (range_of from to)) opened.now) }
-    ensures adds { (m : Instance) (move : Move) (f : ℕ → ℕ) →
-        GivesSurpluses (S.post savings.now) m move f → IsMoveOver pairs.now m move f →
-        OnOk result (AddsCost form.old form.new (λ x. sum_by (met_at ends.now
-        (open_at (strip_view known.now from to)) (unsaved_surplus m move f
-        (choice_at (strip_view known.now from to)) (open_rank (strip_view known.now from to)) x))
-        opened.now)) }
+    ensures weights { WhereSaved (S.post savings.now) material.now (λ m move f.
+        AreStartWeights material.now sites.now m move f → OnOk result
+        (list.new.items ≡ map (weight_by_now m move f material.now) sites.now.opened.now)) }
+    ensures borders { WhereSaved (S.post savings.now) material.now (λ m move f. OnOk result
+        (borders.new.items
+        ≡ map (border_of_site m move f material.now sites.now) sites.now.opened.now)) }
+    ensures adds { WhereSaved (S.post savings.now) material.now (λ m move f. OnOk result
+        (AddsCost form.old form.new (λ x.
+        sum_by (unsaved_at m move f material.now sites.now x) sites.now.opened.now))) }
 {
     list.clear();
     borders.clear();
-    list.reserve(opened.len())?;
-    borders.reserve(opened.len())?;
-    for index in 0..opened.len() {
-        let site = opened[index];
-        let found = add_row(
-            savings, pairs, ends, form, start, known, from, to, numbers, site,
-        )?;
-        list.push_reserved(weights[site as usize] - found.ones);
+    list.reserve(sites.opened.len())?;
+    borders.reserve(sites.opened.len())?;
+    for index in 0..sites.opened.len() {
+        let site = sites.opened[index];
+        let found = add_row(savings, material, sites, form, numbers, site)?;
+        list.push_reserved(sites.weights[index] - found.ones);
         borders.push_reserved(found.beyond.unsigned_abs());
     }
     Ok(())

@@ -1,5 +1,5 @@
 -- Which named costs are a metric, and nothing but a move tells a pair.
-use Rattle.std.proofs.Common.{◌≡◌, ◌≢◌, ℕ, ◌+◌, ◌<◌, ◌≤◌, ◌==◌, ◌⊎◌, List, ℤ, if◌then◌else◌, inl, inr, refl, subst, arith}
+use Rattle.std.proofs.Common.{◌≡◌, ◌≢◌, ℕ, ◌<◌, ◌≤◌, ◌⊎◌, List, ℤ, inl, inr, refl, subst}
 use Rattle.cost_store.specs.Promises.{IsMetricTable, IsTable}
 use Rattle.cost_store.proofs.Metrics.{linear_metric, potts_metric, table_of_metric}
 use Rattle.labellings.specs.Energies.{IsMetric}

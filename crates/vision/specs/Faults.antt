@@ -20,19 +20,12 @@ use Rattle.run_options.specs.declared.options.SegmentOptions.{SegmentOptions}
 use Rattle.vision.specs.Inputs.{HoldsPicture, HoldsTwo, SameSizes, RefusesSecond, IsRestoreJob, IsStereoJob, IsSegmentJob}
 use Rattle.vision.specs.Jobs.{Job, RefusesMove, StopsAfter}
 use Rattle.vision.specs.declared.error.VisionError.{VisionError}
-use Rattle.vision.specs.declared.error.VisionError.TheVariants.{OutOfMemory, NotPgm, BadHeader, ZeroSize, TooLarge, BadMaxval, Truncated, SampleAboveMax, BadSample, SizesDiffer, BadSeed, TooManyLevels, PairNotRegular, LabelCostInSwap, Workers, BadOptions, Write}
+use Rattle.vision.specs.declared.error.VisionError.TheVariants.{OutOfMemory, Image, SizesDiffer, BadSeed, TooManyLevels, PairNotRegular, LabelCostInSwap, Workers, BadOptions, Write}
 
--- why there is no image, as a command tells it
+-- why there is no image, as a command tells it: memory as memory, whoever asked for it
 abbrev pub image_error : PgmError → VisionError
 image_error image.OutOfMemory = OutOfMemory
-image_error image.NotPgm = NotPgm
-image_error (image.BadHeader at) = BadHeader at
-image_error image.ZeroSize = ZeroSize
-image_error image.TooLarge = TooLarge
-image_error image.BadMaxval = BadMaxval
-image_error image.Truncated = Truncated
-image_error (image.SampleAboveMax index) = SampleAboveMax index
-image_error (image.BadSample at) = BadSample at
+image_error reason = Image reason
 
 -- the error tells why a run was refused: never for a label, nor for want of a bound
 abbrev pub TellsRun : MoveError → VisionError → Type 0

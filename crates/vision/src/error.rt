@@ -20,30 +20,9 @@ pub enum VisionError {
     /// Memory was refused, whoever asked for it.
     #[error("out of memory")]
     OutOfMemory,
-    /// Neither `P5` nor `P2` stands where an image is to begin.
-    #[error("not a PGM image")]
-    NotPgm,
-    /// The header of an image cannot go on at this position, or the input ends there within it.
-    #[error("the header cannot go on at byte {0}")]
-    BadHeader(usize),
-    /// The width or the height of an image is 0.
-    #[error("an image without samples")]
-    ZeroSize,
-    /// An image is above the limits of its sizes.
-    #[error("an image above the limits")]
-    TooLarge,
-    /// The maxval of an image is out of its range.
-    #[error("a maxval outside 1 to 65,535")]
-    BadMaxval,
-    /// The input ends before the last sample of an image.
-    #[error("the input ends within the samples")]
-    Truncated,
-    /// The sample of an image with this index is the first above maxval.
-    #[error("sample {0} is above maxval")]
-    SampleAboveMax(usize),
-    /// No sample of an image can go on at this position.
-    #[error("no sample can go on at byte {0}")]
-    BadSample(usize),
+    /// No image stands where one is to begin, for a reason other than memory.
+    #[error("{0}")]
+    Image(PgmError),
     /// The two images differ in width or height.
     #[error("the images differ in size")]
     SizesDiffer,
@@ -81,14 +60,7 @@ impl From<PgmError> for VisionError {
     fn from(reason: PgmError) -> VisionError {
         match reason {
             PgmError::OutOfMemory => VisionError::OutOfMemory,
-            PgmError::NotPgm => VisionError::NotPgm,
-            PgmError::BadHeader(at) => VisionError::BadHeader(at),
-            PgmError::ZeroSize => VisionError::ZeroSize,
-            PgmError::TooLarge => VisionError::TooLarge,
-            PgmError::BadMaxval => VisionError::BadMaxval,
-            PgmError::Truncated => VisionError::Truncated,
-            PgmError::SampleAboveMax(index) => VisionError::SampleAboveMax(index),
-            PgmError::BadSample(at) => VisionError::BadSample(at),
+            reason => VisionError::Image(reason),
         }
     }
 }

@@ -5,7 +5,7 @@ ghost use Rattle.vision.specs.Faults.{HasImageError, HasPairError};
 ghost use Rattle.vision.specs.Inputs.{HoldsPicture, HoldsTwo, IsPastSpaces, SameSizes, refusal_from, position_of};
 
 use crate::VisionError;
-use pgm_image::{Image, PgmError, read_image};
+use pgm_image::{Image, PgmError, is_space, read_image};
 use std::alloc::Global;
 
 /// The image at the front of the input.
@@ -58,11 +58,4 @@ fn past_spaces(input: &[u8], from: usize) -> usize
         at += 1;
     }
     at
-}
-
-/// A blank, TAB, CR or LF.
-fn is_space(byte: u8) -> bool
-    ensures { result ≡ is_space byte }
-{
-    byte == b' ' || byte == b'\t' || byte == b'\r' || byte == b'\n'
 }

@@ -2,13 +2,15 @@
 ghost use Rattle.std.specs.Prelude.{◌≡◌, ◌↔◌, ℕ, ◌+◌, ◌*◌, ◌<◌, ◌≤◌, pos, ◌≤ℤ◌, ◌+ℤ◌, All, IfOk, IfErr, IfSome, IsTrue, MatchResult, OnOk, length, unwrap_or, if◌then◌else◌};
 ghost use Rattle.byte_streams.specs.Streams.{Stops, Takes};
 ghost use Rattle.label_field.specs.LabelFields.{AreSizes};
+ghost use Rattle.label_field.specs.Limits.{label_limit};
 ghost use Rattle.labellings.specs.Energies.{Instance};
-ghost use Rattle.cost_store.specs.Limits.{data_limit, smooth_limit};
+ghost use Rattle.cost_store.specs.Limits.{data_energy_limit, data_limit, label_energy_limit};
+ghost use Rattle.cost_store.specs.Limits.{smooth_energy_limit, smooth_limit};
 ghost use Rattle.cost_store.specs.LabelCosts.{cost_at, AreLabelCosts, HasCosts, costs_of};
 ghost use Rattle.cost_store.specs.Promises.{IsCost, IsMetricTable, IsTable, Keeps};
 ghost use Rattle.moves.specs.Instances.{IsInstanceOf};
 ghost use Rattle.moves.specs.Runs.{IsRunInRange};
-ghost use Rattle.pgm_image.specs.Picture.{IsPicture, picture};
+ghost use Rattle.pgm_image.specs.Picture.{IsPicture, maxval_limit, picture};
 ghost use Rattle.pgm_image.specs.Written.{written_form};
 ghost use Rattle.run_options.specs.Limits.{greatest_label_cost, trunc_limit};
 ghost use Rattle.run_options.specs.Shapes.{shape_cost};
@@ -36,6 +38,15 @@ pub(crate) struct Plan {
     pub maxval: u32,
 }
 
+/// What pairs of labels and labels by themselves cost: a table of smooth costs, whether they are a
+/// metric, and what each label costs, if any does.
+#[derive(Drop)]
+pub(crate) struct LabelPrices<'a> {
+    pub smooth: &'a [i64],
+    pub by_metric: bool,
+    pub label_costs: Option<Vec<i64>>,
+}
+
 /// A picture that is ready to be written, and what its labels cost.
 #[derive(Drop)]
 pub(crate) struct Finished {
@@ -51,33 +62,31 @@ pub(crate) fn run_job<F: Fn(u32, u32) -> i64 + Sync, H: How>(
     plan: Plan,
     pairs: Pairs,
     data_cost: DataCost<F>,
-    smooth: &[i64],
-    by_metric: bool,
-    label_costs: Option<Vec<i64>>,
+    prices: LabelPrices,
     how: &H,
 ) -> Result<Finished, VisionError>
     requires ready { H.ready how.now }
     requires sites { (data_cost.sites ≡ picture.now.width * picture.now.height)
         × (pairs.sites ≡ picture.now.width * picture.now.height) }
-    requires labels { (1 ≤ data_cost.labels) × (data_cost.labels ≤ 256) }
+    requires labels { (1 ≤ data_cost.labels) × (data_cost.labels ≤ label_limit) }
     requires maxval { (1 ≤ plan.maxval) × (data_cost.labels ≤ plan.maxval + 1)
-        × (plan.maxval ≤ 65535) }
+        × (plan.maxval ≤ maxval_limit) }
     requires costs { Keeps (F.pre data_cost.f) (F.post data_cost.f) data_cost.sites data_cost.labels
         data_limit }
-    requires smooth { (length smooth.now ≡ data_cost.labels * data_cost.labels)
-        × All (IsCost smooth_limit) smooth.now }
-    requires known { IsTrue by_metric ↔ IsMetricTable data_cost.labels smooth.now }
-    requires label_costs { AreLabelCosts data_cost.labels label_costs }
+    requires smooth { (length prices.smooth.now ≡ data_cost.labels * data_cost.labels)
+        × All (IsCost smooth_limit) prices.smooth.now }
+    requires known { IsTrue prices.by_metric ↔ IsMetricTable data_cost.labels prices.smooth.now }
+    requires label_costs { AreLabelCosts data_cost.labels prices.label_costs }
     ensures run { (m : Instance) →
-        IsInstanceOf (F.post data_cost.f) pairs data_cost.labels smooth.now m →
-        HasCosts m label_costs →
+        IsInstanceOf (F.post data_cost.f) pairs data_cost.labels prices.entry.smooth.now m →
+        HasCosts m prices.entry.label_costs →
         MatchResult result (IsReadyToWrite
         (job_of m plan.moves plan.cycles plan.bound picture.now plan.maxval))
         (HasRunError (H.refuses how.now)
         (job_of m plan.moves plan.cycles plan.bound picture.now plan.maxval)) }
-    ensures metric { IsMetricTable data_cost.labels smooth.now → (m : Instance) →
-        IsInstanceOf (F.post data_cost.f) pairs data_cost.labels smooth.now m →
-        HasCosts m label_costs →
+    ensures metric { IsMetricTable data_cost.labels prices.entry.smooth.now → (m : Instance) →
+        IsInstanceOf (F.post data_cost.f) pairs data_cost.labels prices.entry.smooth.now m →
+        HasCosts m prices.entry.label_costs →
         IfErr result (λ e. ¬ IsOfPair e) }
 {
     let _valid = picture.samples();
@@ -86,9 +95,9 @@ pub(crate) fn run_job<F: Fn(u32, u32) -> i64 + Sync, H: How>(
         alloc,
         pairs,
         data_cost,
-        smooth,
-        by_metric,
-        label_costs,
+        prices.smooth,
+        prices.by_metric,
+        prices.label_costs,
         Request {
             start,
             moves: plan.moves,
@@ -107,10 +116,10 @@ pub(crate) fn run_job<F: Fn(u32, u32) -> i64 + Sync, H: How>(
 fn finish(alloc: Global, source: &Image, plan: Plan, run: &Run) -> Result<Finished, AllocError>
     requires sites { length run.now.labelling.at ≡ source.now.width * source.now.height }
     requires labels { run.now.labelling.labels ≤ plan.maxval + 1 }
-    requires maxval { (1 ≤ plan.maxval) × (plan.maxval ≤ 65535) }
-    requires data { (pos 0 ≤ℤ run.now.«data») × (run.now.«data» ≤ℤ pos 10485760000000) }
-    requires smooth { (pos 0 ≤ℤ run.now.smooth) × (run.now.smooth ≤ℤ pos 41943040000000) }
-    requires label { (pos 0 ≤ℤ run.now.label) × (run.now.label ≤ℤ pos 2560000000) }
+    requires maxval { (1 ≤ plan.maxval) × (plan.maxval ≤ maxval_limit) }
+    requires data { (pos 0 ≤ℤ run.now.«data») × (run.now.«data» ≤ℤ pos data_energy_limit) }
+    requires smooth { (pos 0 ≤ℤ run.now.smooth) × (run.now.smooth ≤ℤ pos smooth_energy_limit) }
+    requires label { (pos 0 ≤ℤ run.now.label) × (run.now.label ≤ℤ pos label_energy_limit) }
     ensures image { IfOk result (λ f. f.image
         ≡ picture source.now.width source.now.height plan.maxval run.now.labelling.at) }
     ensures valid { IfOk result (λ f. IsPicture f.image) }
@@ -132,9 +141,9 @@ fn finish(alloc: Global, source: &Image, plan: Plan, run: &Run) -> Result<Finish
 
 /// What a run says of its labels, and of how near they are where that is asked for.
 fn report_of(asked: bool, run: &Run) -> Report
-    requires data { (pos 0 ≤ℤ run.now.«data») × (run.now.«data» ≤ℤ pos 10485760000000) }
-    requires smooth { (pos 0 ≤ℤ run.now.smooth) × (run.now.smooth ≤ℤ pos 41943040000000) }
-    requires label { (pos 0 ≤ℤ run.now.label) × (run.now.label ≤ℤ pos 2560000000) }
+    requires data { (pos 0 ≤ℤ run.now.«data») × (run.now.«data» ≤ℤ pos data_energy_limit) }
+    requires smooth { (pos 0 ≤ℤ run.now.smooth) × (run.now.smooth ≤ℤ pos smooth_energy_limit) }
+    requires label { (pos 0 ≤ℤ run.now.label) × (run.now.label ≤ℤ pos label_energy_limit) }
     ensures { result ≡ record {
       energy = (run.now.«data» +ℤ run.now.smooth) +ℤ run.now.label;
       data_part = run.now.«data»;
@@ -163,11 +172,7 @@ fn if_asked(asked: bool, bound: Option<Bound>) -> Option<Bound>
 fn samples_of(alloc: Global, labels: &[u8]) -> Result<Vec<u16>, AllocError>
     ensures { IfOk result (λ samples. samples.items ≡ labels.now) }
 {
-    let mut samples = Vec::with_capacity(alloc, labels.len())?;
-    for label in labels {
-        samples.push_reserved(u16::from(*label));
-    }
-    Ok(samples)
+    labels.iter().map(|label| u16::from(*label)).collect(alloc)
 }
 
 /// The table of a smooth cost.
@@ -177,7 +182,7 @@ pub(crate) fn smooth_costs(
     trunc: u32,
     labels: u32,
 ) -> Result<Vec<i64>, AllocError>
-    requires labels { labels ≤ 256 }
+    requires labels { labels ≤ label_limit }
     requires trunc { trunc ≤ trunc_limit }
     ensures table { IfOk result
         (λ table. IsTable labels labels (shape_cost shape trunc) table.items) }

@@ -1,6 +1,7 @@
 //! Restoring a picture.
 ghost use Rattle.std.specs.Prelude.{◌≡◌, ◌≢◌, ◌+◌, ◌<◌, ◌≤◌, pos, IfOk, IfErr, MatchResult, length, slice_index};
 ghost use Rattle.label_field.specs.Grids.{distance};
+ghost use Rattle.label_field.specs.Limits.{label_limit};
 ghost use Rattle.run_options.specs.Ranges.{AreRestoreOptions};
 ghost use Rattle.run_options.specs.declared.shape.Shape.TheVariants.{Quadratic};
 ghost use Rattle.vision.specs.Faults.{HasRestoreError, HasRunError, IsWrite, LeavesWriter, IsOfPair};
@@ -9,7 +10,7 @@ ghost use Rattle.vision.specs.Jobs.{WritesPicture, IsReadyToWrite, Job, restore_
 
 use crate::inputs::read_one;
 use crate::job::{
-    Finished, Plan, equal_costs, is_metric_cost, put_finished, run_job, smooth_costs,
+    Finished, LabelPrices, Plan, equal_costs, is_metric_cost, put_finished, run_job, smooth_costs,
 };
 use crate::pairs::pairs_of;
 use crate::{Report, VisionError};
@@ -33,7 +34,7 @@ const LEVEL_LIMIT: u32 = 255;
 /// written before the last move is finished. What follows the image in the input is not looked at.
 ///
 /// Refused, the first that holds: as `read_image` is where no image is at the front of the input
-/// (`NotPgm` to `BadSample`), `TooManyLevels` where maxval is above 255, as the run of moves is
+/// (`Image`), `TooManyLevels` where maxval is above 255, as the run of moves is
 /// (`PairNotRegular` to `BadOptions`): of `LabelCostInSwap` exactly where swaps are asked for and
 /// the label cost is above 0; `Write` where the sink failed, which then took the first bytes of the
 /// picture's written form, as many as are told. `OutOfMemory` may come before the first byte is
@@ -106,23 +107,18 @@ fn restore<H: How>(
     let plan = restore_plan(options, maxval);
     let data_cost = DataCost::new(
         |site: u32, label: u32| -> i64
-            requires { (site < length samples.now) × (label < 256) }
+            requires { (site < length samples.now) × (label < label_limit) }
             ensures { result ≡ pos (distance (slice_index samples.entry.now site) label) }
         { i64::from(u32::from(samples[site as usize]).abs_diff(label)) },
         picture.width() * picture.height(),
         maxval + 1,
     );
-    run_job(
-        alloc,
-        picture,
-        plan,
-        pairs,
-        data_cost,
-        table,
+    let prices = LabelPrices {
+        smooth: table,
         by_metric,
         label_costs,
-        how,
-    )
+    };
+    run_job(alloc, picture, plan, pairs, data_cost, prices, how)
 }
 
 /// The plan of a restoring that keeps this maxval.

@@ -8,7 +8,9 @@ ghost use Rattle.vision.specs.Jobs.{WritesPicture, IsReadyToWrite, Job, segment_
 ghost use Rattle.vision.specs.Problems.{part_cost};
 
 use crate::inputs::read_two;
-use crate::job::{Finished, Plan, is_metric_cost, put_finished, run_job, smooth_costs};
+use crate::job::{
+    Finished, LabelPrices, Plan, is_metric_cost, put_finished, run_job, smooth_costs,
+};
 use crate::pairs::edge_pairs;
 use crate::{Report, VisionError};
 use byte_streams::Sink;
@@ -37,7 +39,7 @@ const SEED_COST: u32 = 10_000_000;
 /// not looked at.
 ///
 /// Refused, the first that holds: as `read_image` is where no image is at the front of the input,
-/// or none behind it (`NotPgm` to `BadSample`), `SizesDiffer` where they differ in width or height,
+/// or none behind it (`Image`), `SizesDiffer` where they differ in width or height,
 /// `BadSeed` with the first seed above 2, as the run of moves is (`Workers`, `BadOptions`), but
 /// never for a pair, `Write` where the sink failed, which then took the first bytes of the
 /// picture's written form, as many as are told. `OutOfMemory` may come before the first byte is
@@ -138,9 +140,12 @@ fn part<H: How>(
         picture.width() * picture.height(),
         2,
     );
-    run_job(
-        alloc, picture, plan, pairs, data_cost, table, by_metric, None, how,
-    )
+    let prices = LabelPrices {
+        smooth: table,
+        by_metric,
+        label_costs: None,
+    };
+    run_job(alloc, picture, plan, pairs, data_cost, prices, how)
 }
 
 /// What a label costs a pixel of this sample and this seed.

@@ -10,7 +10,9 @@ ghost use Rattle.vision.specs.Jobs.{WritesPicture, IsReadyToWrite, Job, stereo_j
 ghost use Rattle.vision.specs.Problems.{AreColumns, cost_by_columns};
 
 use crate::inputs::read_two;
-use crate::job::{Finished, Plan, is_metric_cost, put_finished, run_job, smooth_costs};
+use crate::job::{
+    Finished, LabelPrices, Plan, is_metric_cost, put_finished, run_job, smooth_costs,
+};
 use crate::pairs::pairs_of;
 use crate::{Report, VisionError};
 use byte_streams::Sink;
@@ -33,7 +35,7 @@ use std::alloc::{AllocError, Global};
 /// the second is not looked at.
 ///
 /// Refused, the first that holds: as `read_image` is where no image is at the front of the input,
-/// or none behind it (`NotPgm` to `BadSample`), `SizesDiffer` where they differ in width or height,
+/// or none behind it (`Image`), `SizesDiffer` where they differ in width or height,
 /// as the run of moves is (`PairNotRegular` to `BadOptions`), `Write` where the sink failed, which
 /// then took the first bytes of the picture's written form, as many as are told. `OutOfMemory` may
 /// come before the first byte is written. `Potts` and `Linear` costs are a metric: with them no
@@ -119,9 +121,12 @@ fn match_pictures<H: How>(
         left.width() * left.height(),
         labels,
     );
-    run_job(
-        alloc, left, plan, pairs, data_cost, table, by_metric, None, how,
-    )
+    let prices = LabelPrices {
+        smooth: table,
+        by_metric,
+        label_costs: None,
+    };
+    run_job(alloc, left, plan, pairs, data_cost, prices, how)
 }
 
 /// The greatest number of columns that is told: no shift is greater.

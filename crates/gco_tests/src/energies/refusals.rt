@@ -4,7 +4,7 @@ use crate::rows::expect;
 use crate::streams::{SlowReader, ends};
 use byte_streams::{INPUT_LIMIT, WatchedReader, WriteFailed, read_input};
 use gco_cli::{Fault, line_of};
-use problem_files::EnergyKey;
+use problem_files::{EnergyFault, EnergyKey};
 use regular::{Fixed, NotRegular};
 use std::alloc::{AllocError, Global};
 use std::process::Abort;
@@ -250,11 +250,23 @@ const LINES: &[(Fault, &str)] = &[
         Fault::Write(WriteFailed { count: 4 }),
         "refused 9 after 4\n",
     ),
-    (Fault::NoSuchVariable(0), "refused 16 term 0\n"),
-    (Fault::SameVariable(7), "refused 17 term 7\n"),
-    (Fault::ValueRange(8_388_607), "refused 18 term 8388607\n"),
-    (Fault::ConstantRange, "refused 18 constant\n"),
-    (Fault::TooManyTerms, "refused 19\n"),
+    (
+        Fault::EnergyFile(EnergyFault::NoSuchVariable(0)),
+        "refused 16 term 0\n",
+    ),
+    (
+        Fault::EnergyFile(EnergyFault::SameVariable(7)),
+        "refused 17 term 7\n",
+    ),
+    (
+        Fault::EnergyFile(EnergyFault::ValueRange(8_388_607)),
+        "refused 18 term 8388607\n",
+    ),
+    (
+        Fault::EnergyFile(EnergyFault::ConstantRange),
+        "refused 18 constant\n",
+    ),
+    (Fault::EnergyFile(EnergyFault::TooManyTerms), "refused 19\n"),
     (
         Fault::TermNotRegular(NotRegular {
             term: 0,
@@ -272,13 +284,13 @@ const LINES: &[(Fault, &str)] = &[
         }),
         "refused 20 term 10 fixed 2 at 1\n",
     ),
-    (Fault::BadToml, "refused 28\n"),
+    (Fault::EnergyFile(EnergyFault::BadToml), "refused 28\n"),
     (
-        Fault::BadEnergyField(EnergyKey::Variables),
+        Fault::EnergyFile(EnergyFault::BadField(EnergyKey::Variables)),
         "refused 29 variables\n",
     ),
     (
-        Fault::BadEnergyElement(EnergyKey::Terms, 3),
+        Fault::EnergyFile(EnergyFault::BadElement(EnergyKey::Terms, 3)),
         "refused 29 terms 3\n",
     ),
     (Fault::ReadFailed, "refused 31\n"),

@@ -13,5 +13,5 @@ invariant-loop-index g l = record {
   small : unsigned_abs l.total ≤ 20000000 * l.index;
   so_far : (m : Instance) → IsMeant g.F.Fn g.V.Fn l.problem m → IsAllowed m l.change (labelling l.at)
       → l.total ≡ pos (sum_below l.index (λ k. pair_border m l.change (labelling l.at) (choice_at l.choices)
-      (range_of l.from l.to) l.site (pair_of l.ends l.site k)));
+      (range_of l.range.from l.range.to) l.site (pair_of l.ends l.site k)));
 }

@@ -9,10 +9,10 @@ use Rattle.deciding.proofs.reading.read_rises.Given as goal
 
 abbrev pub invariant-loop-place : goal.invariant-loop-place
 invariant-loop-place l = record {
-  least_small : unsigned_abs l.least ≤ 10000000 + 10000000 * (l.place - neighbours_start l.ends l.site);
-  greatest_small : unsigned_abs l.greatest ≤ 10000000 + 10000000 * (l.place - neighbours_start l.ends l.site);
-  least : (m : Instance) (move : Move) → AreRisesOf m move l.pairs l.table l.own l.at
-      → l.least ≡ risen m move (labelling l.at) l.ends l.site (decided_or l.known true) (l.place - neighbours_start l.ends l.site);
-  greatest : (m : Instance) (move : Move) → AreRisesOf m move l.pairs l.table l.own l.at
-      → l.greatest ≡ risen m move (labelling l.at) l.ends l.site (decided_or l.known false) (l.place - neighbours_start l.ends l.site);
+  least_small : unsigned_abs l.least ≤ 10000000 + 10000000 * (l.place - neighbours_start l.numbers.ends.now l.site);
+  greatest_small : unsigned_abs l.greatest ≤ 10000000 + 10000000 * (l.place - neighbours_start l.numbers.ends.now l.site);
+  least : (m : Instance) (move : Move) → AreRisesOf m move l.numbers
+      → l.least ≡ risen m move (labelling l.numbers.at.now) l.numbers.ends.now l.site (decided_or l.known true) (l.place - neighbours_start l.numbers.ends.now l.site);
+  greatest : (m : Instance) (move : Move) → AreRisesOf m move l.numbers
+      → l.greatest ≡ risen m move (labelling l.numbers.at.now) l.numbers.ends.now l.site (decided_or l.known false) (l.place - neighbours_start l.numbers.ends.now l.site);
 }

@@ -10,12 +10,12 @@ use Rattle.deciding.proofs.rising.site_rises.Given as goal
 
 abbrev pub invariant-loop-place : goal.invariant-loop-place
 invariant-loop-place g l = record {
-  least_small : unsigned_abs l.least ≤ 10000000 + 10000000 * (l.place - neighbours_start l.ends l.site);
-  greatest_small : unsigned_abs l.greatest ≤ 10000000 + 10000000 * (l.place - neighbours_start l.ends l.site);
-  least : (m : Instance) → IsMeant g.F.Fn g.V.Fn l.problem m
-      → l.least ≡ risen m l.change (labelling l.at) l.ends l.site (decided_or l.choices true) (l.place - neighbours_start l.ends l.site);
-  greatest : (m : Instance) → IsMeant g.F.Fn g.V.Fn l.problem m
-      → l.greatest ≡ risen m l.change (labelling l.at) l.ends l.site (decided_or l.choices false) (l.place - neighbours_start l.ends l.site);
-  alone : l.beside ≡ false → (p u : ℕ) → neighbours_start l.ends l.site ≤ p → p < l.place → u < l.site → choice_at l.choices u ≡ Open
-      → AvoidsSite u (pair_beside l.ends l.site p);
+  least_small : unsigned_abs l.least ≤ 10000000 + 10000000 * (l.place - neighbours_start l.step.ends.now l.site);
+  greatest_small : unsigned_abs l.greatest ≤ 10000000 + 10000000 * (l.place - neighbours_start l.step.ends.now l.site);
+  least : (m : Instance) → IsMeant g.F.Fn g.V.Fn l.step.problem.now m
+      → l.least ≡ risen m l.step.change (labelling l.step.at.now) l.step.ends.now l.site (decided_or l.choices true) (l.place - neighbours_start l.step.ends.now l.site);
+  greatest : (m : Instance) → IsMeant g.F.Fn g.V.Fn l.step.problem.now m
+      → l.greatest ≡ risen m l.step.change (labelling l.step.at.now) l.step.ends.now l.site (decided_or l.choices false) (l.place - neighbours_start l.step.ends.now l.site);
+  alone : l.beside ≡ false → (p u : ℕ) → neighbours_start l.step.ends.now l.site ≤ p → p < l.place → u < l.site → choice_at l.choices u ≡ Open
+      → AvoidsSite u (pair_beside l.step.ends.now l.site p);
 }

@@ -1,4 +1,4 @@
-use Rattle.std.proofs.Common.{◌≡◌, ◌<◌, ◌∙◌, ℕ, ap, sym, refl, arith}
+use Rattle.std.proofs.Common.{◌∙◌, ℕ, ap, sym, refl, arith}
 use Rattle.move_energy.specs.Weights.{surplus_of, pair_table}
 use Rattle.deciding.proofs.Numbers.{passed_on, passed_range}
 use Rattle.deciding.proofs.Tables.{table_surplus, surplus_small}

@@ -1,4 +1,4 @@
-use Rattle.std.proofs.Common.{◌≡◌, ◌*◌, ◌≤◌, ◌≤ℤ◌, ℕ, pos, sym, subst, arith}
+use Rattle.std.proofs.Common.{◌*◌, ◌≤◌, ◌≤ℤ◌, ℕ, pos, sym, subst, arith}
 use Rattle.std.proofs.lemmas.Int.{ints}
 use Rattle.cost_store.specs.Metrics.{IsMetricOfRatio}
 use Rattle.cost_store.proofs.Metrics.{potts_metric, potts_ratio}

@@ -16,7 +16,7 @@ pub overflow_add-total : goal.overflow_add-total
 overflow_add-total g c =
     let changes = c.requires.changes in
     let short = sites_few changes.chosen (length c.args.at.now) c.args.sites.now changes.listed in
-    let few : c.loop-index.index ≤ 4294967296 = omega (arith, c.loop-index-test.true, short, c.requires.asked.sites, c.requires.posed.pairs.sites) in
+    let few : c.loop-index.index ≤ 4294967296 = omega (arith, c.loop-index-test.true, short, c.requires.valued.asked.sites, c.requires.valued.posed.pairs.sites) in
     rise_fits (to_z w64 c.loop-index.total-bits) c.site_rise-total.result c.loop-index.index 1 c.loop-index.invariant.small c.site_rise-total.ensures.range few (omega arith)
 
 pub loop-index-preserved : goal.loop-index-preserved
@@ -24,7 +24,7 @@ loop-index-preserved g c =
     let a = c.args in
     let changes = c.requires.changes in
     let short = sites_few changes.chosen (length a.at.now) a.sites.now changes.listed in
-    let few : c.loop-index.index ≤ 4194304 = omega (arith, c.loop-index-test.true, short, c.requires.asked.sites, c.requires.posed.pairs.sites) in
+    let few : c.loop-index.index ≤ 4194304 = omega (arith, c.loop-index-test.true, short, c.requires.valued.asked.sites, c.requires.valued.posed.pairs.sites) in
     record {
       small = rise_small (to_z w64 c.loop-index.total-bits) c.site_rise-total.result c.loop-index.index c.loop-index.invariant.small c.site_rise-total.ensures.range few;
       so_far = λ m answers.
@@ -43,10 +43,10 @@ returns-clause-rise g c = λ m answers.
     sites_rise changes.chosen (length a.at.now) a.sites.now new old _ changes.listed
     (λ p l none. ap (m.data_cost p) (unchosen a.change a.at.now a.choices.now a.sites.now p changes l none))
     (rise_all new old a.sites.now c.loop-index.index _ c.loop-index-test.false (c.loop-index.invariant.so_far m answers))
-    ∙ ap (λ n. pos (sum_below n new) -ℤ pos (sum_below n old)) (sym (answers.sites_are ∙ sym c.requires.asked.sites))
+    ∙ ap (λ n. pos (sum_below n new) -ℤ pos (sum_below n old)) (sym (answers.sites_are ∙ sym c.requires.valued.asked.sites))
 
 pub returns-clause-range : goal.returns-clause-range
 returns-clause-range g c =
     let changes = c.requires.changes in
     let short = sites_few changes.chosen (length c.args.at.now) c.args.sites.now changes.listed in
-    omega (arith, c.loop-index.invariant.small, c.loop-index.auto.index-end, short, c.requires.asked.sites, c.requires.posed.pairs.sites)
+    omega (arith, c.loop-index.invariant.small, c.loop-index.auto.index-end, short, c.requires.valued.asked.sites, c.requires.valued.posed.pairs.sites)

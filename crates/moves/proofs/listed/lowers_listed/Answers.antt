@@ -1,4 +1,4 @@
-use Rattle.std.proofs.Common.{◌<◌, IsTrue, List, subst}
+use Rattle.std.proofs.Common.{◌<◌, ◌∙◌, IsTrue, List, length, ap, subst}
 use Rattle.std.specs.Prelude.{◌↔◌}
 use Rattle.labellings.specs.Energies.{labelling, plain_energy}
 use Rattle.labellings.specs.Moves.{labelling_made}
@@ -15,3 +15,17 @@ returns g c = λ m meant.
     (parts_sum c.data_rise_listed-rise.result c.smooth_rise_listed.result c.data_rise_listed-rise.ensures.range c.smooth_rise_listed.ensures.range)
     (c.data_rise_listed-rise.ensures.rise m meant)
     (c.smooth_rise_listed.ensures.rise m meant) c.is_negative.ensures)
+
+pub data_rise_listed-rise-requires-clause-valued : goal.data_rise_listed-rise-requires-clause-valued
+data_rise_listed-rise-requires-clause-valued g c = λ κs lives. record {
+  posed = c.requires.posed;
+  asked = c.requires.asked;
+  count = ap (λ (xs : List Choice). length xs) c.as_slice-choices.ensures.value ∙ c.requires.choices;
+}
+
+pub smooth_rise_listed-requires-clause-valued : goal.smooth_rise_listed-requires-clause-valued
+smooth_rise_listed-requires-clause-valued g c = λ κs lives. record {
+  posed = c.requires.posed;
+  asked = c.requires.asked;
+  count = ap (λ (xs : List Choice). length xs) c.as_slice-choices.ensures.value ∙ c.requires.choices;
+}

@@ -18,10 +18,10 @@ overflow_add-total g c =
     let one = moved_met a.ends.now moved (λ pair. 1) in
     let i = c.loop-index.index in
     let few = counts_few a.problem.now.pairs a.ends.now a.change a.at.now a.choices.now a.sites.now i
-    c.requires.posed.pairs.each c.requires.by_site c.requires.asked.sites c.requires.changes c.loop-index-test.true in
+    c.requires.valued.posed.pairs.each c.requires.by_site c.requires.valued.asked.sites c.requires.changes c.loop-index-test.true in
     (rise_fits (to_z w64 c.loop-index.total-bits) c.moved_rise-total.result (sum_by one (take i a.sites.now)) (one (get_or a.sites.now i 0))
-    c.loop-index.invariant.small c.moved_rise-total.ensures.range (omega (arith, few.0, c.requires.posed.pairs.count))
-    (omega (arith, few.1, c.requires.posed.pairs.count)))
+    c.loop-index.invariant.small c.moved_rise-total.ensures.range (omega (arith, few.0, c.requires.valued.posed.pairs.count))
+    (omega (arith, few.1, c.requires.valued.posed.pairs.count)))
 
 pub loop-index-preserved : goal.loop-index-preserved
 loop-index-preserved g c =
@@ -32,9 +32,9 @@ loop-index-preserved g c =
     let i = c.loop-index.index in
     let site = get_or a.sites.now i 0 in
     let few = counts_few a.problem.now.pairs a.ends.now a.change a.at.now a.choices.now a.sites.now i
-    c.requires.posed.pairs.each c.requires.by_site c.requires.asked.sites c.requires.changes c.loop-index-test.true in
-    let before : sum_by one (take i a.sites.now) ≤ 4294967296 = omega (arith, few.0, c.requires.posed.pairs.count) in
-    let own : one site ≤ 4294967296 = omega (arith, few.1, c.requires.posed.pairs.count) in
+    c.requires.valued.posed.pairs.each c.requires.by_site c.requires.valued.asked.sites c.requires.changes c.loop-index-test.true in
+    let before : sum_by one (take i a.sites.now) ≤ 4294967296 = omega (arith, few.0, c.requires.valued.posed.pairs.count) in
+    let own : one site ≤ 4294967296 = omega (arith, few.1, c.requires.valued.posed.pairs.count) in
     record {
       small = rise_within (to_z w64 c.loop-index.total-bits) c.moved_rise-total.result (sum_by one (take (i + 1) a.sites.now)) (sum_by one (take i a.sites.now)) (one site)
           c.loop-index.invariant.small c.moved_rise-total.ensures.range before own (sum_by_more one a.sites.now i 0 c.loop-index-test.true);
@@ -52,7 +52,7 @@ returns-clause-rise g c = λ m answers.
     let moved = moves_site a.change (labelling a.at.now) a.choices.now in
     let list = a.problem.now.pairs.list in
     pairs_rise m a.problem.now.pairs a.ends.now a.change a.at.now a.choices.now a.sites.now _ answers.pairs_are
-    c.requires.posed.pairs.each c.requires.by_site c.requires.asked.sites c.requires.changes
+    c.requires.valued.posed.pairs.each c.requires.by_site c.requires.valued.asked.sites c.requires.changes
     (rise_all (moved_met a.ends.now moved (pair_cost m (labelling_made a.change (labelling a.at.now) (site_values a.choices.now))))
     (moved_met a.ends.now moved (pair_cost m (labelling a.at.now))) a.sites.now c.loop-index.index _ c.loop-index-test.false
     (c.loop-index.invariant.so_far m answers))
@@ -61,5 +61,5 @@ pub returns-clause-range : goal.returns-clause-range
 returns-clause-range g c =
     let a = c.args in
     let few = counts_whole a.problem.now.pairs a.ends.now a.change a.at.now a.choices.now a.sites.now c.loop-index.index
-    c.requires.posed.pairs.each c.requires.by_site c.requires.asked.sites c.requires.changes in
-    omega (arith, c.loop-index.invariant.small, few, c.requires.posed.pairs.count)
+    c.requires.valued.posed.pairs.each c.requires.by_site c.requires.valued.asked.sites c.requires.changes in
+    omega (arith, c.loop-index.invariant.small, few, c.requires.valued.posed.pairs.count)

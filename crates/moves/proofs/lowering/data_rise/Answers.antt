@@ -9,7 +9,7 @@ use Rattle.moves.proofs.lowering.data_rise.Goals as goal
 pub loop-site-preserved : goal.loop-site-preserved
 loop-site-preserved g c =
     let a = c.args in
-    let few : c.loop-site.site ≤ 4194304 = omega (arith, c.loop-site-test.true, c.requires.asked.sites, c.requires.posed.pairs.sites) in
+    let few : c.loop-site.site ≤ 4194304 = omega (arith, c.loop-site-test.true, c.requires.valued.asked.sites, c.requires.valued.posed.pairs.sites) in
     record {
       small = rise_small (to_z w64 c.loop-site.total-bits) c.site_rise-total.result c.loop-site.site c.loop-site.invariant.small c.site_rise-total.ensures.range few;
       so_far = λ m answers.
@@ -22,7 +22,7 @@ loop-site-preserved g c =
 pub returns-clause-rise : goal.returns-clause-rise
 returns-clause-rise g c = λ m answers.
     let a = c.args in
-    let end : c.loop-site.site ≡ m.sites = omega (arith, c.loop-site-test.false, c.loop-site.auto.site-end, answers.sites_are, c.requires.asked.sites) in
+    let end : c.loop-site.site ≡ m.sites = omega (arith, c.loop-site-test.false, c.loop-site.auto.site-end, answers.sites_are, c.requires.valued.asked.sites) in
     c.loop-site.invariant.so_far m answers
     ∙ ap (λ n. pos (sum_below n (λ p. m.data_cost p (labelling_made a.change (labelling a.at.now) (site_values a.choices.now) p)))
     -ℤ pos (sum_below n (λ p. m.data_cost p (labelling a.at.now p)))) end

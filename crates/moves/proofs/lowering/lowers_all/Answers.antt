@@ -8,11 +8,11 @@ returns g c = λ m meant.
     (c.data_rise-rise.ensures.rise m meant)
     (c.smooth_rise.ensures.rise m meant) c.is_negative.ensures
 
-pub data_rise-rise-requires-clause-choices : goal.data_rise-rise-requires-clause-choices
-data_rise-rise-requires-clause-choices g c = λ κs lives. c.requires.choices
+pub data_rise-rise-requires-clause-valued : goal.data_rise-rise-requires-clause-valued
+data_rise-rise-requires-clause-valued g c = λ κs lives. record { posed = c.requires.posed; asked = c.requires.asked; count = c.requires.choices }
 
-pub smooth_rise-requires-clause-choices : goal.smooth_rise-requires-clause-choices
-smooth_rise-requires-clause-choices g c = λ κs lives. c.requires.choices
+pub smooth_rise-requires-clause-valued : goal.smooth_rise-requires-clause-valued
+smooth_rise-requires-clause-valued g c = λ κs lives. record { posed = c.requires.posed; asked = c.requires.asked; count = c.requires.choices }
 
 pub overflow_add-rise : goal.overflow_add-rise
 overflow_add-rise g c = search rules

@@ -16,5 +16,5 @@ returns-clause-stamped g c = λ m meant.
     let S : LabelField → Type 0 = λ field. AreStamped m (labelling field.at) c.args.changes.now in
     let T : List Choice → Type 0 = λ choices. HasTaken a (site_values choices) f h in
     let taken = subst T (sym c.deref.ensures.value) (c.in_ok-changed.ensures.taken a refl) in
-    c.note_whole.ensures f h taken m meant (c.in_ok-later.ensures.sizes.sites ∙ c.requires.fits.sites ∙ sym meant.sites_are)
-    (c.in_ok-changed.ensures.moved m meant).2 (subst S (sym same) (c.requires.stamped m meant))
+    c.note_whole.ensures f h taken m meant (c.in_ok-later.ensures.sizes.sites ∙ c.requires.under_way.fits.sites ∙ sym meant.sites_are)
+    (c.in_ok-changed.ensures.moved m meant).2 (subst S (sym same) (c.requires.under_way.stamped m meant))

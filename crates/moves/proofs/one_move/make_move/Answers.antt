@@ -104,13 +104,13 @@ returns-in-Err-OutOfMemory-clause-unchanged g c = refl
 pub returns-in-Err-OutOfMemory-clause-refused : goal.returns-in-Err-OutOfMemory-clause-refused
 returns-in-Err-OutOfMemory-clause-refused g c = tt
 
-pub minimise-requires-clause-bounded : goal.minimise-requires-clause-bounded
-minimise-requires-clause-bounded g c =
+pub cut_small-requires-clause-bounded : goal.cut_small-requires-clause-bounded
+cut_small-requires-clause-bounded g c =
     let P : Quadratic → Type 0 = λ q. IsQuadraticBounded 8388608 q in
     subst P (sym c.replace-form.ensures.value) c.in-Ok.ensures.bounded
 
-pub minimise-requires-clause-few : goal.minimise-requires-clause-few
-minimise-requires-clause-few g c =
+pub cut_small-requires-clause-few : goal.cut_small-requires-clause-few
+cut_small-requires-clause-few g c =
     let P : Quadratic → Type 0 = λ q. vec_len q.weights ≤ 1048576 + 256 in
     subst P (sym c.replace-form.ensures.value) c.in-Ok.ensures.few
 

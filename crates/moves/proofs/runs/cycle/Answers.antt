@@ -24,7 +24,7 @@ returns-in-Err-clause-cycled g c = λ m meant.
     let so_far = c.loop-place.invariant.so_far m meant in
     let refused = c.in-Err.ensures.moved m meant in
     let S : ℕ → Type 0 = λ k. slice_get (moves_of c.args.moves k) place ≡ Some next in
-    let here = subst S (c.labels-labels.ensures.value ∙ c.requires.fits.labels) c.move_at.ensures.at in
+    let here = subst S (c.labels-labels.ensures.value ∙ c.requires.under_way.fits.labels) c.move_at.ensures.at in
     let P : List ℕ → Type 0 = λ x. MovesLead m (take place moves) c.args.labelling.now.at x in
     let Q : List ℕ → Type 0 = λ x. IsCauseOfRefusal m next x c.in-Err.refusal in
     (take place moves, drop (place + 1) moves, next, moves_split moves place next here, subst P (sym refused.0) so_far.leads, subst Q (sym refused.0) refused.1)
@@ -38,7 +38,7 @@ loop-place-preserved g c = record {
   so_far = λ m meant.
       let moved = c.in-Ok.ensures.moved m meant in
       let S : ℕ → Type 0 = λ k. slice_get (moves_of c.args.moves k) c.loop-place.place ≡ Some c.move_at.result in
-      let here = subst S (c.labels-labels.ensures.value ∙ c.requires.fits.labels) c.move_at.ensures.at in
+      let here = subst S (c.labels-labels.ensures.value ∙ c.requires.under_way.fits.labels) c.move_at.ensures.at in
       let told : (c.in-Ok.turned ≡ true → (c.if-turned.changed ≡ true) × (c.if-turned.last ≡ c.loop-place.place))
       × (c.in-Ok.turned ≡ false → (c.if-turned.changed ≡ c.loop-place.changed) × (c.if-turned.last ≡ c.loop-place.last)) =
       elim c.if-turned.branch [
@@ -47,26 +47,26 @@ loop-place-preserved g c = record {
       ] in
       so_far_more m (moves_of c.args.moves c.args.problem.now.data_cost.labels) c.loop-place.place c.move_at.result c.args.labelling.now.at c.loop-place.labelling.at c.make_next.new.labelling.at
       c.loop-place.changed c.if-turned.changed c.in-Ok.turned c.loop-place.last c.if-turned.last
-      (pairs_meant _ _ _ m c.requires.posed meant)
+      (pairs_meant _ _ _ m c.requires.under_way.posed meant)
       (c.loop-place.invariant.so_far m meant) here moved.1 moved.2 moved.3 told.0 told.1;
 }
 
 pub returns-clause-cycled : goal.returns-clause-cycled
 returns-clause-cycled g c = λ m meant.
-    let all = c.count-place-end.ensures ∙ ap (λ k. length (moves_of c.args.moves k)) (c.labels-labels.ensures.value ∙ c.requires.fits.labels) in
+    let all = c.count-place-end.ensures ∙ ap (λ k. length (moves_of c.args.moves k)) (c.labels-labels.ensures.value ∙ c.requires.under_way.fits.labels) in
     ended_leads m (moves_of c.args.moves c.args.problem.now.data_cost.labels) c.loop-place.place c.args.labelling.now.at c.loop-place.labelling.at c.loop-place.changed c.loop-place.last
     (c.loop-place.invariant.so_far m meant) (omega (arith, all))
 
 pub returns-clause-known : goal.returns-clause-known
 returns-clause-known g c = λ m meant.
-    let all = c.count-place-end.ensures ∙ ap (λ k. length (moves_of c.args.moves k)) (c.labels-labels.ensures.value ∙ c.requires.fits.labels) in
+    let all = c.count-place-end.ensures ∙ ap (λ k. length (moves_of c.args.moves k)) (c.labels-labels.ensures.value ∙ c.requires.under_way.fits.labels) in
     ended_known m (moves_of c.args.moves c.args.problem.now.data_cost.labels) c.loop-place.place c.args.labelling.now.at c.loop-place.labelling.at c.loop-place.changed c.loop-place.last
     (c.loop-place.invariant.so_far m meant) (omega (arith, all))
 
 pub loop-place-init : goal.loop-place-init
 loop-place-init g c = record {
-  by_site = c.requires.by_site;
-  stamped = c.requires.stamped;
+  by_site = c.requires.under_way.by_site;
+  stamped = c.requires.under_way.stamped;
   labels = refl;
   sites = refl;
   so_far = λ m meant. so_far_starts m (moves_of c.args.moves c.args.problem.now.data_cost.labels) c.args.labelling.now.at c.args.last.now (c.requires.known m meant);
@@ -86,8 +86,16 @@ returns-then-place-last-clause-known g c = λ m meant i move from here.
 pub returns-then-place-last-clause-refused : goal.returns-then-place-last-clause-refused
 returns-then-place-last-clause-refused g c = tt
 
-pub make_next-requires-clause-by_site : goal.make_next-requires-clause-by_site
-make_next-requires-clause-by_site g c = λ κs lives. c.loop-place.invariant.by_site
+pub make_next-requires-clause-under_way : goal.make_next-requires-clause-under_way
+make_next-requires-clause-under_way g c = λ κs lives. record {
+  posed = c.requires.under_way.posed;
+  fits = record {
+    sites = c.loop-place.invariant.sites ∙ c.requires.under_way.fits.sites;
+    labels = c.loop-place.invariant.labels ∙ c.requires.under_way.fits.labels;
+  };
+  by_site = c.loop-place.invariant.by_site;
+  stamped = c.loop-place.invariant.stamped;
+}
 
 pub returns-in-Err-clause-by_site : goal.returns-in-Err-clause-by_site
 returns-in-Err-clause-by_site g c = c.in-Err.ensures.by_site
@@ -125,9 +133,6 @@ returns-then-place-last-clause-own g c = tt
 
 pub returns-clause-own : goal.returns-clause-own
 returns-clause-own g c = tt
-
-pub make_next-requires-clause-stamped : goal.make_next-requires-clause-stamped
-make_next-requires-clause-stamped g c = λ κs lives. c.loop-place.invariant.stamped
 
 pub returns-then-place-last-clause-stamped : goal.returns-then-place-last-clause-stamped
 returns-then-place-last-clause-stamped g c = c.loop-place.invariant.stamped

@@ -58,8 +58,16 @@ returns-clause-run g c = λ m meant.
     let end : c.loop-done.done ≡ c.args.cycles = omega arith in
     chain_runs_out m moves c.args.cycles c.args.labelling.now.at c.loop-done.labelling.at (subst P end so_far)
 
-pub cycle-requires-clause-by_site : goal.cycle-requires-clause-by_site
-cycle-requires-clause-by_site g c = λ κs lives. c.loop-done.invariant.by_site
+pub cycle-requires-clause-under_way : goal.cycle-requires-clause-under_way
+cycle-requires-clause-under_way g c = λ κs lives. record {
+  posed = c.requires.under_way.posed;
+  fits = record {
+    sites = c.loop-done.invariant.sites ∙ c.requires.under_way.fits.sites;
+    labels = c.loop-done.invariant.labels ∙ c.requires.under_way.fits.labels;
+  };
+  by_site = c.loop-done.invariant.by_site;
+  stamped = c.loop-done.invariant.stamped;
+}
 
 pub returns-in_err-cycle-clause-sizes : goal.returns-in_err-cycle-clause-sizes
 returns-in_err-cycle-clause-sizes g c = record { labels = c.in_err-cycle.ensures.sizes.labels ∙ c.loop-done.invariant.labels; sites = c.in_err-cycle.ensures.sizes.sites ∙ c.loop-done.invariant.sites }
@@ -100,15 +108,12 @@ returns-clause-refused g c = tt
 
 pub loop-done-init : goal.loop-done-init
 loop-done-init g c = record {
-  by_site = c.requires.by_site;
-  stamped = c.requires.stamped;
+  by_site = c.requires.under_way.by_site;
+  stamped = c.requires.under_way.stamped;
   labels = refl;
   sites = refl;
   so_far = λ m meant.
       let moves = moves_of c.args.moves c.args.problem.now.data_cost.labels in
-      let all = c.count-last.ensures ∙ ap (λ k. length (moves_of c.args.moves k)) (c.labels.ensures.value ∙ c.requires.fits.labels) in
+      let all = c.count-last.ensures ∙ ap (λ k. length (moves_of c.args.moves k)) (c.labels.ensures.value ∙ c.requires.under_way.fits.labels) in
       (refl, λ i move from here. (let within = slice_get_within moves i move here in absurd (omega (arith, within, from, all))));
 }
-
-pub cycle-requires-clause-stamped : goal.cycle-requires-clause-stamped
-cycle-requires-clause-stamped g c = λ κs lives. c.loop-done.invariant.stamped

@@ -15,7 +15,7 @@ returns-clause-least g c = λ m meant.
     let f = labelling c.args.at.now in
     let choices = c.build_listed.new.self.variables.choices.items in
     let form = c.replace-form.result in
-    let pairs = pairs_meant _ _ _ m c.requires.posed meant in
+    let pairs = pairs_meant _ _ _ m c.requires.valued.posed meant in
     let S : Quadratic → Type 0 = λ q. StandsFor m c.args.change f (choice_at choices) q (open_rank choices) in
     let stands = subst S (sym c.replace-form.ensures.value) (c.in_ok-build_listed.ensures.built m meant) in
     if_ok_map (λ bits. IsSmallestLeast (vec_len form.weights) (quadratic_value form) (assignment bits.items)) (λ bits. IsStageLeast m c.args.change f choices bits.items)

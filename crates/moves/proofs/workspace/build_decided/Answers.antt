@@ -8,13 +8,18 @@ use Rattle.cost_store.proofs.Meaning.{pairs_meant}
 use Rattle.deciding.specs.MoveValues.{move_value}
 use Rattle.closing_in.specs.Agreeing.{Agree}
 use Rattle.closing_in.proofs.Borders.{decided_agree}
+use Rattle.move_energy.specs.declared.by_site.Neighbours.{Neighbours}
+use Rattle.move_energy.specs.BySite.{AreBySite}
+use Rattle.deciding.specs.declared.listing.Lists.{Lists}
+use Rattle.deciding.specs.declared.sites.Deciding.{Deciding}
+use Rattle.deciding.specs.Listed.{AreListed}
 use Rattle.moves.proofs.Least.{agreed_least}
 use Rattle.moves.proofs.Changes.{near_rest}
 use Rattle.moves.proofs.workspace.build_decided.Goals as goal
 
 pub returns-in_err-decide-clause-built : goal.returns-in_err-decide-clause-built
 returns-in_err-decide-clause-built g c = λ m meant.
-    let p = err_from_is_err_and c.from_residual.result c.from_residual.ensures.1 in
+    let p = err_from_is_err_and c.from_residual-in_err-decide.result c.from_residual-in_err-decide.ensures.1 in
     rw (p.1, p.2) (c.in_err-decide.ensures.decided m meant)
 
 pub build_open-requires-clause-allowed : goal.build_open-requires-clause-allowed
@@ -53,8 +58,8 @@ build_strips-requires-clause-table g c = λ κs lives. c.in_ok-decide.ensures.ta
 pub build_strips-requires-clause-rises : goal.build_strips-requires-clause-rises
 build_strips-requires-clause-rises g c = λ κs lives m meant. c.in_ok-decide.ensures.rises m meant
 
-pub returns-in-Some-clause-built : goal.returns-in-Some-clause-built
-returns-in-Some-clause-built g c = λ m meant.
+pub returns-then-space-size-clause-built : goal.returns-then-space-size-clause-built
+returns-then-space-size-clause-built g c = λ m meant.
     let decided = c.in_ok-decide.ensures.decided m meant in
     let pairs = pairs_meant _ _ _ m c.requires.posed meant in
     let made = c.build_strips.new.space.built in
@@ -67,3 +72,43 @@ returns-in-Some-clause-built g c = λ m meant.
 
 pub build_open-requires-clause-weights : goal.build_open-requires-clause-weights
 build_open-requires-clause-weights g c = λ κs lives m meant. c.in_ok-decide.ensures.weights m meant
+
+pub returns-in_err-build_rest-clause-by_site : goal.returns-in_err-build_rest-clause-by_site
+returns-in_err-build_rest-clause-by_site g c = λ grouped.
+    let E : Neighbours → Type 0 = λ ends. AreBySite c.args.problem.now.pairs ends in
+    subst E (sym (ap (λ (d : Deciding). d.ends) c.build_rest.ensures.same.1)) (c.in_ok-close_apart.ensures.near c.if-branch.true).by_site
+
+pub returns-then-branch-clause-by_site : goal.returns-then-branch-clause-by_site
+returns-then-branch-clause-by_site g c = λ grouped.
+    let E : Neighbours → Type 0 = λ ends. AreBySite c.args.problem.now.pairs ends in
+    subst E (sym (ap (λ (d : Deciding). d.ends) c.build_rest.ensures.same.1)) (c.in_ok-close_apart.ensures.near c.if-branch.true).by_site
+
+pub returns-then-branch-clause-near : goal.returns-then-branch-clause-near
+returns-then-branch-clause-near g c = λ listed.
+    let a = c.args in
+    let near = c.in_ok-close_apart.ensures.near c.if-branch.true in
+    let same = c.build_rest.ensures.same in
+    let kept = c.build_rest.ensures.kept in
+    let E : Neighbours → Type 0 = λ ends. AreBySite a.problem.now.pairs ends in
+    let L : Lists → Type 0 = λ lists. AreListed a.change (labelling a.at.now) c.build_rest.new.space.built.variables.choices.items lists in
+    let C : List Choice → Type 0 = λ choices. AreListed a.change (labelling a.at.now) choices c.close_apart.new.space.deciding.lists in
+    near_rest a.problem.now.pairs a.change a.at.now c.build_rest.new.space
+    (ap (λ (xs : List Choice). length xs) kept ∙ c.in_ok-close_apart.ensures.choices c.if-branch.true)
+    record {
+      by_site = subst E (sym (ap (λ (d : Deciding). d.ends) same.1)) near.by_site;
+      lists = subst L (sym (ap (λ (d : Deciding). d.lists) same.1)) (subst C (sym kept) near.lists);
+    } listed
+
+pub returns-then-branch-clause-built : goal.returns-then-branch-clause-built
+returns-then-branch-clause-built g c = λ m meant.
+    let closed = c.in_ok-close_apart.ensures.closed m meant c.if-branch.true in
+    let pairs = pairs_meant _ _ _ m c.requires.posed meant in
+    let move = c.args.change in
+    let f = labelling c.args.at.now in
+    let P : List Choice → Type 0 = λ choices. Agree m.sites (move_value m move f) (choice_at choices) in
+    let made = c.build_rest.new.space.built in
+    let agree : P made.variables.choices.items = subst P (sym c.build_rest.ensures.kept) closed.1 in (
+      closed.0,
+      λ bits least. agreed_least m move f (choice_at made.variables.choices.items) made.form (open_rank made.variables.choices.items) (assignment bits) pairs closed.0 agree
+          (c.in_ok-build_rest.ensures.stands m meant) least,
+    )

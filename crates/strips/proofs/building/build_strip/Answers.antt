@@ -17,8 +17,8 @@ number_sites-requires-clause-few g c =
     let a = c.args in
     omega (
       arith,
-      opened_few (strip_view a.known.now a.from a.to) a.opened.now c.requires.opened,
-      view_length a.known.now a.from a.to,
+      opened_few (strip_view a.material.now.known.now a.sites.now.from a.sites.now.to) a.sites.now.opened.now c.requires.opened,
+      view_length a.material.now.known.now a.sites.now.from a.sites.now.to,
       c.requires.can.count,
       c.requires.can.pairs_are.sites,
     )
@@ -26,20 +26,20 @@ number_sites-requires-clause-few g c =
 pub number_sites-requires-clause-inside : goal.number_sites-requires-clause-inside
 number_sites-requires-clause-inside g c =
     let a = c.args in
-    opened_within (strip_view a.known.now a.from a.to) a.opened.now (length a.known.now) c.requires.opened (view_length a.known.now a.from a.to)
+    opened_within (strip_view a.material.now.known.now a.sites.now.from a.sites.now.to) a.sites.now.opened.now (length a.material.now.known.now) c.requires.opened (view_length a.material.now.known.now a.sites.now.from a.sites.now.to)
 
 pub add_rows-requires-clause-numbering : goal.add_rows-requires-clause-numbering
 add_rows-requires-clause-numbering g c =
     let a = c.args in
-    let N : List ℕ → Type 0 = λ ns. IsNumbering (strip_view a.known.now a.from a.to) ns in
+    let N : List ℕ → Type 0 = λ ns. IsNumbering (strip_view a.material.now.known.now a.sites.now.from a.sites.now.to) ns in
     subst N (sym c.deref.ensures.value)
-    (c.in_ok-number_sites.ensures (strip_view a.known.now a.from a.to) (view_length a.known.now a.from a.to) c.requires.opened)
+    (c.in_ok-number_sites.ensures (strip_view a.material.now.known.now a.sites.now.from a.sites.now.to) (view_length a.material.now.known.now a.sites.now.from a.sites.now.to) c.requires.opened)
 
 pub add_rows-requires-clause-nodes : goal.add_rows-requires-clause-nodes
 add_rows-requires-clause-nodes g c =
     let a = c.args in
-    constant_nodes (pos 0) (length a.opened.now) c.clear_form.new.form c.in_ok-clear_form.ensures
-    ∙ opened_count (strip_view a.known.now a.from a.to) a.opened.now c.requires.opened
+    constant_nodes (pos 0) (length a.sites.now.opened.now) c.clear_form.new.form c.in_ok-clear_form.ensures
+    ∙ opened_count (strip_view a.material.now.known.now a.sites.now.from a.sites.now.to) a.sites.now.opened.now c.requires.opened
 
 pub returns-clause-few : goal.returns-clause-few
 returns-clause-few g c =
@@ -48,9 +48,9 @@ returns-clause-few g c =
       arith,
       c.add_weights.ensures.len,
       c.in_ok-add_rows.ensures.nodes,
-      constant_nodes (pos 0) (length a.opened.now) c.clear_form.new.form c.in_ok-clear_form.ensures,
-      opened_few (strip_view a.known.now a.from a.to) a.opened.now c.requires.opened,
-      view_length a.known.now a.from a.to,
+      constant_nodes (pos 0) (length a.sites.now.opened.now) c.clear_form.new.form c.in_ok-clear_form.ensures,
+      opened_few (strip_view a.material.now.known.now a.sites.now.from a.sites.now.to) a.sites.now.opened.now c.requires.opened,
+      view_length a.material.now.known.now a.sites.now.from a.sites.now.to,
       c.requires.can.count,
       c.requires.can.pairs_are.sites,
     )
@@ -70,15 +70,15 @@ returns-clause-built g c = λ m move f gives over weighs.
       (λ x. c.add_weights.ensures.value x ∙ ap (λ (ys : List ℤ). weights_value old.weights.items x +ℤ weights_value ys x) c.deref-2.ensures.value),
       subst S c.deref-2.ensures.value c.add_weights.ensures.size,
     ) in
-    rows_stand m move f a.start.now a.known.now a.from a.to a.weights.now a.opened.now a.pairs.now a.ends.now (length a.opened.now) c.clear_form.new.form old new list
+    rows_stand m move f a.material.now.start.now a.material.now.known.now a.sites.now.from a.sites.now.to a.sites.now.opened.now a.material.now.pairs.now a.material.now.ends.now (length a.sites.now.opened.now) c.clear_form.new.form old new list
     over.sites_are over.pairs_are over.instance over.allowed can.by_site
-    (can.count ∙ sym over.sites_are) can.goes_on c.requires.opened weighs
+    (can.count ∙ sym over.sites_are) can.goes_on c.requires.opened
     c.in_ok-clear_form.ensures refl c.in_ok-add_rows.ensures.nodes laid
-    (c.in_ok-add_rows.ensures.weights m move f gives over)
+    (c.in_ok-add_rows.ensures.weights m move f gives over weighs)
     (c.in_ok-add_rows.ensures.adds m move f gives over)
 
 pub returns-clause-borders : goal.returns-clause-borders
 returns-clause-borders g c = λ m move f gives over k l.
     let a = c.args in
     ap (λ (xs : List ℕ). slice_index xs k) (c.in_ok-add_rows.ensures.borders m move f gives over)
-    ∙ get_or-map (border_at m move f (choice_at a.known.now) (range_of a.from a.to)) a.opened.now k 0 0 l
+    ∙ get_or-map (border_at m move f (choice_at a.material.now.known.now) (range_of a.sites.now.from a.sites.now.to)) a.sites.now.opened.now k 0 0 l

@@ -15,9 +15,9 @@ returns-clause-tells g c = λ m move f gives over weighs.
     let upper = c.in_ok-sides.sides.upper.items in
     let less = less_exists borders form (built.count ∙ sym built.nodes) in
     let L : List ℕ → Type 0 = λ xs. IsLessBorder xs form less.0 in (
-      strip_of a.known.now a.from a.to lower upper,
-      strip_listed a.known.now a.from a.to a.opened.now lower upper c.requires.opened,
-      strip_bounded m move f a.known.now a.from a.to a.opened.now borders form less.0 lower upper over.instance over.allowed
+      strip_of a.material.now.known.now a.sites.now.from a.sites.now.to lower upper,
+      strip_listed a.material.now.known.now a.sites.now.from a.sites.now.to a.sites.now.opened.now lower upper c.requires.opened,
+      strip_bounded m move f a.material.now.known.now a.sites.now.from a.sites.now.to a.sites.now.opened.now borders form less.0 lower upper over.instance over.allowed
           (c.requires.can.count ∙ sym over.sites_are) c.requires.opened (built.built m move f gives over weighs) built.nodes (built.borders m move f gives over)
           found.lower less.1 (found.upper less.0 (subst L (sym c.deref.ensures.value) less.1)),
     )

@@ -17,27 +17,27 @@ pub is_one-one-requires : goal.is_one-one-requires
 is_one-one-requires g c =
     let a = c.args in
     let p = c.loop-place.place in
-    let inside : a.site < a.pairs.now.sites = omega (arith, c.requires.site.0) in
-    let start = start_read a.pairs.now a.ends.now a.site _ c.requires.by_site (omega (arith, inside)) c.index-place.ensures in
-    let end = start_read a.pairs.now a.ends.now (a.site + 1) _ c.requires.by_site (omega (arith, inside)) c.index-place-end.ensures in
-    let from : neighbours_start a.ends.now a.site ≤ p = omega (arith, start, c.loop-place.auto.place) in
-    let to : p < neighbours_start a.ends.now (a.site + 1) = omega (arith, end, c.loop-place-test.true) in
-    let head = head_read a.pairs.now a.ends.now a.site p _ c.requires.by_site inside to c.index-head.ensures in
-    let within = head_inside a.pairs.now a.ends.now a.site p c.requires.pairs.each c.requires.by_site inside from to in
-    (omega (arith, head, within, c.requires.sizes.0), omega (arith, head, within, c.requires.sizes.1))
+    let inside : a.site < a.material.now.pairs.now.sites = omega (arith, c.requires.site.0) in
+    let start = start_read a.material.now.pairs.now a.material.now.ends.now a.site _ c.requires.can.by_site (omega (arith, inside)) c.index-place.ensures in
+    let end = start_read a.material.now.pairs.now a.material.now.ends.now (a.site + 1) _ c.requires.can.by_site (omega (arith, inside)) c.index-place-end.ensures in
+    let from : neighbours_start a.material.now.ends.now a.site ≤ p = omega (arith, start, c.loop-place.auto.place) in
+    let to : p < neighbours_start a.material.now.ends.now (a.site + 1) = omega (arith, end, c.loop-place-test.true) in
+    let head = head_read a.material.now.pairs.now a.material.now.ends.now a.site p _ c.requires.can.by_site inside to c.index-head.ensures in
+    let within = head_inside a.material.now.pairs.now a.material.now.ends.now a.site p c.requires.can.pairs_are.each c.requires.can.by_site inside from to in
+    (omega (arith, head, within, c.requires.can.starts), omega (arith, head, within, c.requires.can.count))
 
 pub is_beyond-past-requires : goal.is_beyond-past-requires
 is_beyond-past-requires g c =
     let a = c.args in
     let p = c.loop-place.place in
-    let inside : a.site < a.pairs.now.sites = omega (arith, c.requires.site.0) in
-    let start = start_read a.pairs.now a.ends.now a.site _ c.requires.by_site (omega (arith, inside)) c.index-place.ensures in
-    let end = start_read a.pairs.now a.ends.now (a.site + 1) _ c.requires.by_site (omega (arith, inside)) c.index-place-end.ensures in
-    let from : neighbours_start a.ends.now a.site ≤ p = omega (arith, start, c.loop-place.auto.place) in
-    let to : p < neighbours_start a.ends.now (a.site + 1) = omega (arith, end, c.loop-place-test.true) in
-    let head = head_read a.pairs.now a.ends.now a.site p _ c.requires.by_site inside to c.index-head.ensures in
-    let within = head_inside a.pairs.now a.ends.now a.site p c.requires.pairs.each c.requires.by_site inside from to in
-    omega (arith, head, within, c.requires.sizes.1)
+    let inside : a.site < a.material.now.pairs.now.sites = omega (arith, c.requires.site.0) in
+    let start = start_read a.material.now.pairs.now a.material.now.ends.now a.site _ c.requires.can.by_site (omega (arith, inside)) c.index-place.ensures in
+    let end = start_read a.material.now.pairs.now a.material.now.ends.now (a.site + 1) _ c.requires.can.by_site (omega (arith, inside)) c.index-place-end.ensures in
+    let from : neighbours_start a.material.now.ends.now a.site ≤ p = omega (arith, start, c.loop-place.auto.place) in
+    let to : p < neighbours_start a.material.now.ends.now (a.site + 1) = omega (arith, end, c.loop-place-test.true) in
+    let head = head_read a.material.now.pairs.now a.material.now.ends.now a.site p _ c.requires.can.by_site inside to c.index-head.ensures in
+    let within = head_inside a.material.now.pairs.now a.material.now.ends.now a.site p c.requires.can.pairs_are.each c.requires.can.by_site inside from to in
+    omega (arith, head, within, c.requires.can.count)
 
 pub add_inside-requires-clause-numbering : goal.add_inside-requires-clause-numbering
 add_inside-requires-clause-numbering g c = c.requires.numbering
@@ -48,79 +48,66 @@ add_inside-requires-clause-nodes g c = c.loop-place.invariant.longer.nodes ∙ c
 pub add_inside-requires-clause-site : goal.add_inside-requires-clause-site
 add_inside-requires-clause-site g c = c.requires.site
 
-pub add_inside-requires-clause-head : goal.add_inside-requires-clause-head
-add_inside-requires-clause-head g c =
-    let a = c.args in
-    let p = c.loop-place.place in
-    let inside : a.site < a.pairs.now.sites = omega (arith, c.requires.site.0) in
-    let start = start_read a.pairs.now a.ends.now a.site _ c.requires.by_site (omega (arith, inside)) c.index-place.ensures in
-    let end = start_read a.pairs.now a.ends.now (a.site + 1) _ c.requires.by_site (omega (arith, inside)) c.index-place-end.ensures in
-    let from : neighbours_start a.ends.now a.site ≤ p = omega (arith, start, c.loop-place.auto.place) in
-    let to : p < neighbours_start a.ends.now (a.site + 1) = omega (arith, end, c.loop-place-test.true) in
-    let head = head_read a.pairs.now a.ends.now a.site p _ c.requires.by_site inside to c.index-head.ensures in
-    let within = head_inside a.pairs.now a.ends.now a.site p c.requires.pairs.each c.requires.by_site inside from to in
-    (head, omega (arith, head, within))
-
 pub add_inside-requires-clause-bounded : goal.add_inside-requires-clause-bounded
 add_inside-requires-clause-bounded g c =
     let a = c.args in
     let p = c.loop-place.place in
-    let inside : a.site < a.pairs.now.sites = omega (arith, c.requires.site.0) in
-    let start = start_read a.pairs.now a.ends.now a.site _ c.requires.by_site (omega (arith, inside)) c.index-place.ensures in
-    let end = start_read a.pairs.now a.ends.now (a.site + 1) _ c.requires.by_site (omega (arith, inside)) c.index-place-end.ensures in
-    let from : neighbours_start a.ends.now a.site ≤ p = omega (arith, start, c.loop-place.auto.place) in
-    let to : p < neighbours_start a.ends.now (a.site + 1) = omega (arith, end, c.loop-place-test.true) in
-    met_room a.ends.now (open_at (strip_view a.known.now a.from a.to)) a.site (p - neighbours_start a.ends.now a.site) a.form.now c.loop-place.form
+    let inside : a.site < a.material.now.pairs.now.sites = omega (arith, c.requires.site.0) in
+    let start = start_read a.material.now.pairs.now a.material.now.ends.now a.site _ c.requires.can.by_site (omega (arith, inside)) c.index-place.ensures in
+    let end = start_read a.material.now.pairs.now a.material.now.ends.now (a.site + 1) _ c.requires.can.by_site (omega (arith, inside)) c.index-place-end.ensures in
+    let from : neighbours_start a.material.now.ends.now a.site ≤ p = omega (arith, start, c.loop-place.auto.place) in
+    let to : p < neighbours_start a.material.now.ends.now (a.site + 1) = omega (arith, end, c.loop-place-test.true) in
+    met_room a.material.now.ends.now (open_at (strip_view a.material.now.known.now a.sites.now.from a.sites.now.to)) a.site (p - neighbours_start a.material.now.ends.now a.site) a.form.now c.loop-place.form
     (omega (arith, from, to)) c.requires.met c.requires.bounded c.loop-place.invariant.longer
 
 pub loop-place-init : goal.loop-place-init
 loop-place-init g c =
     let a = c.args in
-    let inside : a.site < a.pairs.now.sites = omega (arith, c.requires.site.0) in
-    let start = start_read a.pairs.now a.ends.now a.site _ c.requires.by_site (omega (arith, inside)) c.index-place.ensures in
-    let v = strip_view a.known.now a.from a.to in
+    let inside : a.site < a.material.now.pairs.now.sites = omega (arith, c.requires.site.0) in
+    let start = start_read a.material.now.pairs.now a.material.now.ends.now a.site _ c.requires.can.by_site (omega (arith, inside)) c.index-place.ensures in
+    let v = strip_view a.material.now.known.now a.sites.now.from a.sites.now.to in
     record {
       ones_small = omega arith;
       beyond_small = omega arith;
-      ones = λ m move f gives over. border_none m move f (choice_at a.start.now) (not_ones (choice_at a.known.now)) a.ends.now a.site _ start;
-      beyond = λ m move f gives over. border_none m move f (choice_at a.known.now) (range_of a.from a.to) a.ends.now a.site _ start;
-      longer = row_none a.ends.now (open_at v) a.site _ a.form.now start;
+      ones = λ m move f gives over. border_none m move f (choice_at a.material.now.start.now) (not_ones (choice_at a.material.now.known.now)) a.material.now.ends.now a.site _ start;
+      beyond = λ m move f gives over. border_none m move f (choice_at a.material.now.known.now) (range_of a.sites.now.from a.sites.now.to) a.material.now.ends.now a.site _ start;
+      longer = row_none a.material.now.ends.now (open_at v) a.site _ a.form.now start;
       adds = λ m move f gives over.
-          nothing_adds_yet a.ends.now (open_at v) (unsaved_surplus m move f (choice_at v) (open_rank v)) a.site _ a.form.now start;
+          nothing_adds_yet a.material.now.ends.now (open_at v) (unsaved_surplus m move f (choice_at v) (open_rank v)) a.site _ a.form.now start;
     }
 
 pub loop-place-preserved : goal.loop-place-preserved
 loop-place-preserved g c =
     let a = c.args in
     let p = c.loop-place.place in
-    let inside : a.site < a.pairs.now.sites = omega (arith, c.requires.site.0) in
-    let start = start_read a.pairs.now a.ends.now a.site _ c.requires.by_site (omega (arith, inside)) c.index-place.ensures in
-    let end = start_read a.pairs.now a.ends.now (a.site + 1) _ c.requires.by_site (omega (arith, inside)) c.index-place-end.ensures in
-    let from : neighbours_start a.ends.now a.site ≤ p = omega (arith, start, c.loop-place.auto.place) in
-    let to : p < neighbours_start a.ends.now (a.site + 1) = omega (arith, end, c.loop-place-test.true) in
-    let few : p - neighbours_start a.ends.now a.site ≤ 4294967296 =
-    omega (arith, degree_most a.pairs.now a.ends.now a.site c.requires.by_site inside, from, to, c.requires.pairs.count) in
-    let head = head_read a.pairs.now a.ends.now a.site p _ c.requires.by_site inside to c.index-head.ensures in
+    let inside : a.site < a.material.now.pairs.now.sites = omega (arith, c.requires.site.0) in
+    let start = start_read a.material.now.pairs.now a.material.now.ends.now a.site _ c.requires.can.by_site (omega (arith, inside)) c.index-place.ensures in
+    let end = start_read a.material.now.pairs.now a.material.now.ends.now (a.site + 1) _ c.requires.can.by_site (omega (arith, inside)) c.index-place-end.ensures in
+    let from : neighbours_start a.material.now.ends.now a.site ≤ p = omega (arith, start, c.loop-place.auto.place) in
+    let to : p < neighbours_start a.material.now.ends.now (a.site + 1) = omega (arith, end, c.loop-place-test.true) in
+    let few : p - neighbours_start a.material.now.ends.now a.site ≤ 4294967296 =
+    omega (arith, degree_most a.material.now.pairs.now a.material.now.ends.now a.site c.requires.can.by_site inside, from, to, c.requires.can.pairs_are.count) in
+    let head = head_read a.material.now.pairs.now a.material.now.ends.now a.site p _ c.requires.can.by_site inside to c.index-head.ensures in
     let i = c.loop-place.invariant in
-    let v = strip_view a.known.now a.from a.to in
+    let v = strip_view a.material.now.known.now a.sites.now.from a.sites.now.to in
     let one = c.counted_surplus-ones in
     let past = c.counted_surplus-beyond in
-    let ones_is = total_is (to_z w64 c.loop-place.ones-bits) one.result (p - neighbours_start a.ends.now a.site) i.ones_small one.ensures.range few in
-    let past_is = total_is (to_z w64 c.loop-place.beyond-bits) past.result (p - neighbours_start a.ends.now a.site) i.beyond_small past.ensures.range few in
+    let ones_is = total_is (to_z w64 c.loop-place.ones-bits) one.result (p - neighbours_start a.material.now.ends.now a.site) i.ones_small one.ensures.range few in
+    let past_is = total_is (to_z w64 c.loop-place.beyond-bits) past.result (p - neighbours_start a.material.now.ends.now a.site) i.beyond_small past.ensures.range few in
     record {
-      ones_small = border_small (to_z w64 c.loop-place.ones-bits) one.result _ (neighbours_start a.ends.now a.site) p from i.ones_small one.ensures.range ones_is;
-      beyond_small = border_small (to_z w64 c.loop-place.beyond-bits) past.result _ (neighbours_start a.ends.now a.site) p from i.beyond_small past.ensures.range past_is;
+      ones_small = border_small (to_z w64 c.loop-place.ones-bits) one.result _ (neighbours_start a.material.now.ends.now a.site) p from i.ones_small one.ensures.range ones_is;
+      beyond_small = border_small (to_z w64 c.loop-place.beyond-bits) past.result _ (neighbours_start a.material.now.ends.now a.site) p from i.beyond_small past.ensures.range past_is;
       ones = λ m move f gives over.
-          border_more m move f (choice_at a.start.now) (not_ones (choice_at a.known.now))
-          a.pairs.now a.ends.now a.site p _ c.is_one-one.result (to_z w64 c.loop-place.ones-bits) one.result _
-          c.requires.pairs.each c.requires.by_site inside from to head c.is_one-one.ensures ones_is (i.ones m move f gives over) (one.ensures.value m move f gives over);
+          border_more m move f (choice_at a.material.now.start.now) (not_ones (choice_at a.material.now.known.now))
+          a.material.now.pairs.now a.material.now.ends.now a.site p _ c.is_one-one.result (to_z w64 c.loop-place.ones-bits) one.result _
+          c.requires.can.pairs_are.each c.requires.can.by_site inside from to head c.is_one-one.ensures ones_is (i.ones m move f gives over) (one.ensures.value m move f gives over);
       beyond = λ m move f gives over.
-          border_more m move f (choice_at a.known.now) (range_of a.from a.to)
-          a.pairs.now a.ends.now a.site p _ c.is_beyond-past.result (to_z w64 c.loop-place.beyond-bits) past.result _
-          c.requires.pairs.each c.requires.by_site inside from to head c.is_beyond-past.ensures past_is (i.beyond m move f gives over) (past.ensures.value m move f gives over);
-      longer = row_longer a.ends.now (open_at v) a.site p a.form.now c.loop-place.form c.add_inside.new.form from i.longer c.in_ok-add_inside.ensures.longer;
+          border_more m move f (choice_at a.material.now.known.now) (range_of a.sites.now.from a.sites.now.to)
+          a.material.now.pairs.now a.material.now.ends.now a.site p _ c.is_beyond-past.result (to_z w64 c.loop-place.beyond-bits) past.result _
+          c.requires.can.pairs_are.each c.requires.can.by_site inside from to head c.is_beyond-past.ensures past_is (i.beyond m move f gives over) (past.ensures.value m move f gives over);
+      longer = row_longer a.material.now.ends.now (open_at v) a.site p a.form.now c.loop-place.form c.add_inside.new.form from i.longer c.in_ok-add_inside.ensures.longer;
       adds = λ m move f gives over.
-          row_adds a.ends.now (open_at v) (λ (x : ℕ → Bool) (pair : Pair). unsaved_surplus m move f (choice_at v) (open_rank v) x pair) a.site p
+          row_adds a.material.now.ends.now (open_at v) (λ (x : ℕ → Bool) (pair : Pair). unsaved_surplus m move f (choice_at v) (open_rank v) x pair) a.site p
           a.form.now c.loop-place.form c.add_inside.new.form from (i.adds m move f gives over) (c.in_ok-add_inside.ensures.adds m move f gives over);
     }
 
@@ -128,55 +115,55 @@ pub returns-clause-ones : goal.returns-clause-ones
 returns-clause-ones g c =
     λ m move f gives over.
     let a = c.args in
-    let inside : a.site < a.pairs.now.sites = omega (arith, c.requires.site.0) in
-    let start = start_read a.pairs.now a.ends.now a.site _ c.requires.by_site (omega (arith, inside)) c.index-place.ensures in
-    let end = start_read a.pairs.now a.ends.now (a.site + 1) _ c.requires.by_site (omega (arith, inside)) c.index-place-end.ensures in
-    let last : c.loop-place.place - neighbours_start a.ends.now a.site ≡ degree a.ends.now a.site =
-    omega (arith, start, end, starts_rise a.pairs.now a.ends.now a.site c.requires.by_site inside, c.loop-place.auto.place-end, c.loop-place-test.false) in
-    total_all m move f (choice_at a.start.now) (not_ones (choice_at a.known.now)) a.pairs.now a.ends.now a.site _ _
-    over.pairs_are over.sites_are c.requires.pairs c.requires.by_site inside last (c.loop-place.invariant.ones m move f gives over)
+    let inside : a.site < a.material.now.pairs.now.sites = omega (arith, c.requires.site.0) in
+    let start = start_read a.material.now.pairs.now a.material.now.ends.now a.site _ c.requires.can.by_site (omega (arith, inside)) c.index-place.ensures in
+    let end = start_read a.material.now.pairs.now a.material.now.ends.now (a.site + 1) _ c.requires.can.by_site (omega (arith, inside)) c.index-place-end.ensures in
+    let last : c.loop-place.place - neighbours_start a.material.now.ends.now a.site ≡ degree a.material.now.ends.now a.site =
+    omega (arith, start, end, starts_rise a.material.now.pairs.now a.material.now.ends.now a.site c.requires.can.by_site inside, c.loop-place.auto.place-end, c.loop-place-test.false) in
+    total_all m move f (choice_at a.material.now.start.now) (not_ones (choice_at a.material.now.known.now)) a.material.now.pairs.now a.material.now.ends.now a.site _ _
+    over.pairs_are over.sites_are c.requires.can.pairs_are c.requires.can.by_site inside last (c.loop-place.invariant.ones m move f gives over)
 
 pub returns-clause-beyond : goal.returns-clause-beyond
 returns-clause-beyond g c =
     λ m move f gives over.
     let a = c.args in
-    let inside : a.site < a.pairs.now.sites = omega (arith, c.requires.site.0) in
-    let start = start_read a.pairs.now a.ends.now a.site _ c.requires.by_site (omega (arith, inside)) c.index-place.ensures in
-    let end = start_read a.pairs.now a.ends.now (a.site + 1) _ c.requires.by_site (omega (arith, inside)) c.index-place-end.ensures in
-    let last : c.loop-place.place - neighbours_start a.ends.now a.site ≡ degree a.ends.now a.site =
-    omega (arith, start, end, starts_rise a.pairs.now a.ends.now a.site c.requires.by_site inside, c.loop-place.auto.place-end, c.loop-place-test.false) in
-    total_all m move f (choice_at a.known.now) (range_of a.from a.to) a.pairs.now a.ends.now a.site _ _
-    over.pairs_are over.sites_are c.requires.pairs c.requires.by_site inside last (c.loop-place.invariant.beyond m move f gives over)
+    let inside : a.site < a.material.now.pairs.now.sites = omega (arith, c.requires.site.0) in
+    let start = start_read a.material.now.pairs.now a.material.now.ends.now a.site _ c.requires.can.by_site (omega (arith, inside)) c.index-place.ensures in
+    let end = start_read a.material.now.pairs.now a.material.now.ends.now (a.site + 1) _ c.requires.can.by_site (omega (arith, inside)) c.index-place-end.ensures in
+    let last : c.loop-place.place - neighbours_start a.material.now.ends.now a.site ≡ degree a.material.now.ends.now a.site =
+    omega (arith, start, end, starts_rise a.material.now.pairs.now a.material.now.ends.now a.site c.requires.can.by_site inside, c.loop-place.auto.place-end, c.loop-place-test.false) in
+    total_all m move f (choice_at a.material.now.known.now) (range_of a.sites.now.from a.sites.now.to) a.material.now.pairs.now a.material.now.ends.now a.site _ _
+    over.pairs_are over.sites_are c.requires.can.pairs_are c.requires.can.by_site inside last (c.loop-place.invariant.beyond m move f gives over)
 
 pub returns-clause-range : goal.returns-clause-range
 returns-clause-range g c =
     let a = c.args in
-    let inside : a.site < a.pairs.now.sites = omega (arith, c.requires.site.0) in
-    let start = start_read a.pairs.now a.ends.now a.site _ c.requires.by_site (omega (arith, inside)) c.index-place.ensures in
-    let end = start_read a.pairs.now a.ends.now (a.site + 1) _ c.requires.by_site (omega (arith, inside)) c.index-place-end.ensures in
-    let last : c.loop-place.place - neighbours_start a.ends.now a.site ≡ degree a.ends.now a.site =
-    omega (arith, start, end, starts_rise a.pairs.now a.ends.now a.site c.requires.by_site inside, c.loop-place.auto.place-end, c.loop-place-test.false) in
+    let inside : a.site < a.material.now.pairs.now.sites = omega (arith, c.requires.site.0) in
+    let start = start_read a.material.now.pairs.now a.material.now.ends.now a.site _ c.requires.can.by_site (omega (arith, inside)) c.index-place.ensures in
+    let end = start_read a.material.now.pairs.now a.material.now.ends.now (a.site + 1) _ c.requires.can.by_site (omega (arith, inside)) c.index-place-end.ensures in
+    let last : c.loop-place.place - neighbours_start a.material.now.ends.now a.site ≡ degree a.material.now.ends.now a.site =
+    omega (arith, start, end, starts_rise a.material.now.pairs.now a.material.now.ends.now a.site c.requires.can.by_site inside, c.loop-place.auto.place-end, c.loop-place-test.false) in
     (omega (arith, last, c.loop-place.invariant.ones_small), omega (arith, last, c.loop-place.invariant.beyond_small))
 
 pub returns-clause-longer : goal.returns-clause-longer
 returns-clause-longer g c =
     let a = c.args in
-    let inside : a.site < a.pairs.now.sites = omega (arith, c.requires.site.0) in
-    let start = start_read a.pairs.now a.ends.now a.site _ c.requires.by_site (omega (arith, inside)) c.index-place.ensures in
-    let end = start_read a.pairs.now a.ends.now (a.site + 1) _ c.requires.by_site (omega (arith, inside)) c.index-place-end.ensures in
-    let last : c.loop-place.place - neighbours_start a.ends.now a.site ≡ degree a.ends.now a.site =
-    omega (arith, start, end, starts_rise a.pairs.now a.ends.now a.site c.requires.by_site inside, c.loop-place.auto.place-end, c.loop-place-test.false) in
-    row_longer_all a.ends.now (open_at (strip_view a.known.now a.from a.to)) a.site _ a.form.now c.loop-place.form last c.loop-place.invariant.longer
+    let inside : a.site < a.material.now.pairs.now.sites = omega (arith, c.requires.site.0) in
+    let start = start_read a.material.now.pairs.now a.material.now.ends.now a.site _ c.requires.can.by_site (omega (arith, inside)) c.index-place.ensures in
+    let end = start_read a.material.now.pairs.now a.material.now.ends.now (a.site + 1) _ c.requires.can.by_site (omega (arith, inside)) c.index-place-end.ensures in
+    let last : c.loop-place.place - neighbours_start a.material.now.ends.now a.site ≡ degree a.material.now.ends.now a.site =
+    omega (arith, start, end, starts_rise a.material.now.pairs.now a.material.now.ends.now a.site c.requires.can.by_site inside, c.loop-place.auto.place-end, c.loop-place-test.false) in
+    row_longer_all a.material.now.ends.now (open_at (strip_view a.material.now.known.now a.sites.now.from a.sites.now.to)) a.site _ a.form.now c.loop-place.form last c.loop-place.invariant.longer
 
 pub returns-clause-adds : goal.returns-clause-adds
 returns-clause-adds g c =
     λ m move f gives over.
     let a = c.args in
-    let inside : a.site < a.pairs.now.sites = omega (arith, c.requires.site.0) in
-    let start = start_read a.pairs.now a.ends.now a.site _ c.requires.by_site (omega (arith, inside)) c.index-place.ensures in
-    let end = start_read a.pairs.now a.ends.now (a.site + 1) _ c.requires.by_site (omega (arith, inside)) c.index-place-end.ensures in
-    let last : c.loop-place.place - neighbours_start a.ends.now a.site ≡ degree a.ends.now a.site =
-    omega (arith, start, end, starts_rise a.pairs.now a.ends.now a.site c.requires.by_site inside, c.loop-place.auto.place-end, c.loop-place-test.false) in
-    let v = strip_view a.known.now a.from a.to in
-    row_adds_all a.ends.now (open_at v) (λ (x : ℕ → Bool) (pair : Pair). unsaved_surplus m move f (choice_at v) (open_rank v) x pair) a.site _
+    let inside : a.site < a.material.now.pairs.now.sites = omega (arith, c.requires.site.0) in
+    let start = start_read a.material.now.pairs.now a.material.now.ends.now a.site _ c.requires.can.by_site (omega (arith, inside)) c.index-place.ensures in
+    let end = start_read a.material.now.pairs.now a.material.now.ends.now (a.site + 1) _ c.requires.can.by_site (omega (arith, inside)) c.index-place-end.ensures in
+    let last : c.loop-place.place - neighbours_start a.material.now.ends.now a.site ≡ degree a.material.now.ends.now a.site =
+    omega (arith, start, end, starts_rise a.material.now.pairs.now a.material.now.ends.now a.site c.requires.can.by_site inside, c.loop-place.auto.place-end, c.loop-place-test.false) in
+    let v = strip_view a.material.now.known.now a.sites.now.from a.sites.now.to in
+    row_adds_all a.material.now.ends.now (open_at v) (λ (x : ℕ → Bool) (pair : Pair). unsaved_surplus m move f (choice_at v) (open_rank v) x pair) a.site _
     a.form.now c.loop-place.form last (c.loop-place.invariant.adds m move f gives over)

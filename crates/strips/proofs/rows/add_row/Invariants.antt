@@ -13,16 +13,16 @@ use Rattle.strips.proofs.rows.add_row.Given as goal
 
 abbrev pub invariant-loop-place : goal.invariant-loop-place
 invariant-loop-place g l = record {
-  ones_small : unsigned_abs l.ones ≤ 20000000 * (l.place - neighbours_start l.ends l.site);
-  beyond_small : unsigned_abs l.beyond ≤ 20000000 * (l.place - neighbours_start l.ends l.site);
-  ones : (m : Instance) (move : Move) (f : ℕ → ℕ) → GivesSurpluses (goal.S-post g l.savings) m move f → IsMoveOver l.pairs m move f
-      → l.ones ≡ pos (sum_below (l.place - neighbours_start l.ends l.site) (λ i. pair_border m move f (choice_at l.start)
-      (not_ones (choice_at l.known)) l.site (pair_of l.ends l.site i)));
-  beyond : (m : Instance) (move : Move) (f : ℕ → ℕ) → GivesSurpluses (goal.S-post g l.savings) m move f → IsMoveOver l.pairs m move f
-      → l.beyond ≡ pos (sum_below (l.place - neighbours_start l.ends l.site) (λ i. pair_border m move f
-      (choice_at l.known) (range_of l.from l.to) l.site (pair_of l.ends l.site i)));
-  longer : IsLonger (met_below l.ends (open_at (strip_view l.known l.from l.to)) (λ pair. 1) l.site (l.place - neighbours_start l.ends l.site)) l.fn.form l.form;
-  adds : (m : Instance) (move : Move) (f : ℕ → ℕ) → GivesSurpluses (goal.S-post g l.savings) m move f → IsMoveOver l.pairs m move f
-      → AddsCost l.fn.form l.form (λ x. met_below l.ends (open_at (strip_view l.known l.from l.to))
-      (unsaved_surplus m move f (choice_at (strip_view l.known l.from l.to)) (open_rank (strip_view l.known l.from l.to)) x) l.site (l.place - neighbours_start l.ends l.site));
+  ones_small : unsigned_abs l.ones ≤ 20000000 * (l.place - neighbours_start l.material.ends.now l.site);
+  beyond_small : unsigned_abs l.beyond ≤ 20000000 * (l.place - neighbours_start l.material.ends.now l.site);
+  ones : (m : Instance) (move : Move) (f : ℕ → ℕ) → GivesSurpluses (goal.S-post g l.savings) m move f → IsMoveOver l.material.pairs.now m move f
+      → l.ones ≡ pos (sum_below (l.place - neighbours_start l.material.ends.now l.site) (λ i. pair_border m move f (choice_at l.material.start.now)
+      (not_ones (choice_at l.material.known.now)) l.site (pair_of l.material.ends.now l.site i)));
+  beyond : (m : Instance) (move : Move) (f : ℕ → ℕ) → GivesSurpluses (goal.S-post g l.savings) m move f → IsMoveOver l.material.pairs.now m move f
+      → l.beyond ≡ pos (sum_below (l.place - neighbours_start l.material.ends.now l.site) (λ i. pair_border m move f
+      (choice_at l.material.known.now) (range_of l.sites.from l.sites.to) l.site (pair_of l.material.ends.now l.site i)));
+  longer : IsLonger (met_below l.material.ends.now (open_at (strip_view l.material.known.now l.sites.from l.sites.to)) (λ pair. 1) l.site (l.place - neighbours_start l.material.ends.now l.site)) l.fn.form l.form;
+  adds : (m : Instance) (move : Move) (f : ℕ → ℕ) → GivesSurpluses (goal.S-post g l.savings) m move f → IsMoveOver l.material.pairs.now m move f
+      → AddsCost l.fn.form l.form (λ x. met_below l.material.ends.now (open_at (strip_view l.material.known.now l.sites.from l.sites.to))
+      (unsaved_surplus m move f (choice_at (strip_view l.material.known.now l.sites.from l.sites.to)) (open_rank (strip_view l.material.known.now l.sites.from l.sites.to)) x) l.site (l.place - neighbours_start l.material.ends.now l.site));
 }

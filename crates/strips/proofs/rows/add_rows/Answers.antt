@@ -1,5 +1,6 @@
-use Rattle.std.proofs.Common.{◌<◌, ◌≤◌, ◌-ℤ◌, ◌∙◌, ℕ, ℤ, Bool, List, get_or, unsigned_abs, ap, sym, refl, length, sum, sum_by, arith}
+use Rattle.std.proofs.Common.{◌≡◌, ◌<◌, ◌≤◌, ◌-ℤ◌, ◌∙◌, ℕ, ℤ, Bool, List, get_or, unsigned_abs, pos, ap, refl, length, sum, sum_by, arith}
 use Rattle.std.proofs.lemmas.Grind.{common_steps}
+use Rattle.std.proofs.lemmas.List.{get_or-map}
 use Rattle.compile_cut.specs.Weights.{weights_size}
 use Rattle.move_energy.specs.BySite.{degree, met_at}
 use Rattle.move_energy.specs.Choices.{choice_at, open_at, open_rank}
@@ -7,6 +8,7 @@ use Rattle.move_energy.specs.Weights.{weight_at, unsaved_surplus}
 use Rattle.move_energy.proofs.Opened.{opened_has, open_true}
 use Rattle.move_energy.proofs.Steps.{longer_none}
 use Rattle.move_energy.proofs.Adding.{cost_none, site_more, site_all, met_few, sum_longer}
+use Rattle.deciding.specs.Parts.{site_weight}
 use Rattle.deciding.proofs.Left.{degree_most}
 use Rattle.closing_in.specs.Borders.{border_at, range_of}
 use Rattle.strips.specs.Views.{strip_view, weight_now}
@@ -26,7 +28,7 @@ loop-index-init g c =
       borders_len = c.in_ok-reserve-2.ensures.len ∙ c.clear-2.ensures.len;
       size = omega (arith, ap (λ (ws : List ℤ). weights_size ws) list);
       small = omega (arith, ap (λ (xs : List ℕ). sum xs) borders);
-      weights = λ m move f gives over. list;
+      weights = λ m move f gives over starts. list;
       borders = λ m move f gives over. borders;
       longer = longer_none c.args.form.now;
       adds = λ m move f gives over. cost_none c.args.form.now (λ x. 0) (λ x. refl);
@@ -43,135 +45,128 @@ add_row-requires-clause-nodes g c =
 pub add_row-requires-clause-site : goal.add_row-requires-clause-site
 add_row-requires-clause-site g c =
     let a = c.args in
-    let v = strip_view a.known.now a.from a.to in
+    let v = strip_view a.material.now.known.now a.sites.now.from a.sites.now.to in
     let i = c.loop-index.index in
-    let l : i < length a.opened.now = c.loop-index-test.true in
-    let has = opened_has v a.opened.now i c.requires.opened l in
-    let long = view_length a.known.now a.from a.to in
-    (omega (arith, has.0, long, c.requires.sizes.1), open_true (choice_at v (get_or a.opened.now i 0)) has.1)
+    let l : i < length a.sites.now.opened.now = c.loop-index-test.true in
+    let has = opened_has v a.sites.now.opened.now i c.requires.opened l in
+    let long = view_length a.material.now.known.now a.sites.now.from a.sites.now.to in
+    (omega (arith, has.0, long, c.requires.can.count), open_true (choice_at v (get_or a.sites.now.opened.now i 0)) has.1)
 
 pub add_row-requires-clause-met : goal.add_row-requires-clause-met
 add_row-requires-clause-met g c =
     let a = c.args in
-    let v = strip_view a.known.now a.from a.to in
+    let v = strip_view a.material.now.known.now a.sites.now.from a.sites.now.to in
     let i = c.loop-index.index in
-    let l : i < length a.opened.now = c.loop-index-test.true in
-    let has = opened_has v a.opened.now i c.requires.opened l in
-    let long = view_length a.known.now a.from a.to in
-    let few : sum_by (met_at a.ends.now (open_at v) (λ pair. 1)) a.opened.now ≤ length a.pairs.now.list =
-    met_few a.pairs.now a.ends.now v a.opened.now (a.pairs.now.sites) c.requires.by_site c.requires.pairs.each
-    refl (view_length a.known.now a.from a.to ∙ c.requires.sizes.1) c.requires.opened in
-    (rows_room (met_at a.ends.now (open_at v) (λ pair. 1)) a.opened.now i (length a.pairs.now.list) a.form.now c.loop-index.form l few
-    c.requires.pairs.count c.requires.bounded c.loop-index.invariant.longer).0
+    let l : i < length a.sites.now.opened.now = c.loop-index-test.true in
+    let has = opened_has v a.sites.now.opened.now i c.requires.opened l in
+    let long = view_length a.material.now.known.now a.sites.now.from a.sites.now.to in
+    let few : sum_by (met_at a.material.now.ends.now (open_at v) (λ pair. 1)) a.sites.now.opened.now ≤ length a.material.now.pairs.now.list =
+    met_few a.material.now.pairs.now a.material.now.ends.now v a.sites.now.opened.now (a.material.now.pairs.now.sites) c.requires.can.by_site c.requires.can.pairs_are.each
+    refl (view_length a.material.now.known.now a.sites.now.from a.sites.now.to ∙ c.requires.can.count) c.requires.opened in
+    (rows_room (met_at a.material.now.ends.now (open_at v) (λ pair. 1)) a.sites.now.opened.now i (length a.material.now.pairs.now.list) a.form.now c.loop-index.form l few
+    c.requires.can.pairs_are.count c.requires.bounded c.loop-index.invariant.longer).0
 
 pub add_row-requires-clause-bounded : goal.add_row-requires-clause-bounded
 add_row-requires-clause-bounded g c =
     let a = c.args in
-    let v = strip_view a.known.now a.from a.to in
+    let v = strip_view a.material.now.known.now a.sites.now.from a.sites.now.to in
     let i = c.loop-index.index in
-    let l : i < length a.opened.now = c.loop-index-test.true in
-    let has = opened_has v a.opened.now i c.requires.opened l in
-    let long = view_length a.known.now a.from a.to in
-    let few : sum_by (met_at a.ends.now (open_at v) (λ pair. 1)) a.opened.now ≤ length a.pairs.now.list =
-    met_few a.pairs.now a.ends.now v a.opened.now (a.pairs.now.sites) c.requires.by_site c.requires.pairs.each
-    refl (view_length a.known.now a.from a.to ∙ c.requires.sizes.1) c.requires.opened in
-    (rows_room (met_at a.ends.now (open_at v) (λ pair. 1)) a.opened.now i (length a.pairs.now.list) a.form.now c.loop-index.form l few
-    c.requires.pairs.count c.requires.bounded c.loop-index.invariant.longer).1
+    let l : i < length a.sites.now.opened.now = c.loop-index-test.true in
+    let has = opened_has v a.sites.now.opened.now i c.requires.opened l in
+    let long = view_length a.material.now.known.now a.sites.now.from a.sites.now.to in
+    let few : sum_by (met_at a.material.now.ends.now (open_at v) (λ pair. 1)) a.sites.now.opened.now ≤ length a.material.now.pairs.now.list =
+    met_few a.material.now.pairs.now a.material.now.ends.now v a.sites.now.opened.now (a.material.now.pairs.now.sites) c.requires.can.by_site c.requires.can.pairs_are.each
+    refl (view_length a.material.now.known.now a.sites.now.from a.sites.now.to ∙ c.requires.can.count) c.requires.opened in
+    (rows_room (met_at a.material.now.ends.now (open_at v) (λ pair. 1)) a.sites.now.opened.now i (length a.material.now.pairs.now.list) a.form.now c.loop-index.form l few
+    c.requires.can.pairs_are.count c.requires.bounded c.loop-index.invariant.longer).1
 
-pub bounds-weights-site : goal.bounds-weights-site
-bounds-weights-site g c =
+pub overflow_sub-sites : goal.overflow_sub-sites
+overflow_sub-sites g c =
     let a = c.args in
-    let v = strip_view a.known.now a.from a.to in
+    let v = strip_view a.material.now.known.now a.sites.now.from a.sites.now.to in
     let i = c.loop-index.index in
-    let l : i < length a.opened.now = c.loop-index-test.true in
-    let has = opened_has v a.opened.now i c.requires.opened l in
-    let long = view_length a.known.now a.from a.to in
-    omega (arith, has.0, long, c.requires.sizes.1, c.requires.count)
-
-pub overflow_sub-weights : goal.overflow_sub-weights
-overflow_sub-weights g c =
-    let a = c.args in
-    let v = strip_view a.known.now a.from a.to in
-    let i = c.loop-index.index in
-    let l : i < length a.opened.now = c.loop-index-test.true in
-    let has = opened_has v a.opened.now i c.requires.opened l in
-    let long = view_length a.known.now a.from a.to in
-    let site : ℕ = get_or a.opened.now i 0 in
-    let inside : site < a.pairs.now.sites = omega (arith, has.0, long, c.requires.sizes.1) in
-    let within : site < length a.weights.now = omega (arith, has.0, long, c.requires.sizes.1, c.requires.count) in
-    let few_ends : degree a.ends.now site ≤ 8388608 = omega (arith, degree_most a.pairs.now a.ends.now site c.requires.by_site inside, c.requires.pairs.count) in
-    weight_fits (weight_at a.weights.now site) c.in_ok-found.found.ones (degree a.ends.now site) (weight_few a.weights.now site within c.requires.size)
+    let l : i < length a.sites.now.opened.now = c.loop-index-test.true in
+    let has = opened_has v a.sites.now.opened.now i c.requires.opened l in
+    let long = view_length a.material.now.known.now a.sites.now.from a.sites.now.to in
+    let site : ℕ = get_or a.sites.now.opened.now i 0 in
+    let inside : site < a.material.now.pairs.now.sites = omega (arith, has.0, long, c.requires.can.count) in
+    let within : i < length a.sites.now.weights.now = omega (arith, l, c.requires.weighed.count) in
+    let few_ends : degree a.material.now.ends.now site ≤ 8388608 = omega (arith, degree_most a.material.now.pairs.now a.material.now.ends.now site c.requires.can.by_site inside, c.requires.can.pairs_are.count) in
+    weight_fits (weight_at a.sites.now.weights.now i) c.in_ok-found.found.ones (degree a.material.now.ends.now site) (weight_few a.sites.now.weights.now i within c.requires.weighed.size)
     c.in_ok-found.ensures.range.0 few_ends
 
 pub loop-index-preserved : goal.loop-index-preserved
 loop-index-preserved g c =
     let a = c.args in
-    let v = strip_view a.known.now a.from a.to in
+    let v = strip_view a.material.now.known.now a.sites.now.from a.sites.now.to in
     let i = c.loop-index.index in
-    let l : i < length a.opened.now = c.loop-index-test.true in
-    let has = opened_has v a.opened.now i c.requires.opened l in
-    let long = view_length a.known.now a.from a.to in
-    let site : ℕ = get_or a.opened.now i 0 in
-    let inside : site < a.pairs.now.sites = omega (arith, has.0, long, c.requires.sizes.1) in
-    let within : site < length a.weights.now = omega (arith, has.0, long, c.requires.sizes.1, c.requires.count) in
-    let few_ends : degree a.ends.now site ≤ 8388608 = omega (arith, degree_most a.pairs.now a.ends.now site c.requires.by_site inside, c.requires.pairs.count) in
+    let l : i < length a.sites.now.opened.now = c.loop-index-test.true in
+    let has = opened_has v a.sites.now.opened.now i c.requires.opened l in
+    let long = view_length a.material.now.known.now a.sites.now.from a.sites.now.to in
+    let site : ℕ = get_or a.sites.now.opened.now i 0 in
+    let inside : site < a.material.now.pairs.now.sites = omega (arith, has.0, long, c.requires.can.count) in
+    let within : i < length a.sites.now.weights.now = omega (arith, l, c.requires.weighed.count) in
+    let few_ends : degree a.material.now.ends.now site ≤ 8388608 = omega (arith, degree_most a.material.now.pairs.now a.material.now.ends.now site c.requires.can.by_site inside, c.requires.can.pairs_are.count) in
     let inv = c.loop-index.invariant in
     let found = c.in_ok-found.found in
     let says = c.in_ok-found.ensures in
     let first = c.push_reserved.ensures in
     let second = c.push_reserved-in-loop-index.ensures in
-    let weight = weight_is (weight_at a.weights.now site) found.ones (degree a.ends.now site) (weight_few a.weights.now site within c.requires.size) says.range.0 few_ends in
-    let border = c.unsigned_abs.ensures.value ∙ ap unsigned_abs (border_passed found.beyond (degree a.ends.now site) says.range.1 few_ends) in
+    let weight = weight_is (weight_at a.sites.now.weights.now i) found.ones (degree a.material.now.ends.now site) (weight_few a.sites.now.weights.now i within c.requires.weighed.size) says.range.0 few_ends in
+    let border = c.unsigned_abs.ensures.value ∙ ap unsigned_abs (border_passed found.beyond (degree a.material.now.ends.now site) says.range.1 few_ends) in
     record {
       list_room = omega (arith, first.capacity, inv.list_room);
       borders_room = omega (arith, second.capacity, inv.borders_room);
       list_len = omega (arith, first.len, inv.list_len);
       borders_len = omega (arith, second.len, inv.borders_len);
-      size = size_more a.weights.now c.loop-index.list.items _ a.opened.now a.ends.now i site _ found.ones l refl first.items weight says.range.0 inv.size;
-      small = borders_more c.loop-index.borders.items _ a.opened.now a.ends.now i site _ l refl second.items (omega (arith, border, says.range.1)) inv.small;
-      weights = λ m move f gives over.
-          list_more (weight_now m move f (choice_at a.start.now) (choice_at a.known.now) a.weights.now) c.loop-index.list.items _ a.opened.now i site _ l refl first.items
-          (weight ∙ ap (λ b. weight_at a.weights.now site -ℤ b) (says.ones m move f gives over)) (inv.weights m move f gives over);
+      size = size_more a.sites.now.weights.now c.loop-index.list.items _ a.sites.now.opened.now a.material.now.ends.now i site _ found.ones l within refl first.items weight says.range.0 inv.size;
+      small = borders_more c.loop-index.borders.items _ a.sites.now.opened.now a.material.now.ends.now i site _ l refl second.items (omega (arith, border, says.range.1)) inv.small;
+      weights = λ m move f gives over starts.
+          let own : weight_at a.sites.now.weights.now i ≡ site_weight m move f (choice_at a.material.now.start.now) site =
+          ap (λ (ws : List ℤ). weight_at ws i) starts ∙ get_or-map (site_weight m move f (choice_at a.material.now.start.now)) a.sites.now.opened.now i 0 (pos 0) l in
+          let ones = says.ones m move f gives over in
+          list_more (weight_now m move f (choice_at a.material.now.start.now) (choice_at a.material.now.known.now)) c.loop-index.list.items _ a.sites.now.opened.now i site _ l refl first.items
+          (weight ∙ (λ j. own j -ℤ ones j)) (inv.weights m move f gives over starts);
       borders = λ m move f gives over.
-          list_more (border_at m move f (choice_at a.known.now) (range_of a.from a.to)) c.loop-index.borders.items _ a.opened.now i site _ l refl second.items
+          list_more (border_at m move f (choice_at a.material.now.known.now) (range_of a.sites.now.from a.sites.now.to)) c.loop-index.borders.items _ a.sites.now.opened.now i site _ l refl second.items
           (border ∙ ap unsigned_abs (says.beyond m move f gives over)) (inv.borders m move f gives over);
-      longer = sum_longer (met_at a.ends.now (open_at v) (λ pair. 1)) a.opened.now i a.form.now c.loop-index.form c.add_row.new.form l inv.longer says.longer;
+      longer = sum_longer (met_at a.material.now.ends.now (open_at v) (λ pair. 1)) a.sites.now.opened.now i a.form.now c.loop-index.form c.add_row.new.form l inv.longer says.longer;
       adds = λ m move f gives over.
           site_more a.form.now c.loop-index.form c.add_row.new.form
-          (λ (x : ℕ → Bool). met_at a.ends.now (open_at v) (unsaved_surplus m move f (choice_at v) (open_rank v) x))
-          a.opened.now i l (inv.adds m move f gives over) (says.adds m move f gives over);
+          (λ (x : ℕ → Bool). met_at a.material.now.ends.now (open_at v) (unsaved_surplus m move f (choice_at v) (open_rank v) x))
+          a.sites.now.opened.now i l (inv.adds m move f gives over) (says.adds m move f gives over);
     }
 
 pub returns-clause-size : goal.returns-clause-size
 returns-clause-size g c =
     let a = c.args in
-    let v = strip_view a.known.now a.from a.to in
-    let long = view_length a.known.now a.from a.to in
-    size_all a.pairs.now a.ends.now v a.weights.now c.loop-index.list.items a.opened.now c.loop-index.index c.requires.pairs c.requires.by_site
-    (long ∙ c.requires.sizes.1) (c.requires.count ∙ sym (long ∙ c.requires.sizes.1)) c.requires.opened c.requires.size c.loop-index-test.false c.loop-index.invariant.size
+    let v = strip_view a.material.now.known.now a.sites.now.from a.sites.now.to in
+    let long = view_length a.material.now.known.now a.sites.now.from a.sites.now.to in
+    size_all a.material.now.pairs.now a.material.now.ends.now v a.sites.now.weights.now c.loop-index.list.items a.sites.now.opened.now c.loop-index.index c.requires.can.pairs_are c.requires.can.by_site
+    (long ∙ c.requires.can.count) c.requires.opened c.requires.weighed.size c.loop-index-test.false c.loop-index.invariant.size
 
 pub returns-clause-small : goal.returns-clause-small
 returns-clause-small g c =
     let a = c.args in
-    let v = strip_view a.known.now a.from a.to in
-    let long = view_length a.known.now a.from a.to in
-    borders_all a.pairs.now a.ends.now v c.loop-index.borders.items a.opened.now c.loop-index.index c.requires.pairs c.requires.by_site
-    (long ∙ c.requires.sizes.1) c.requires.opened c.loop-index-test.false c.loop-index.invariant.small
+    let v = strip_view a.material.now.known.now a.sites.now.from a.sites.now.to in
+    let long = view_length a.material.now.known.now a.sites.now.from a.sites.now.to in
+    borders_all a.material.now.pairs.now a.material.now.ends.now v c.loop-index.borders.items a.sites.now.opened.now c.loop-index.index c.requires.can.pairs_are c.requires.can.by_site
+    (long ∙ c.requires.can.count) c.requires.opened c.loop-index-test.false c.loop-index.invariant.small
 
 pub returns-clause-bounded : goal.returns-clause-bounded
 returns-clause-bounded g c =
     let a = c.args in
-    let v = strip_view a.known.now a.from a.to in
-    let few : sum_by (met_at a.ends.now (open_at v) (λ pair. 1)) a.opened.now ≤ length a.pairs.now.list =
-    met_few a.pairs.now a.ends.now v a.opened.now (a.pairs.now.sites) c.requires.by_site c.requires.pairs.each
-    refl (view_length a.known.now a.from a.to ∙ c.requires.sizes.1) c.requires.opened in
-    rows_bounded (met_at a.ends.now (open_at v) (λ pair. 1)) a.opened.now c.loop-index.index (length a.pairs.now.list) a.form.now c.loop-index.form few
-    c.requires.pairs.count c.requires.bounded c.loop-index.invariant.longer
+    let v = strip_view a.material.now.known.now a.sites.now.from a.sites.now.to in
+    let few : sum_by (met_at a.material.now.ends.now (open_at v) (λ pair. 1)) a.sites.now.opened.now ≤ length a.material.now.pairs.now.list =
+    met_few a.material.now.pairs.now a.material.now.ends.now v a.sites.now.opened.now (a.material.now.pairs.now.sites) c.requires.can.by_site c.requires.can.pairs_are.each
+    refl (view_length a.material.now.known.now a.sites.now.from a.sites.now.to ∙ c.requires.can.count) c.requires.opened in
+    rows_bounded (met_at a.material.now.ends.now (open_at v) (λ pair. 1)) a.sites.now.opened.now c.loop-index.index (length a.material.now.pairs.now.list) a.form.now c.loop-index.form few
+    c.requires.can.pairs_are.count c.requires.bounded c.loop-index.invariant.longer
 
 pub returns-clause-adds : goal.returns-clause-adds
 returns-clause-adds g c = λ m move f gives over.
     let a = c.args in
-    let v = strip_view a.known.now a.from a.to in
+    let v = strip_view a.material.now.known.now a.sites.now.from a.sites.now.to in
     site_all a.form.now c.loop-index.form
-    (λ (x : ℕ → Bool). met_at a.ends.now (open_at v) (unsaved_surplus m move f (choice_at v) (open_rank v) x))
-    a.opened.now c.loop-index.index (omega (arith, c.loop-index-test.false)) (c.loop-index.invariant.adds m move f gives over)
+    (λ (x : ℕ → Bool). met_at a.material.now.ends.now (open_at v) (unsaved_surplus m move f (choice_at v) (open_rank v) x))
+    a.sites.now.opened.now c.loop-index.index (omega (arith, c.loop-index-test.false)) (c.loop-index.invariant.adds m move f gives over)

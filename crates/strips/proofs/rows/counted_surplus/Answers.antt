@@ -11,10 +11,10 @@ returns-then-not-counts-clause-value g c = λ m move f gives over. surplus_uncou
 pub returns-clause-value : goal.returns-clause-value
 returns-clause-value g c = λ m move f gives over.
     let a = c.args in
-    let inside : a.site < a.pairs.now.sites = omega (arith, c.requires.site) in
+    let inside : a.site < a.material.now.pairs.now.sites = omega (arith, c.requires.site) in
     let is = c.pair_beside-pair.ensures.value in
-    let regular = regular_beside m move f a.pairs.now a.ends.now a.site a.place c.pair_beside-pair.result c.requires.by_site inside c.requires.place.0 c.requires.place.1 over.pairs_are is over.allowed in
-    surplus_passed c.savings.result (c.requires.small _ _ c.savings.ensures)
+    let regular = regular_beside m move f a.material.now.pairs.now a.material.now.ends.now a.site a.place c.pair_beside-pair.result c.requires.can.by_site inside c.requires.place.0 c.requires.place.1 over.pairs_are is over.allowed in
+    surplus_passed c.savings.result (c.requires.ask.gives_small _ _ c.savings.ensures)
     ∙ surplus_counted m move f c.pair_beside-pair.result a.counts _ c.if-not-counts.false regular
     (gives _ _ c.savings.ensures)
     ∙ ap (λ p. pos (count_if a.counts (pair_surplus m move f p))) is

@@ -52,10 +52,10 @@ returns-clause-metric g c = λ metric m is has. tt
 
 pub run_with_table-requires-clause-label_costs : goal.run_with_table-requires-clause-label_costs
 run_with_table-requires-clause-label_costs g c = λ lives within.
-    let A : ℕ → Type 0 = λ k. AreLabelCosts k c.args.label_costs in
+    let A : ℕ → Type 0 = λ k. AreLabelCosts k c.args.prices.label_costs in
     subst A (sym (ap (λ (f : LabelField). f.labels) c.in_ok-start.ensures)) c.requires.label_costs
 
 pub run_with_table-requires-clause-known : goal.run_with_table-requires-clause-known
 run_with_table-requires-clause-known g c = λ lives within.
-    let K : ℕ → Type 0 = λ k. IsTrue c.args.by_metric ↔ IsMetricTable k c.args.smooth.now in
+    let K : ℕ → Type 0 = λ k. IsTrue c.args.prices.by_metric ↔ IsMetricTable k c.args.prices.smooth.now in
     subst K (sym (ap (λ (f : LabelField). f.labels) c.in_ok-start.ensures)) c.requires.known

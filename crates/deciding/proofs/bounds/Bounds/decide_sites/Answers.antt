@@ -15,28 +15,30 @@ pub loop-site-init : goal.loop-site-init
 loop-site-init g c =
     let a = c.args in
     let u = c.requires.unsummed in
-    let L : ℕ → Type 0 = λ n. open_ends a.ends.now n a.self.now.choices.items ≤ 2 * length a.problem.now.pairs.list in
+    let L : ℕ → Type 0 = λ n. open_ends a.step.now.ends.now n a.self.now.choices.items ≤ 2 * length a.step.now.problem.now.pairs.list in
     record {
       within = omega arith;
-      sized = record { choices = u.choices; greatest = u.greatest ∙ sym u.least; within = omega (arith, u.least) };
+      budget = record {
+        sized = record { choices = u.choices; greatest = u.greatest ∙ sym u.least; within = omega (arith, u.least) };
+        left = subst L (sym c.requires.posed.asked.sites) (left_most a.step.now.problem.now.pairs a.step.now.ends.now a.self.now.choices.items c.requires.posed.by_site);
+        range = empty_range _ a.self.now u.least u.greatest;
+      };
       same = u.least;
       waiting = record { sites = λ i d l. absurd (omega (arith, l, u.none)); each = λ v l. absurd (omega (arith, l)) };
       none = empty_list a.self.now.waiting.items u.none;
-      few = subst L (sym c.requires.asked.sites) (left_most a.problem.now.pairs a.ends.now a.self.now.choices.items c.requires.by_site);
-      range = empty_range _ a.self.now u.least u.greatest;
-      total = (let few : open_ends a.ends.now (length a.at.now) a.self.now.choices.items ≤ 2 * length a.problem.now.pairs.list = subst L (sym c.requires.asked.sites) (left_most a.problem.now.pairs a.ends.now a.self.now.choices.items c.requires.by_site) in
+      total = (let few : open_ends a.step.now.ends.now (length a.step.now.at.now) a.self.now.choices.items ≤ 2 * length a.step.now.problem.now.pairs.list = subst L (sym c.requires.posed.asked.sites) (left_most a.step.now.problem.now.pairs a.step.now.ends.now a.self.now.choices.items c.requires.posed.by_site) in
           omega (arith, few, total_none a.self.now u.greatest));
       decided = λ m answers. c.requires.begun m answers;
     }
 
 pub pass_closed-requires-clause-from : goal.pass_closed-requires-clause-from
-pass_closed-requires-clause-from g c = omega (arith, c.loop-site.invariant.within, c.loop-site.invariant.sized.choices)
+pass_closed-requires-clause-from g c = omega (arith, c.loop-site.invariant.within, c.loop-site.invariant.budget.sized.choices)
 
 pub pass_closed-requires-clause-summed : goal.pass_closed-requires-clause-summed
-pass_closed-requires-clause-summed g c = (c.loop-site.invariant.same, c.loop-site.invariant.sized.greatest ∙ c.loop-site.invariant.same)
+pass_closed-requires-clause-summed g c = (c.loop-site.invariant.same, c.loop-site.invariant.budget.sized.greatest ∙ c.loop-site.invariant.same)
 
-pub sum_site-requires-clause-by_site : goal.sum_site-requires-clause-by_site
-sum_site-requires-clause-by_site g c = λ κs lives. c.requires.by_site
+pub sum_site-requires-clause-posed : goal.sum_site-requires-clause-posed
+sum_site-requires-clause-posed g c = λ κs lives. c.requires.posed
 
 pub sum_site-requires-clause-site : goal.sum_site-requires-clause-site
 sum_site-requires-clause-site g c = λ κs lives.
@@ -45,7 +47,7 @@ sum_site-requires-clause-site g c = λ κs lives.
     let next = c.in_ok-next.next in
     let i = c.loop-site.invariant in
     let passes = c.in_ok-next.ensures in
-    (omega (arith, passes.within, i.sized.choices, c.if-next-at.false), passed_len c.loop-site.site next c.loop-site.self mid i.same passes)
+    (omega (arith, passes.within, i.budget.sized.choices, c.if-next-sites.false), passed_len c.loop-site.site next c.loop-site.self mid i.same passes)
 
 pub sum_site-requires-clause-opened : goal.sum_site-requires-clause-opened
 sum_site-requires-clause-opened g c = λ κs lives.
@@ -54,37 +56,22 @@ sum_site-requires-clause-opened g c = λ κs lives.
     let next = c.in_ok-next.next in
     let i = c.loop-site.invariant in
     let passes = c.in_ok-next.ensures in
-    ap (λ (v : _). choice_at v.items next) passes.choices ∙ passes.opened (omega (arith, passes.within, i.sized.choices, c.if-next-at.false))
+    ap (λ (v : _). choice_at v.items next) passes.choices ∙ passes.opened (omega (arith, passes.within, i.budget.sized.choices, c.if-next-sites.false))
 
-pub sum_site-requires-clause-sized : goal.sum_site-requires-clause-sized
-sum_site-requires-clause-sized g c = λ κs lives.
+pub sum_site-requires-clause-budget : goal.sum_site-requires-clause-budget
+sum_site-requires-clause-budget g c = λ κs lives.
     let a = c.args in
     let mid = c.pass_closed.new.self in
     let next = c.in_ok-next.next in
     let i = c.loop-site.invariant in
     let passes = c.in_ok-next.ensures in
-    passed_sized (length a.at.now) c.loop-site.site next c.loop-site.self mid i.same passes i.sized
-
-pub sum_site-requires-clause-left : goal.sum_site-requires-clause-left
-sum_site-requires-clause-left g c = λ κs lives.
-    let a = c.args in
-    let mid = c.pass_closed.new.self in
-    let next = c.in_ok-next.next in
-    let i = c.loop-site.invariant in
-    let passes = c.in_ok-next.ensures in
-    let same = ap (λ (v : _). open_ends a.ends.now (length a.at.now) v.items) passes.choices in
-    omega (arith, same, i.few)
-
-pub sum_site-requires-clause-range : goal.sum_site-requires-clause-range
-sum_site-requires-clause-range g c = λ κs lives.
-    let a = c.args in
-    let mid = c.pass_closed.new.self in
-    let next = c.in_ok-next.next in
-    let i = c.loop-site.invariant in
-    let passes = c.in_ok-next.ensures in
-    let same = ap (λ (v : _). open_ends a.ends.now (length a.at.now) v.items) passes.choices in
+    let same = ap (λ (v : _). open_ends a.step.now.ends.now (length a.step.now.at.now) v.items) passes.choices in
     let R : ℕ → Type 0 = λ n. IsWithinRange (budget_of n) mid in
-    subst R (sym same) (passed_range c.loop-site.site next _ c.loop-site.self mid passes i.range)
+    record {
+      sized = passed_sized (length a.step.now.at.now) c.loop-site.site next c.loop-site.self mid i.same passes i.budget.sized;
+      left = omega (arith, same, i.budget.left);
+      range = subst R (sym same) (passed_range c.loop-site.site next _ c.loop-site.self mid passes i.budget.range);
+    }
 
 pub sum_site-requires-clause-waiting : goal.sum_site-requires-clause-waiting
 sum_site-requires-clause-waiting g c = λ κs lives.
@@ -95,25 +82,21 @@ sum_site-requires-clause-waiting g c = λ κs lives.
     let passes = c.in_ok-next.ensures in
     passed_waits c.loop-site.site next c.loop-site.self mid passes i.waiting
 
-pub settle_all-requires-clause-by_site : goal.settle_all-requires-clause-by_site
-settle_all-requires-clause-by_site g c = λ κs lives. c.requires.by_site
+pub settle_all-requires-clause-posed : goal.settle_all-requires-clause-posed
+settle_all-requires-clause-posed g c = λ κs lives. c.requires.posed
 
-pub settle_all-requires-clause-sized : goal.settle_all-requires-clause-sized
-settle_all-requires-clause-sized g c = λ κs lives. c.in_ok-sum_site.ensures.sized
-
-pub settle_all-requires-clause-left : goal.settle_all-requires-clause-left
-settle_all-requires-clause-left g c = λ κs lives.
+pub settle_all-requires-clause-budget : goal.settle_all-requires-clause-budget
+settle_all-requires-clause-budget g c = λ κs lives.
     let a = c.args in
-    let same = ap (λ (v : _). open_ends a.ends.now (length a.at.now) v.items) c.in_ok-next.ensures.choices in
-    omega (arith, same, c.in_ok-sum_site.ensures.left, c.loop-site.invariant.few)
-
-pub settle_all-requires-clause-range : goal.settle_all-requires-clause-range
-settle_all-requires-clause-range g c = λ κs lives.
-    let a = c.args in
-    let was = open_ends a.ends.now (length a.at.now) c.pass_closed.new.self.choices.items in
-    let now = open_ends a.ends.now (length a.at.now) c.sum_site.new.self.choices.items in
+    let same = ap (λ (v : _). open_ends a.step.now.ends.now (length a.step.now.at.now) v.items) c.in_ok-next.ensures.choices in
+    let was = open_ends a.step.now.ends.now (length a.step.now.at.now) c.pass_closed.new.self.choices.items in
+    let now = open_ends a.step.now.ends.now (length a.step.now.at.now) c.sum_site.new.self.choices.items in
     let few : now ≤ was = c.in_ok-sum_site.ensures.left in
-    range_wider (budget_of was) (budget_of now) c.sum_site.new.self (omega (arith, few)) c.in_ok-sum_site.ensures.range
+    record {
+      sized = c.in_ok-sum_site.ensures.sized;
+      left = omega (arith, same, few, c.loop-site.invariant.budget.left);
+      range = range_wider (budget_of was) (budget_of now) c.sum_site.new.self (omega (arith, few)) c.in_ok-sum_site.ensures.range;
+    }
 
 pub settle_all-requires-clause-waiting : goal.settle_all-requires-clause-waiting
 settle_all-requires-clause-waiting g c = λ κs lives.
@@ -131,71 +114,69 @@ loop-site-preserved g c =
     let e = c.in_ok-settle_all.ensures in
     let W : ℕ → Type 0 = λ k. AreWaiting k c.settle_all.new.self in
     record {
-      within = omega (arith, passes.within, i.sized.choices, c.if-next-at.false);
-      sized = e.sized;
+      within = omega (arith, passes.within, i.budget.sized.choices, c.if-next-sites.false);
+      budget = e.budget;
       same = e.same ∙ one.summed;
       waiting = subst W one.summed e.waiting;
       none = e.none;
-      few = e.left;
-      range = e.range;
-      total = (let inside : next < a.problem.now.pairs.sites = omega (arith, passes.within, i.sized.choices, c.if-next-at.false, c.requires.asked.sites) in
-          let ordered = starts_rise a.problem.now.pairs a.ends.now next c.requires.by_site inside in
-          let climbs = starts_climb a.problem.now.pairs a.ends.now c.loop-site.site next c.requires.by_site passes.on (omega (arith, inside)) in
-          let same = ap (λ (v : _). open_ends a.ends.now (length a.at.now) v.items) passes.choices in
+      total = (let inside : next < a.step.now.problem.now.pairs.sites = omega (arith, passes.within, i.budget.sized.choices, c.if-next-sites.false, c.requires.posed.asked.sites) in
+          let ordered = starts_rise a.step.now.problem.now.pairs a.step.now.ends.now next c.requires.posed.by_site inside in
+          let climbs = starts_climb a.step.now.problem.now.pairs a.step.now.ends.now c.loop-site.site next c.requires.posed.by_site passes.on (omega (arith, inside)) in
+          let same = ap (λ (v : _). open_ends a.step.now.ends.now (length a.step.now.at.now) v.items) passes.choices in
           let before = passed_total c.loop-site.site next c.loop-site.self mid passes in
           omega (arith, e.total, one.total, one.left, same, before, ordered, climbs, passes.on, i.total));
       decided = λ m answers.
-          let D : ℕ → Type 0 = λ k. ArePartlyDecided m a.change (labelling a.at.now) k c.sum_site.new.self in
-          let E : ℕ → Type 0 = λ k. ArePartlyDecided m a.change (labelling a.at.now) k c.settle_all.new.self in
-          let was = passed_decides m a.change (labelling a.at.now) c.loop-site.site next c.loop-site.self mid passes (i.decided m answers) in
+          let D : ℕ → Type 0 = λ k. ArePartlyDecided m a.step.now.change (labelling a.step.now.at.now) k c.sum_site.new.self in
+          let E : ℕ → Type 0 = λ k. ArePartlyDecided m a.step.now.change (labelling a.step.now.at.now) k c.settle_all.new.self in
+          let was = passed_decides m a.step.now.change (labelling a.step.now.at.now) c.loop-site.site next c.loop-site.self mid passes (i.decided m answers) in
           subst E one.summed (e.decided m answers (subst D (sym one.summed) (one.decided m answers was)));
     }
 
-pub returns-then-next-at-clause-sized : goal.returns-then-next-at-clause-sized
-returns-then-next-at-clause-sized g c =
+pub returns-then-next-sites-clause-sized : goal.returns-then-next-sites-clause-sized
+returns-then-next-sites-clause-sized g c =
     let a = c.args in
     let mid = c.pass_closed.new.self in
     let next = c.in_ok-next.next in
     let i = c.loop-site.invariant in
     let passes = c.in_ok-next.ensures in
-    let at_end : next ≡ length a.at.now = c.if-next-at.true in
-    let sized = passed_sized (length a.at.now) c.loop-site.site next c.loop-site.self mid i.same passes i.sized in
+    let at_end : next ≡ length a.step.now.at.now = c.if-next-sites.true in
+    let sized = passed_sized (length a.step.now.at.now) c.loop-site.site next c.loop-site.self mid i.same passes i.budget.sized in
     let count = passed_len c.loop-site.site next c.loop-site.self mid i.same passes in
     record { choices = sized.choices; least = count ∙ at_end; greatest = sized.greatest ∙ count ∙ at_end }
 
-pub returns-then-next-at-clause-none : goal.returns-then-next-at-clause-none
-returns-then-next-at-clause-none g c =
+pub returns-then-next-sites-clause-none : goal.returns-then-next-sites-clause-none
+returns-then-next-sites-clause-none g c =
     let a = c.args in
     let mid = c.pass_closed.new.self in
     let next = c.in_ok-next.next in
     let i = c.loop-site.invariant in
     let passes = c.in_ok-next.ensures in
-    let at_end : next ≡ length a.at.now = c.if-next-at.true in
+    let at_end : next ≡ length a.step.now.at.now = c.if-next-sites.true in
     let W : ℕ → Type 0 = λ k. AreWaiting k mid in
-    none_waits (length a.at.now) mid (ap (λ (v : _). v.items) passes.waiting ∙ i.none) (subst W at_end (passed_waits c.loop-site.site next c.loop-site.self mid passes i.waiting))
+    none_waits (length a.step.now.at.now) mid (ap (λ (v : _). v.items) passes.waiting ∙ i.none) (subst W at_end (passed_waits c.loop-site.site next c.loop-site.self mid passes i.waiting))
 
-pub returns-then-next-at-clause-decided : goal.returns-then-next-at-clause-decided
-returns-then-next-at-clause-decided g c = λ m answers.
+pub returns-then-next-sites-clause-decided : goal.returns-then-next-sites-clause-decided
+returns-then-next-sites-clause-decided g c = λ m answers.
     let a = c.args in
     let mid = c.pass_closed.new.self in
     let next = c.in_ok-next.next in
     let i = c.loop-site.invariant in
     let passes = c.in_ok-next.ensures in
-    let at_end : next ≡ length a.at.now = c.if-next-at.true in
-    let D : ℕ → Type 0 = λ k. ArePartlyDecided m a.change (labelling a.at.now) k mid in
-    subst D at_end (passed_decides m a.change (labelling a.at.now) c.loop-site.site next c.loop-site.self mid passes (i.decided m answers))
+    let at_end : next ≡ length a.step.now.at.now = c.if-next-sites.true in
+    let D : ℕ → Type 0 = λ k. ArePartlyDecided m a.step.now.change (labelling a.step.now.at.now) k mid in
+    subst D at_end (passed_decides m a.step.now.change (labelling a.step.now.at.now) c.loop-site.site next c.loop-site.self mid passes (i.decided m answers))
 
-pub returns-then-next-at-clause-total : goal.returns-then-next-at-clause-total
-returns-then-next-at-clause-total g c =
+pub returns-then-next-sites-clause-total : goal.returns-then-next-sites-clause-total
+returns-then-next-sites-clause-total g c =
     let a = c.args in
     let mid = c.pass_closed.new.self in
     let next = c.in_ok-next.next in
     let i = c.loop-site.invariant in
     let passes = c.in_ok-next.ensures in
-    let inside : c.loop-site.site ≤ a.problem.now.pairs.sites = omega (arith, i.within, c.requires.asked.sites) in
-    let most = starts_within a.problem.now.pairs a.ends.now c.loop-site.site c.requires.by_site inside in
+    let inside : c.loop-site.site ≤ a.step.now.problem.now.pairs.sites = omega (arith, i.within, c.requires.posed.asked.sites) in
+    let most = starts_within a.step.now.problem.now.pairs a.step.now.ends.now c.loop-site.site c.requires.posed.by_site inside in
     let before = passed_total c.loop-site.site next c.loop-site.self mid passes in
-    omega (arith, before, i.total, inside, most, ends_len a.problem.now.pairs.list, c.requires.posed.pairs.count, c.requires.posed.pairs.sites)
+    omega (arith, before, i.total, inside, most, ends_len a.step.now.problem.now.pairs.list, c.requires.posed.posed.pairs.count, c.requires.posed.posed.pairs.sites)
 
 pub returns-in_err-sum_site-clause-sized : goal.returns-in_err-sum_site-clause-sized
 returns-in_err-sum_site-clause-sized g c =
@@ -229,31 +210,31 @@ returns-in_err-settle_all-clause-decided g c =
 
 pub returns-clause-sized : goal.returns-clause-sized
 returns-clause-sized g c =
-    let at_end : c.loop-site.site ≡ length c.args.at.now = omega (arith, c.loop-site-test.false, c.loop-site.invariant.within) in
+    let at_end : c.loop-site.site ≡ length c.args.step.now.at.now = omega (arith, c.loop-site-test.false, c.loop-site.invariant.within) in
     let i = c.loop-site.invariant in
-    record { choices = i.sized.choices; least = i.same ∙ at_end; greatest = i.sized.greatest ∙ i.same ∙ at_end }
+    record { choices = i.budget.sized.choices; least = i.same ∙ at_end; greatest = i.budget.sized.greatest ∙ i.same ∙ at_end }
 
 pub returns-clause-none : goal.returns-clause-none
 returns-clause-none g c =
-    let at_end : c.loop-site.site ≡ length c.args.at.now = omega (arith, c.loop-site-test.false, c.loop-site.invariant.within) in
+    let at_end : c.loop-site.site ≡ length c.args.step.now.at.now = omega (arith, c.loop-site-test.false, c.loop-site.invariant.within) in
     let i = c.loop-site.invariant in
     let W : ℕ → Type 0 = λ k. AreWaiting k c.loop-site.self in
-    none_waits (length c.args.at.now) c.loop-site.self i.none (subst W at_end i.waiting)
+    none_waits (length c.args.step.now.at.now) c.loop-site.self i.none (subst W at_end i.waiting)
 
 pub returns-clause-decided : goal.returns-clause-decided
 returns-clause-decided g c = λ m answers.
     let a = c.args in
-    let at_end : c.loop-site.site ≡ length a.at.now = omega (arith, c.loop-site-test.false, c.loop-site.invariant.within) in
-    let D : ℕ → Type 0 = λ k. ArePartlyDecided m a.change (labelling a.at.now) k c.loop-site.self in
+    let at_end : c.loop-site.site ≡ length a.step.now.at.now = omega (arith, c.loop-site-test.false, c.loop-site.invariant.within) in
+    let D : ℕ → Type 0 = λ k. ArePartlyDecided m a.step.now.change (labelling a.step.now.at.now) k c.loop-site.self in
     subst D at_end (c.loop-site.invariant.decided m answers)
 
 pub returns-clause-total : goal.returns-clause-total
 returns-clause-total g c =
     let a = c.args in
-    let at_end : c.loop-site.site ≡ length a.at.now = omega (arith, c.loop-site-test.false, c.loop-site.invariant.within) in
-    let inside : c.loop-site.site ≤ a.problem.now.pairs.sites = omega (arith, at_end, c.requires.asked.sites) in
-    let most = starts_within a.problem.now.pairs a.ends.now c.loop-site.site c.requires.by_site inside in
-    omega (arith, c.loop-site.invariant.total, inside, most, ends_len a.problem.now.pairs.list, c.requires.posed.pairs.count, c.requires.posed.pairs.sites)
+    let at_end : c.loop-site.site ≡ length a.step.now.at.now = omega (arith, c.loop-site-test.false, c.loop-site.invariant.within) in
+    let inside : c.loop-site.site ≤ a.step.now.problem.now.pairs.sites = omega (arith, at_end, c.requires.posed.asked.sites) in
+    let most = starts_within a.step.now.problem.now.pairs a.step.now.ends.now c.loop-site.site c.requires.posed.by_site inside in
+    omega (arith, c.loop-site.invariant.total, inside, most, ends_len a.step.now.problem.now.pairs.list, c.requires.posed.posed.pairs.count, c.requires.posed.posed.pairs.sites)
 
 pub returns-in_err-sum_site-clause-total : goal.returns-in_err-sum_site-clause-total
 returns-in_err-sum_site-clause-total g c =

@@ -7,11 +7,9 @@ use Rattle.deciding.proofs.bounds.Bounds.settle_all.Goals as goal
 
 pub settling-init : goal.settling-init
 settling-init g c = record {
-  sized = c.requires.sized;
+  budget = c.requires.budget;
   same = refl;
   waiting = c.requires.waiting;
-  few = c.requires.left;
-  range = c.requires.range;
   total = omega arith;
   decided = λ m answers decided. decided;
 }
@@ -36,38 +34,34 @@ settling-preserved g c =
     let n = length c.args.self.now.least.items in
     let W : ℕ → Type 0 = λ k. AreWaiting k c.settle.new.self in
     record {
-      sized = e.sized;
+      budget = e.budget;
       same = e.same ∙ same;
       waiting = subst W same e.waiting;
-      few = e.left;
-      range = e.range;
       total = omega (arith, e.total, c.settling.invariant.total);
       decided = λ m answers first.
-          let f = labelling c.args.at.now in
+          let f = labelling c.args.step.now.at.now in
           let popped = record c.settling.self { waiting = c.pop.new.self } in
-          let D : ℕ → Type 0 = λ k. ArePartlyDecided m c.args.change f k popped in
-          let E : ℕ → Type 0 = λ k. ArePartlyDecided m c.args.change f k c.settle.new.self in
-          subst E same (e.decided m answers (subst D (sym same) (partly_same m c.args.change f n c.settling.self popped refl refl refl (c.settling.invariant.decided m answers first))));
+          let D : ℕ → Type 0 = λ k. ArePartlyDecided m c.args.step.now.change f k popped in
+          let E : ℕ → Type 0 = λ k. ArePartlyDecided m c.args.step.now.change f k c.settle.new.self in
+          subst E same (e.decided m answers (subst D (sym same) (partly_same m c.args.step.now.change f n c.settling.self popped refl refl refl (c.settling.invariant.decided m answers first))));
     }
 
-pub settle-requires-clause-by_site : goal.settle-requires-clause-by_site
-settle-requires-clause-by_site g c = λ κs lives. c.requires.by_site
+pub settle-requires-clause-posed : goal.settle-requires-clause-posed
+settle-requires-clause-posed g c = λ κs lives. c.requires.posed
 
-pub settle-requires-clause-sized : goal.settle-requires-clause-sized
-settle-requires-clause-sized g c = λ κs lives. record {
-  choices = c.settling.invariant.sized.choices;
-  greatest = c.settling.invariant.sized.greatest;
-  within = c.settling.invariant.sized.within;
+pub settle-requires-clause-budget : goal.settle-requires-clause-budget
+settle-requires-clause-budget g c = λ κs lives. record {
+  sized = record {
+    choices = c.settling.invariant.budget.sized.choices;
+    greatest = c.settling.invariant.budget.sized.greatest;
+    within = c.settling.invariant.budget.sized.within;
+  };
+  left = c.settling.invariant.budget.left;
+  range = c.settling.invariant.budget.range;
 }
 
-pub settle-requires-clause-left : goal.settle-requires-clause-left
-settle-requires-clause-left g c = λ κs lives. c.settling.invariant.few
-
-pub settle-requires-clause-range : goal.settle-requires-clause-range
-settle-requires-clause-range g c = λ κs lives. c.settling.invariant.range
-
-pub returns-in_err-settle-clause-sized : goal.returns-in_err-settle-clause-sized
-returns-in_err-settle-clause-sized g c =
+pub returns-in_err-settle-clause-budget : goal.returns-in_err-settle-clause-budget
+returns-in_err-settle-clause-budget g c =
     let p = err_from_is_err_and c.from_residual.result c.from_residual.ensures.1 in
     rw (p.1) tt
 
@@ -86,16 +80,6 @@ returns-in_err-settle-clause-none g c =
     let p = err_from_is_err_and c.from_residual.result c.from_residual.ensures.1 in
     rw (p.1) tt
 
-pub returns-in_err-settle-clause-left : goal.returns-in_err-settle-clause-left
-returns-in_err-settle-clause-left g c =
-    let p = err_from_is_err_and c.from_residual.result c.from_residual.ensures.1 in
-    rw (p.1) tt
-
-pub returns-in_err-settle-clause-range : goal.returns-in_err-settle-clause-range
-returns-in_err-settle-clause-range g c =
-    let p = err_from_is_err_and c.from_residual.result c.from_residual.ensures.1 in
-    rw (p.1) tt
-
 pub returns-in_err-settle-clause-decided : goal.returns-in_err-settle-clause-decided
 returns-in_err-settle-clause-decided g c =
     let p = err_from_is_err_and c.from_residual.result c.from_residual.ensures.1 in
@@ -103,10 +87,21 @@ returns-in_err-settle-clause-decided g c =
 
 pub returns-clause-decided : goal.returns-clause-decided
 returns-clause-decided g c = λ m answers first.
-    partly_same m c.args.change (labelling c.args.at.now) (length c.args.self.now.least.items) c.settling.self (record c.settling.self { waiting = c.pop.new.self }) refl refl refl
+    partly_same m c.args.step.now.change (labelling c.args.step.now.at.now) (length c.args.self.now.least.items) c.settling.self (record c.settling.self { waiting = c.pop.new.self }) refl refl refl
     (c.settling.invariant.decided m answers first)
 
 pub returns-in_err-settle-clause-total : goal.returns-in_err-settle-clause-total
 returns-in_err-settle-clause-total g c =
     let p = err_from_is_err_and c.from_residual.result c.from_residual.ensures.1 in
     rw (p.1) tt
+
+pub returns-clause-budget : goal.returns-clause-budget
+returns-clause-budget g c = record {
+  sized = record {
+    choices = c.settling.invariant.budget.sized.choices;
+    greatest = c.settling.invariant.budget.sized.greatest;
+    within = c.settling.invariant.budget.sized.within;
+  };
+  left = c.settling.invariant.budget.left;
+  range = c.settling.invariant.budget.range;
+}

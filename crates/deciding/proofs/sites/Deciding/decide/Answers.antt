@@ -1,5 +1,7 @@
-use Rattle.std.proofs.Common.{◌≡◌, ◌∙◌, refl, sym, length, arith}
+use Rattle.std.proofs.Common.{◌≡◌, ◌∙◌, List, refl, sym, subst, length, arith}
 use Rattle.labellings.specs.Energies.{labelling}
+use Rattle.move_energy.specs.declared.choice.Choice.{Choice}
+use Rattle.deciding.specs.Listed.{AreListed}
 use Rattle.deciding.proofs.Places.{meant_pairs}
 use Rattle.deciding.proofs.Whole.{unsummed_first, partly_first, decided_last, partly_weights}
 use Rattle.std.proofs.lemmas.Result.{err_from_is_err_and}
@@ -16,8 +18,8 @@ returns-clause-decided g c = λ m meant.
 pub returns-in_err-test_terms-clause-kept : goal.returns-in_err-test_terms-clause-kept
 returns-in_err-test_terms-clause-kept g c = refl
 
-pub returns-in_err-test_terms-clause-count : goal.returns-in_err-test_terms-clause-count
-returns-in_err-test_terms-clause-count g c =
+pub returns-in_err-test_terms-clause-known : goal.returns-in_err-test_terms-clause-known
+returns-in_err-test_terms-clause-known g c =
     let p = err_from_is_err_and c.from_residual.result c.from_residual.ensures.1 in
     rw (p.1) tt
 
@@ -33,30 +35,33 @@ pub decide_sites-requires-clause-begun : goal.decide_sites-requires-clause-begun
 decide_sites-requires-clause-begun g c = λ κs lives m meant.
     partly_first m c.args.change c.args.at.now c.open_sites.new.self (omega (arith, meant.sites_are, c.requires.asked.sites)) c.in_ok-open_sites.ensures.undecided
 
-pub decide_sites-requires-clause-by_site : goal.decide_sites-requires-clause-by_site
-decide_sites-requires-clause-by_site g c = λ κs lives. c.requires.by_site
+pub decide_sites-requires-clause-posed : goal.decide_sites-requires-clause-posed
+decide_sites-requires-clause-posed g c = λ κs lives. record {
+  posed = c.requires.posed;
+  asked = c.requires.asked;
+  by_site = c.requires.by_site;
+  labels = c.in_ok-make.ensures.sized;
+  table = λ m meant. c.in_ok-make.ensures.rises m meant;
+}
 
 pub returns-in_err-open_sites-clause-kept : goal.returns-in_err-open_sites-clause-kept
 returns-in_err-open_sites-clause-kept g c = refl
 
-pub returns-in_err-open_sites-clause-count : goal.returns-in_err-open_sites-clause-count
-returns-in_err-open_sites-clause-count g c =
+pub returns-in_err-open_sites-clause-known : goal.returns-in_err-open_sites-clause-known
+returns-in_err-open_sites-clause-known g c =
     let p = err_from_is_err_and c.from_residual-in_err-open_sites.result c.from_residual-in_err-open_sites.ensures.1 in
     rw (p.1) tt
 
 pub returns-in_err-decide_sites-clause-kept : goal.returns-in_err-decide_sites-clause-kept
 returns-in_err-decide_sites-clause-kept g c = refl
 
-pub returns-in_err-decide_sites-clause-count : goal.returns-in_err-decide_sites-clause-count
-returns-in_err-decide_sites-clause-count g c =
+pub returns-in_err-decide_sites-clause-known : goal.returns-in_err-decide_sites-clause-known
+returns-in_err-decide_sites-clause-known g c =
     let p = err_from_is_err_and c.from_residual-in_err-decide_sites.result c.from_residual-in_err-decide_sites.ensures.1 in
     rw (p.1) tt
 
 pub returns-clause-kept : goal.returns-clause-kept
 returns-clause-kept g c = refl
-
-pub returns-clause-count : goal.returns-clause-count
-returns-clause-count g c = c.in_ok-decide_sites.ensures.sized.choices
 
 pub returns-clause-weights : goal.returns-clause-weights
 returns-clause-weights g c = λ m meant.
@@ -65,8 +70,15 @@ returns-clause-weights g c = λ m meant.
     partly_weights m a.change (labelling a.at.now) (length a.at.now) c.decide_sites.new.self (meant_pairs m a.problem.now.pairs meant.pairs_are meant.sites_are c.requires.posed.pairs)
     (omega (arith, sites)) (c.in_ok-decide_sites.ensures.decided m meant)
 
-pub returns-clause-small : goal.returns-clause-small
-returns-clause-small g c = c.in_ok-decide_sites.ensures.total
+pub returns-clause-known : goal.returns-clause-known
+returns-clause-known g c =
+    let L : List Choice → Type 0 = λ choices. AreListed c.args.change (labelling c.args.at.now) choices c.fill.new.self in
+    record {
+      sized = c.in_ok-decide_sites.ensures.sized;
+      small = c.in_ok-decide_sites.ensures.total;
+      table = c.in_ok-make.ensures.sized;
+      listed = subst L c.deref.ensures.value c.in_ok-fill.ensures.lists;
+    }
 
 pub returns-in_err-test_terms-clause-weights : goal.returns-in_err-test_terms-clause-weights
 returns-in_err-test_terms-clause-weights g c = λ m meant.

@@ -1,4 +1,5 @@
+use Rattle.rounds.proofs.Callers.{alone_may_fail}
 use Rattle.rounds.proofs.workers.WorkersRefDynGateSyncHow.side.Goals as goal
 
-pub returns-in-Err-clause-refused : goal.returns-in-Err-clause-refused
-returns-in-Err-clause-refused g c = c.refusal_of.ensures.may c.args.net c.args.self.now.options c.in-Err.ensures.refused
+pub returns-then-is_small-clause-refused : goal.returns-then-is_small-clause-refused
+returns-then-is_small-clause-refused g c = alone_may_fail c.args.self.now.options c.side.result (c.is_small.ensures c.if-is_small.true) c.side.ensures.refused

@@ -1,0 +1,129 @@
+-- What parts tell, taken over one after another.
+use Rattle.std.proofs.Common.{◌≡◌, ◌⊎◌, ℕ, zero, suc, ◌+◌, ◌-◌, ◌*◌, ◌<◌, ◌≤◌, Bool, List, length, Result, Ok, Err, ℤ, refl, sym, ap, ◌∙◌, inl, inr, subst, arith}
+use Rattle.std.specs.Prelude.{slice_index_or, IfOk}
+use Rattle.std.specs.Global.{Vec}
+use Rattle.std.proofs.lemmas.Bool.{cases_lt}
+use Rattle.labellings.specs.declared.change.Move.{Move}
+use Rattle.label_field.specs.PairLists.{PairList}
+use Rattle.labellings.specs.Energies.{Instance, IsInstance, labelling}
+use Rattle.labellings.specs.Moves.{IsAllowed}
+use Rattle.move_energy.specs.declared.choice.Choice.{Choice}
+use Rattle.move_energy.specs.declared.choice.Choice.TheVariants.{Open, Zero, One}
+use Rattle.move_energy.specs.Choices.{choice_at}
+use Rattle.deciding.specs.declared.finding.RiseNumbers.{RiseNumbers}
+use Rattle.deciding.specs.MoveValues.{move_value}
+use Rattle.deciding.specs.Parts.{AreRisesOf, ArePassedChoices}
+use Rattle.strips.specs.Parts.{ArePartCodes, IsPartAnswer, OfParts, FillsPart, IsPartJoined, known_or, coded_at, part_start}
+use Rattle.deciding.proofs.Putting.{passed_forced}
+use Rattle.deciding.proofs.Rises.{move_falls}
+use Rattle.closing_in.specs.Agreeing.{Agree}
+use Rattle.closing_in.proofs.Agreeing.{each_agreed, forced_agree}
+
+-- ---- where parts begin
+
+one_more : (size i : ℕ) → (i + 1) * size ≡ i * size + size
+one_more size i = grind (arith)
+
+pub part_within : (n size i : ℕ) → part_start n size i ≤ n
+part_within n size i = omega arith
+
+pub part_ordered : (n size i : ℕ) → part_start n size i ≤ part_start n size (i + 1)
+part_ordered n size i = (let e = one_more size i in omega (arith, e))
+
+part_climbs : (n size i k : ℕ) → part_start n size i ≤ part_start n size (i + k)
+part_climbs n size i zero =
+    let same : i + zero ≡ i = omega arith in
+    omega (arith, ap (part_start n size) same)
+part_climbs n size i (suc k) =
+    let before = part_climbs n size i k in
+    let here = part_ordered n size (i + k) in
+    let next : i + k + 1 ≡ i + suc k = omega arith in
+    omega (arith, before, here, ap (part_start n size) next)
+
+part_later : (n size j i : ℕ) → j < i → part_start n size (j + 1) ≤ part_start n size i
+part_later n size j i l =
+    let same : j + 1 + (i - (j + 1)) ≡ i = omega (arith, l) in
+    let climbs = part_climbs n size (j + 1) (i - (j + 1)) in
+    omega (arith, climbs, ap (part_start n size) same)
+
+-- ---- one part is taken over
+
+-- a site lies outside of a range, or at a place of it
+cases_range : (from len p : ℕ) → ((p < from) ⊎ (from + len ≤ p)) ⊎ ((k : ℕ) × (k < len) × (p ≡ from + k))
+cases_range from len p = elim (cases_lt p from) [
+  | inl before ↦ inl (inl before)
+  | inr after ↦ elim (cases_lt p (from + len)) [
+    | inl inside ↦ inr (p - from, omega (arith, after, inside), omega (arith, after))
+    | inr past ↦ inl (inr past)
+  ]
+]
+
+-- the choices after part i are those before it, with what its codes tell
+pub record Takes (from : ℕ) (codes : List ℕ) (now new : List Choice) : Type 0 where
+  pub inside : (k : ℕ) → k < length codes → choice_at new (from + k) ≡ known_or (choice_at now (from + k)) (coded_at codes k)
+  pub outside : (p : ℕ) → (p < from) ⊎ (from + length codes ≤ p) → choice_at new p ≡ choice_at now p
+
+pub takes_joined : (n size i : ℕ) (codes : List ℕ) (old now new : List Choice) → length old ≡ n → Takes (part_start n size i) codes now new
+    → ((p : ℕ) → part_start n size i ≤ p → choice_at now p ≡ choice_at old p) → IsPartJoined size old new i codes
+takes_joined n size i codes old now new count takes later k l =
+    let from : part_start (length old) size i ≡ part_start n size i = ap (λ m. part_start m size i) count in
+    let P : ℕ → Type 0 = λ f. choice_at new (f + k) ≡ known_or (choice_at old (f + k)) (coded_at codes k) in
+    subst P (sym from) (takes.inside k l ∙ ap (λ (c : Choice). known_or c (coded_at codes k)) (later (part_start n size i + k) (omega arith)))
+
+pub takes_earlier : (n size j i : ℕ) (own codes : List ℕ) (old now new : List Choice) → length old ≡ n → j < i → length own ≡ part_start n size (j + 1) - part_start n size j
+    → Takes (part_start n size i) codes now new → IsPartJoined size old now j own → IsPartJoined size old new j own
+takes_earlier n size j i own codes old now new count l fills takes joined k within =
+    let from : part_start (length old) size j ≡ part_start n size j = ap (λ m. part_start m size j) count in
+    let before = part_later n size j i l in
+    takes.outside (part_start (length old) size j + k) (inl (omega (arith, from, before, fills, within))) ∙ joined k within
+
+-- what was known stands, or else what the part tells
+or_cases : (c t : Choice) → (known_or c t ≡ t) ⊎ (known_or c t ≡ c)
+or_cases Open t = inl refl
+or_cases Zero t = inr refl
+or_cases One t = inr refl
+
+pub takes_agree : (n : ℕ) (E : (ℕ → Bool) → ℤ) (from to : ℕ) (codes : List ℕ) (now new : List Choice) → from ≤ to → length codes ≡ to - from
+    → Takes from codes now new → Agree n E (choice_at now) → ArePartCodes n E from to codes → Agree n E (choice_at new)
+takes_agree n E from to codes now new ordered count takes agree part =
+    each_agreed n E (choice_at new) (λ p l. inr (elim (cases_range from (length codes) p) [
+      | inl off ↦ (choice_at now, agree, sym (takes.outside p off))
+      | inr at ↦
+          let told : choice_at part.known p ≡ coded_at codes at.0 = ap (choice_at part.known) at.2 ∙ sym (part.inside at.0 (omega (arith, at.1, count))) in
+          let is : choice_at new p ≡ known_or (choice_at now p) (coded_at codes at.0) =
+          ap (choice_at new) at.2 ∙ takes.inside at.0 at.1 ∙ ap (λ q. known_or (choice_at now q) (coded_at codes at.0)) (sym at.2) in
+          elim (or_cases (choice_at now p) (coded_at codes at.0)) [
+            | inl new_is ↦ (choice_at part.known, part.agree, told ∙ sym new_is ∙ sym is)
+            | inr old_is ↦ (choice_at now, agree, sym old_is ∙ sym is)
+          ]
+    ]))
+
+-- the codes of a part that was not refused fill its range
+pub filled_codes : {E : Type 0} (parts : List (Result (Vec ℕ) E)) (n size i : ℕ) (part : Result (Vec ℕ) E) (codes : Vec ℕ) → slice_index_or parts i part ≡ Ok codes
+    → OfParts (FillsPart n size) parts → i < length parts → length codes.items ≡ part_start n size (i + 1) - part_start n size i
+filled_codes {E} parts n size i part codes is filled l =
+    let P : Result (Vec ℕ) E → Type 0 = λ r. IfOk r (λ v. FillsPart n size i v.items) in
+    subst P is (filled i part l)
+
+told_ok : {T E : Type 0} (r : Result T E) (P Q : T → Type 0) → ((v : T) → P v → Q v) → IfOk r P → IfOk r Q
+told_ok (Ok v) P Q f p = f v p
+told_ok (Err e) P Q f p = tt
+
+-- what the parts tell, of the choices that all of them began with
+pub parts_told : {E : Type 0} (m : Instance) (move : Move) (numbers : RiseNumbers) (old now : List Choice) (size : ℕ) (parts list : List (Result (Vec ℕ) E))
+    → AreRisesOf m move numbers → IsInstance m → now ≡ old → length old ≡ length numbers.at.now → list ≡ parts → ArePassedChoices m move (labelling numbers.at.now) (choice_at old)
+    → OfParts (IsPartAnswer numbers now size) parts
+    → OfParts (λ i. ArePartCodes m.sites (move_value m move (labelling numbers.at.now)) (part_start (length old) size i) (part_start (length old) size (i + 1))) list
+parts_told {E} m move numbers old now size parts list rises is_one same count listed passed closed =
+    let A : ℕ → ℕ → List ℕ → Type 0 = λ n i codes. ArePartCodes m.sites (move_value m move (labelling numbers.at.now)) (part_start n size i) (part_start n size (i + 1)) codes in
+    let P : List Choice → Type 0 = λ cs. ArePassedChoices m move (labelling numbers.at.now) (choice_at cs) in
+    let Q : ℕ → Type 0 = λ n. OfParts (A n) list in
+    let R : List (Result (Vec ℕ) E) → Type 0 = λ ps. OfParts (A (length numbers.at.now)) ps in
+    subst Q (sym count) (subst R (sym listed) (λ i part l. told_ok (slice_index_or parts i part) _ _ (λ v is. is.told m move rises is_one (subst P (sym same) passed)) (closed i part l)))
+
+-- choices of decisions that passed the test agree
+pub passed_agree : (m : Instance) (move : Move) (f : ℕ → ℕ) (choice : ℕ → Choice) → IsInstance m → IsAllowed m move f → ArePassedChoices m move f choice
+    → Agree m.sites (move_value m move f) choice
+passed_agree m move f choice pairs allowed passed =
+    forced_agree m.sites (move_value m move f) passed.decisions choice
+    (passed_forced (move_value m move f) passed.decisions (move_falls m move f pairs allowed) passed.passed) passed.shown

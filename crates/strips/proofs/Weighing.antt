@@ -1,0 +1,80 @@
+-- What the listed sites of a strip weigh.
+use Rattle.std.proofs.Common.{◌≡◌, ◌≢◌, ◌<◌, ◌≤◌, ◌+◌, ◌*◌, ◌∷◌, ◌++◌, [], ℕ, ℤ, List, All, length, map, take, sum_by, get_or, pos, unsigned_abs, refl, sym, ap, ◌∙◌, subst, arith}
+use Rattle.std.proofs.lemmas.List.{length-map, take_all}
+use Rattle.std.proofs.lemmas.List.Sums.{sum_by_push, sum_by_more}
+use Rattle.std.proofs.lemmas.List.Elements.{All-head, All-tail, All-from_get_or}
+use Rattle.label_field.specs.PairLists.{IsPairList, PairList}
+use Rattle.labellings.specs.declared.change.Move.{Move}
+use Rattle.labellings.specs.Energies.{Instance}
+use Rattle.compile_cut.specs.Weights.{weights_size}
+use Rattle.move_energy.specs.declared.by_site.Neighbours.{Neighbours}
+use Rattle.move_energy.specs.declared.choice.Choice.{Choice}
+use Rattle.move_energy.specs.declared.choice.Choice.TheVariants.{Open, Zero, One}
+use Rattle.move_energy.specs.BySite.{AreBySite, degree}
+use Rattle.move_energy.specs.Choices.{choice_at, is_open, AreOpenSites}
+use Rattle.move_energy.specs.Weights.{weight_at, AreWeights}
+use Rattle.move_energy.proofs.Opened.{opened_has, opened_few, open_true, true_open}
+use Rattle.deciding.specs.Parts.{site_weight}
+use Rattle.strips.specs.Views.{KeepsChosen, strip_view}
+use Rattle.strips.proofs.Borders.{weights_few, degrees_few}
+use Rattle.strips.proofs.Views.{view_length, open_inside}
+
+-- ---- weights that are read of a list for all sites
+
+pub listed_few : (choices : List Choice) (opened : List ℕ) (weights list : List ℤ) → list ≡ map (weight_at weights) opened → length weights ≡ length choices
+    → AreOpenSites choices opened → weights_size weights ≤ 300000000000000 → weights_size list ≤ 300000000000000
+listed_few choices opened weights list is size listed small =
+    omega (arith, ap (λ (ws : List ℤ). weights_size ws) is, weights_few choices opened weights size listed, small)
+
+pub listed_count : (opened : List ℕ) (weights list : List ℤ) → list ≡ map (weight_at weights) opened → length list ≡ length opened
+listed_count opened weights list is = ap (λ (ws : List ℤ). length ws) is ∙ length-map opened (weight_at weights)
+
+-- an open site of a strip was open at the start
+start_open : (s k : Choice) → (s ≢ Open → k ≡ s) → k ≡ Open → s ≡ Open
+start_open Open k kept opened = refl
+start_open Zero k kept opened = absurd (let e = sym (kept (λ h. cc (h))) ∙ opened in cc (e))
+start_open One k kept opened = absurd (let e = sym (kept (λ h. cc (h))) ∙ opened in cc (e))
+
+pub listed_open : (start known : List Choice) (from to : ℕ) (opened : List ℕ) → AreOpenSites (strip_view known from to) opened → KeepsChosen start known
+    → All (λ u. (u < length known) × (choice_at start u ≡ Open)) opened
+listed_open start known from to opened listed on =
+    All-from_get_or (λ u. (u < length known) × (choice_at start u ≡ Open)) opened 0 (λ i l.
+    let has = opened_has (strip_view known from to) opened i listed l in
+    let u : ℕ = get_or opened i 0 in
+    let within : u < length known = omega (arith, has.0, view_length known from to) in
+    let now = true_open (choice_at known u) (open_inside known from to u (open_true (choice_at (strip_view known from to) u) has.1)).1 in
+    (within, start_open (choice_at start u) (choice_at known u) (λ shuts. on u within shuts) now))
+
+map_open : (m : Instance) (move : Move) (f : ℕ → ℕ) (start : List Choice) (n : ℕ) (weights : List ℤ) (opened : List ℕ) → n ≤ m.sites → AreWeights m move f (choice_at start) weights
+    → All (λ u. (u < n) × (choice_at start u ≡ Open)) opened → map (weight_at weights) opened ≡ map (site_weight m move f (choice_at start)) opened
+map_open m move f start n weights [] few are all = refl
+map_open m move f start n weights (x ∷ xs) few are all =
+    let here = All-head (λ u. (u < n) × (choice_at start u ≡ Open)) x xs all in
+    let first : weight_at weights x ≡ site_weight m move f (choice_at start) x = are x (omega (arith, here.0, few)) here.1 in
+    let rest = map_open m move f start n weights xs few are (All-tail (λ u. (u < n) × (choice_at start u ≡ Open)) x xs all) in
+    (λ i. first i ∷ rest i)
+
+pub starts_listed : (m : Instance) (move : Move) (f : ℕ → ℕ) (start known : List Choice) (from to : ℕ) (opened : List ℕ) (weights list : List ℤ) → length known ≡ m.sites
+    → list ≡ map (weight_at weights) opened → AreOpenSites (strip_view known from to) opened → KeepsChosen start known → AreWeights m move f (choice_at start) weights
+    → list ≡ map (site_weight m move f (choice_at start)) opened
+starts_listed m move f start known from to opened weights list size is listed on are =
+    is ∙ map_open m move f start (length known) weights opened (omega (arith, size)) are (listed_open start known from to opened listed on)
+
+-- ---- weights that are read one after another
+
+pub read_more : (list new : List ℤ) (opened : List ℕ) (ends : Neighbours) (i site : ℕ) (z : ℤ) → i < length opened → site ≡ get_or opened i 0
+    → new ≡ list ++ z ∷ [] → unsigned_abs z ≤ 10000000 + 10000000 * degree ends site
+    → weights_size list ≤ 10000000 * i + 10000000 * sum_by (degree ends) (take i opened)
+    → weights_size new ≤ 10000000 * (i + 1) + 10000000 * sum_by (degree ends) (take (i + 1) opened)
+read_more list new opened ends i site z l at pushed within before =
+    let size = ap (λ (ws : List ℤ). weights_size ws) pushed ∙ sum_by_push unsigned_abs list z in
+    let degrees = sum_by_more (degree ends) opened i 0 l in
+    let own = ap (degree ends) at in
+    omega (arith, size, degrees, own, within, before)
+
+pub read_all : (pairs : PairList) (ends : Neighbours) (choices : List Choice) (list : List ℤ) (opened : List ℕ) (i : ℕ) → IsPairList pairs → AreBySite pairs ends
+    → length choices ≡ pairs.sites → AreOpenSites choices opened → length opened ≤ i → i ≤ length opened
+    → weights_size list ≤ 10000000 * i + 10000000 * sum_by (degree ends) (take i opened) → weights_size list ≤ 300000000000000
+read_all pairs ends choices list opened i are by_site sites listed past few within =
+    let degrees = ap (λ (xs : List ℕ). sum_by (degree ends) xs) (take_all i opened past) in
+    omega (arith, within, degrees, degrees_few pairs ends choices opened by_site sites listed, opened_few choices opened listed, are.count, are.sites, sites, few)

@@ -1,0 +1,31 @@
+use Rattle.std.proofs.Common.{◌≡◌, ◌≤◌, ◌∙◌, ℕ, ℤ, List, length, map, refl, sym, ap, subst, arith}
+use Rattle.labellings.specs.Energies.{labelling}
+use Rattle.move_energy.specs.declared.choice.Choice.{Choice}
+use Rattle.move_energy.specs.Choices.{choice_at, AreOpenSites}
+use Rattle.move_energy.proofs.Opened.{opened_within}
+use Rattle.deciding.specs.Parts.{site_weight}
+use Rattle.strips.specs.Sides.{AreBounds}
+use Rattle.strips.specs.Views.{strip_view}
+use Rattle.strips.proofs.Ranges.{on_ok}
+use Rattle.strips.proofs.Views.{view_length}
+use Rattle.strips.proofs.closing.Strips.close_read.Goals as goal
+
+pub tell-requires-clause-sites : goal.tell-requires-clause-sites
+tell-requires-clause-sites c =
+    let a = c.args in
+    opened_within (strip_view a.known.now.items a.from a.to) a.self.now.opened.items (length a.known.now.items) c.requires.opened (view_length a.known.now.items a.from a.to)
+
+pub returns-clause-agree : goal.returns-clause-agree
+returns-clause-agree c = λ m move told is agree.
+    let a = c.args in
+    let f = labelling a.numbers.now.at.now in
+    let W : List Choice → List ℕ → List ℤ = λ ks xs. map (site_weight m move f (choice_at ks)) xs in
+    let starts = c.deref-6.ensures.value ∙ c.in_ok-read_weights.ensures.weights m move told is
+    ∙ ap (λ ks. W ks c.deref-2.result.now) (c.deref.ensures.value ∙ sym c.deref-3.ensures.value)
+    ∙ ap (W c.deref-3.result.now) (c.deref-2.ensures.value ∙ sym c.deref-5.ensures.value) in
+    let K : List Choice → Type 0 = λ ks. AreBounds m move f ks c.deref-5.result.now c.in_ok-sides.sides in
+    let B : List ℕ → Type 0 = λ xs. AreBounds m move f a.known.now.items xs c.in_ok-sides.sides in
+    let few : m.sites ≤ length a.known.now.items = omega (arith, told.sites_are, c.requires.readable.sites, c.requires.count) in
+    let tells = c.in_ok-sides.ensures.tells m move f (λ pair z gives. gives.1.0 m move f record { rises = told.told; within = told.labels; from = refl })
+    record { sites_are = told.sites_are; pairs_are = told.pairs_are; instance = is; allowed = told.allowed } starts in
+    on_ok c.tell.result _ (c.tell.ensures.agree m move f is told.allowed few (subst B c.deref-5.ensures.value (subst K c.deref-4.ensures.value tells)) agree)

@@ -1,0 +1,25 @@
+use Rattle.std.proofs.Common.{◌≡◌, ◌≤◌, ◌-◌, List, length}
+use Rattle.labellings.specs.declared.change.Move.{Move}
+use Rattle.labellings.specs.Energies.{Instance, IsInstance, labelling}
+use Rattle.move_energy.specs.declared.choice.Choice.{Choice}
+use Rattle.move_energy.specs.Choices.{choice_at, AreOpenSites}
+use Rattle.deciding.specs.MoveValues.{move_value}
+use Rattle.deciding.specs.Parts.{AreRisesOf}
+use Rattle.closing_in.specs.Agreeing.{Agree}
+use Rattle.strips.specs.Views.{KeepsChosen, strip_view}
+use Rattle.strips.proofs.parting.close_range.Given as goal
+
+abbrev pub invariant-strips : goal.invariant-strips
+invariant-strips l = record {
+  inside : l.end ≤ l.to;
+  from : l.from ≤ l.end;
+  count : length l.known.items ≡ length l.fn.known.items;
+  goes_on : (start : List Choice) → KeepsChosen start l.fn.known.items → KeepsChosen start l.known.items;
+  opened : AreOpenSites (strip_view l.known.items l.from l.end) l.strips.opened.items;
+  agree : (m : Instance) (move : Move) → AreRisesOf m move l.numbers → IsInstance m
+      → Agree m.sites (move_value m move (labelling l.numbers.at.now)) (choice_at l.fn.known.items)
+      → Agree m.sites (move_value m move (labelling l.numbers.at.now)) (choice_at l.known.items);
+}
+
+abbrev pub decreases-strips : goal.decreases-strips
+decreases-strips l = l.to - l.end

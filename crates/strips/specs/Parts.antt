@@ -1,0 +1,73 @@
+-- Closing in by parts of the sites, each by numbers alone.
+use Rattle.std.specs.Prelude.{◌≡◌, ◌≢◌, ◌==◌, ℕ, ◌+◌, ◌-◌, ◌*◌, ◌<◌, Bool, cond, min, List, length}
+use Rattle.std.specs.Prelude.{slice_index_or, ℤ, Result, IfOk}
+use Rattle.std.specs.Global.{Vec}
+use Rattle.labellings.specs.declared.change.Move.{Move}
+use Rattle.labellings.specs.Energies.{Instance, IsInstance, labelling}
+use Rattle.move_energy.specs.declared.choice.Choice.{Choice}
+use Rattle.move_energy.specs.declared.choice.Choice.TheVariants.{Open, Zero, One}
+use Rattle.move_energy.specs.Choices.{choice_at}
+use Rattle.deciding.specs.Decisions.{Passes}
+use Rattle.deciding.specs.MoveValues.{move_value}
+use Rattle.deciding.specs.declared.finding.RiseNumbers.{RiseNumbers}
+use Rattle.deciding.specs.Parts.{AreRisesOf, ArePassedChoices, WhereRead}
+use Rattle.closing_in.specs.Agreeing.{Agree}
+
+-- the code of what is known of a site: 1 for the value 0, 2 for the value 1, and others for nothing
+abbrev pub choice_of_code : ℕ → Choice
+choice_of_code code = cond (code == 1) Zero (cond (code == 2) One Open)
+
+-- what a code of a list tells
+abbrev pub coded_at : List ℕ → ℕ → Choice
+coded_at codes k = choice_of_code (slice_index_or codes k 0)
+
+-- what was known, and else what is told
+abbrev pub known_or : Choice → Choice → Choice
+known_or Open told = told
+known_or Zero told = Zero
+known_or One told = One
+
+-- where the parts of n sites begin, each of so many of them
+abbrev pub part_start : ℕ → ℕ → ℕ → ℕ
+part_start n size i = min (i * size) n
+
+-- the codes tell of the sites from one on, before another, what choices have there that agree
+pub record ArePartCodes (n : ℕ) (E : (ℕ → Bool) → ℤ) (from to : ℕ) (codes : List ℕ) : Type 0 where
+  pub known : List Choice
+  pub agree : Agree n E (choice_at known)
+  pub inside : (k : ℕ) → k < to - from → coded_at codes k ≡ choice_at known (from + k)
+
+-- the answer of a part that was closed in by numbers alone: each site that passed the test by what
+-- was known before is decided, and what is told agrees
+pub record IsPartClosed (numbers : RiseNumbers) (before : List Choice) (from to : ℕ)
+    (codes : List ℕ) : Type 0 where
+  pub count : length codes ≡ to - from
+  pub told : WhereRead numbers (λ m move f. IsInstance m
+      → ArePassedChoices m move f (choice_at before)
+      → ArePartCodes m.sites (move_value m move f) from to codes)
+  pub tried : (m : Instance) (move : Move) (k : ℕ) (b : Bool) → AreRisesOf m move numbers
+      → (ds : ArePassedChoices m move (labelling numbers.at.now) (choice_at before)) → k < to - from
+      → Passes (move_value m move (labelling numbers.at.now)) ds.decisions (from + k) b
+      → coded_at codes k ≢ Open
+
+-- the answer of part i, where each part has so many sites
+abbrev pub IsPartAnswer : RiseNumbers → List Choice → ℕ → ℕ → List ℕ → Type 0
+IsPartAnswer numbers before size i codes = IsPartClosed numbers before
+    (part_start (length numbers.at.now) size i)
+    (part_start (length numbers.at.now) size (i + 1)) codes
+
+-- this holds of the codes of each part that was not refused memory
+abbrev pub OfParts : {E : Type 0} → (ℕ → List ℕ → Type 0) → List (Result (Vec ℕ) E) → Type 0
+OfParts P parts =
+    (i : ℕ) (part : _) → i < length parts
+    → IfOk (slice_index_or parts i part) (λ codes. P i codes.items)
+
+-- the codes of part i fill its range
+abbrev pub FillsPart : ℕ → ℕ → ℕ → List ℕ → Type 0
+FillsPart n size i codes = length codes ≡ part_start n size (i + 1) - part_start n size i
+
+-- at the open sites of part i stands what its codes tell
+abbrev pub IsPartJoined : ℕ → List Choice → List Choice → ℕ → List ℕ → Type 0
+IsPartJoined size old new i codes =
+    (k : ℕ) → k < length codes → choice_at new (part_start (length old) size i + k)
+    ≡ known_or (choice_at old (part_start (length old) size i + k)) (coded_at codes k)

@@ -1,0 +1,59 @@
+//! What strips are built from: values that are lent, so that steps pass them on as one.
+
+use label_field::Pairs;
+use move_energy::{Choice, Neighbours};
+use plain_cut::Workspace;
+use std::alloc::Global;
+
+/// What a move's strips begin with: what was known when all sites were decided, and the weights of
+/// the sites that were open then.
+#[derive(Clone, Copy)]
+pub struct Basis<'a> {
+    pub start: &'a [Choice],
+    pub weights: &'a [i64],
+}
+
+/// What a strip is built from: the pairs and by site the neighbours, what was known at the start,
+/// and what is known by now.
+#[derive(Clone, Copy)]
+pub(crate) struct Material<'a> {
+    pub pairs: &'a Pairs,
+    pub ends: &'a Neighbours,
+    pub start: &'a [Choice],
+    pub known: &'a [Choice],
+}
+
+/// The sites of a strip: from one to before another, a list of those that are open, and what each
+/// of these weighed at the start.
+#[derive(Clone, Copy)]
+pub(crate) struct StripSites<'a> {
+    pub from: u32,
+    pub to: u32,
+    pub opened: &'a [u32],
+    pub weights: &'a [i64],
+}
+
+/// The lists that a strip is built and cut with. They keep their memory from strip to strip.
+#[derive(Drop)]
+pub(crate) struct Room {
+    /// The node of each site.
+    pub numbers: Vec<u32>,
+    /// What the nodes weigh.
+    pub weights: Vec<i64>,
+    /// What each node can send the sink more at the second cut.
+    pub more: Vec<u64>,
+    /// The lists of the solver.
+    pub space: Workspace,
+}
+
+impl Room {
+    /// Of no strip. It takes no memory.
+    pub(crate) fn new(alloc: Global) -> Room {
+        Room {
+            numbers: Vec::new(alloc),
+            weights: Vec::new(alloc),
+            more: Vec::new(alloc),
+            space: Workspace::new(alloc),
+        }
+    }
+}
