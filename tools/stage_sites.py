@@ -26,9 +26,6 @@ most five, and a ring is opened only where fewer pixels are listed than twice th
 those that are open before the rings, and 16. A pixel that the rings lie around is listed once for each pixel beside it
 through which it was met.
 
-A move that is made whole asks the way to cut only where half of all pixels or more are open. With fewer it is cut by the
-thread that makes the move, and is not counted here.
-
 Each cut is one of the whole network, in which pixels that are not open are tied to their value, and what each move ends
 with is compared with the best labelling that it reaches.
 """
@@ -41,7 +38,6 @@ RING_ROOM = 16
 RING_SHARE = 4
 CHANGED_SHARE = 32
 OPENED_SHARE = 2
-SHARED_SHARE = 2
 MOST_CYCLES = 4
 UNLIKE_COSTS = [2, 5]
 
@@ -138,7 +134,7 @@ class Run:
         self.last = None
 
     def expand(self, alpha):
-        """How many pixels each cut of the next expansion has that the way to cut is asked for."""
+        """How many pixels each cut of the next expansion has."""
         best = after(self.labels, alpha)
         since = self.made[alpha]
         changed = [site for site in range(SITES) if self.stamps[site] > since]
@@ -146,8 +142,7 @@ class Run:
         if since and sum(self.labels[site] != alpha for site in changed) * CHANGED_SHARE < SITES:
             counts, taken = staged(self.labels, alpha, changed)
         if taken is None:
-            opened = decided(self.labels, alpha).count(None)
-            counts = counts + [opened] * (opened >= SITES // SHARED_SHARE)
+            counts = counts + [decided(self.labels, alpha).count(None)]
         else:
             assert sorted(taken) == [site for site in range(SITES) if best[site] != self.labels[site]]
         self.moves += 1
@@ -160,7 +155,7 @@ class Run:
         return counts
 
     def cycle(self):
-        """How many pixels those cuts of each expansion of a cycle have."""
+        """How many pixels the cuts of each expansion of a cycle have."""
         moves = []
         for alpha in range(LABELS):
             if self.last == alpha:

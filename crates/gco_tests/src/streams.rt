@@ -10,7 +10,7 @@ use std::sync::Wait;
 use std::thread::Threads;
 
 /// The most bytes that a writer holds.
-pub const ROOM: usize = 8192;
+pub const ROOM: usize = 16_384;
 
 /// A writer that takes `room` bytes, at most `step` a call, and then stops: by a fault if it is to,
 /// else by taking nothing.

@@ -18,15 +18,15 @@ use std::process::Abort;
 use std::sync::atomic::{AtomicUsize, Ordering};
 use std::test::Fail;
 
-/// What two unlike labels cost, how many cycles are allowed, how many cuts the way to cut is asked
-/// for, and how many sites these have together. It is not asked for the cut of a whole expansion
-/// that leaves fewer than half of the sites open. Made by tools/stage_sites.py, which finds by
-/// itself where a later expansion looks.
+/// What two unlike labels cost, how many cycles are allowed, how many cuts there are, and how many
+/// sites these have together. Made by tools/stage_sites.py, which finds by itself where a later
+/// expansion looks.
 const RUNS: &[(i64, u32, usize, usize)] = &[
-    (2, 2, 0, 0),
-    (2, 3, 3, 660),
-    (2, 4, 4, 764),
-    (5, 4, 17, 26265),
+    (2, 1, 4, 1863),
+    (2, 2, 8, 2193),
+    (2, 3, 12, 2853),
+    (2, 4, 13, 2957),
+    (5, 4, 18, 26265),
 ];
 
 /// What two unlike labels cost in these runs.
