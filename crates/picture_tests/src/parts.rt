@@ -6,7 +6,7 @@ use std::test::Fail;
 use worker_options::Options;
 
 /// By so many threads the picture is restored: each has one part of its sites.
-const THREADS: &[u32] = &[1, 2, 3, 8];
+const THREADS: &[u32] = &[2, 3];
 
 /// A picture of 256 by 256 samples, 3 in each fourth column and else 0.
 fn wide_stripes(alloc: Global) -> Result<Vec<u8>, AllocError> {
