@@ -8,7 +8,9 @@ ghost use Rattle.cost_store.specs.Posed.{IsPosed, IsAsked, WhereMeant};
 ghost use Rattle.move_energy.specs.BySite.{AreBySite, degree};
 ghost use Rattle.move_energy.specs.Choices.{choice_at};
 ghost use Rattle.move_energy.specs.Limits.{surplus_limit};
-ghost use Rattle.closing_in.specs.Borders.{range_of, is_beyond as beyond_of, leads_beyond as leads_of, pair_border as border_of_pair, border_at};
+ghost use Rattle.closing_in.specs.Borders.{range_of, is_beyond as beyond_of};
+ghost use Rattle.closing_in.specs.Borders.{leads_beyond as leads_of, pair_border as border_of_pair};
+ghost use Rattle.closing_in.specs.Borders.{border_at};
 
 use cost_store::Problem;
 use label_field::Pair;

@@ -7,7 +7,8 @@ ghost use Rattle.compile_cut.specs.Shown.{Hides};
 ghost use Rattle.labellings.specs.declared.change.Move.{Move};
 ghost use Rattle.labellings.specs.Energies.{Instance, IsInstance};
 ghost use Rattle.labellings.specs.Moves.{IsAllowed};
-ghost use Rattle.deciding.specs.Decisions.{Decision, Passes, HavePassed, IsForced, AreForced, IsSubmodular, IsOver, IsSmallestLeast};
+ghost use Rattle.deciding.specs.Decisions.{Decision, Passes, HavePassed, IsForced, AreForced};
+ghost use Rattle.deciding.specs.Decisions.{IsSubmodular, IsOver, IsSmallestLeast};
 ghost use Rattle.deciding.specs.Laws.{ForcedIsLeast, RestAndForcedIsLeast, PassedSitesAreForced};
 ghost use Rattle.deciding.specs.MoveValues.{move_value};
 

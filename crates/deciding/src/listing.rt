@@ -1,5 +1,6 @@
 //! The sites that a move has left to look at, listed where they are few.
-ghost use Rattle.std.specs.Prelude.{◌≡◌, ◌↔◌, ◌==◌, ◌||◌, ◌<◌, ◌≤◌, ◌++◌, ◌∷◌, [], ℕ, cond, not, false, length, IsTrue, OnOk, OnErr};
+ghost use Rattle.std.specs.Prelude.{◌≡◌, ◌↔◌, ◌==◌, ◌||◌, ◌<◌, ◌≤◌, ◌++◌, ◌∷◌, [], ℕ, cond, not};
+ghost use Rattle.std.specs.Prelude.{false, length, IsTrue, OnOk, OnErr};
 ghost use Rattle.move_energy.specs.BySite.{IsListing};
 ghost use Rattle.labellings.specs.Energies.{labelling};
 ghost use Rattle.labellings.specs.Moves.{label_after};

@@ -1,6 +1,7 @@
 //! Sites that are decided by numbers alone, in one pass over a range of sites. No cost is asked, so
 //! any thread can do it.
-ghost use Rattle.std.specs.Prelude.{◌≡◌, ◌≢◌, ◌⊎◌, ◌+◌, ◌*◌, ◌<◌, ◌≤◌, ℕ, Bool, pos, ◌≤ℤ◌, ◌<ℤ◌, true, false, All, length, unsigned_abs, OnOk};
+ghost use Rattle.std.specs.Prelude.{◌≡◌, ◌≢◌, ◌⊎◌, ◌+◌, ◌*◌, ◌<◌, ◌≤◌, ℕ, Bool, pos, ◌≤ℤ◌, ◌<ℤ◌};
+ghost use Rattle.std.specs.Prelude.{true, false, All, length, unsigned_abs, OnOk};
 ghost use Rattle.labellings.specs.declared.change.Move.{Move};
 ghost use Rattle.labellings.specs.Energies.{Instance, IsInstance, labelling};
 ghost use Rattle.cost_store.specs.Limits.{site_cost_limit, pair_cost_limit};

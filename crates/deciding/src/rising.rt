@@ -1,6 +1,7 @@
 //! By how much the energy rises where the value of one site turns from 0 to 1, as far as the others
 //! are decided.
-ghost use Rattle.std.specs.Prelude.{◌≡◌, ◌==◌, cond, All, ◌<◌, ◌≤◌, ◌+◌, ◌*◌, ◌⊎◌, ℕ, ℤ, pos, ◌-ℤ◌, Bool, true, false, length, unsigned_abs};
+ghost use Rattle.std.specs.Prelude.{◌≡◌, ◌==◌, cond, All, ◌<◌, ◌≤◌, ◌+◌, ◌*◌, ◌⊎◌, ℕ, ℤ, pos, ◌-ℤ◌};
+ghost use Rattle.std.specs.Prelude.{Bool, true, false, length, unsigned_abs};
 ghost use Rattle.label_field.specs.Limits.{weight_limit};
 ghost use Rattle.label_field.specs.PairLists.{IsPair};
 ghost use Rattle.move_energy.specs.BySite.{degree};
@@ -14,7 +15,8 @@ ghost use Rattle.deciding.specs.MoveValues.{move_value, pair_rise};
 ghost use Rattle.move_energy.specs.declared.choice.Choice.TheVariants.{Open};
 ghost use Rattle.move_energy.specs.Choices.{bit_of, choice_at};
 ghost use Rattle.deciding.specs.Rising.{rises_at, table_labels};
-ghost use Rattle.deciding.specs.Working.{AreEnds, AreTurned, AvoidsSite, HasNoneBefore, end_rise as end_rise_of, decided_or};
+ghost use Rattle.deciding.specs.Working.{AreEnds, AreTurned, AvoidsSite, HasNoneBefore};
+ghost use Rattle.deciding.specs.Working.{end_rise as end_rise_of, decided_or};
 
 use crate::costs::data_rise;
 use crate::finding::MoveToFind;

@@ -1,5 +1,7 @@
 //! Deciding the sites that wait, one after another.
-ghost use Rattle.std.specs.Prelude.{◌≡◌, ◌≢◌, ◌⊎◌, ◌<◌, ◌≤◌, ◌+◌, ◌*◌, ◌^◌, ℕ, ℤ, pos, ◌-ℤ◌, ◌≤ℤ◌, ◌<ℤ◌, Bool, true, false, All, length, slice_get, Some, unsigned_abs, OnOk, IsTrue, ◌↔◌, []};
+ghost use Rattle.std.specs.Prelude.{◌≡◌, ◌≢◌, ◌⊎◌, ◌<◌, ◌≤◌, ◌+◌, ◌*◌, ◌^◌, ℕ, ℤ, pos, ◌-ℤ◌, ◌≤ℤ◌};
+ghost use Rattle.std.specs.Prelude.{◌<ℤ◌, Bool, true, false, All, length, slice_get, Some};
+ghost use Rattle.std.specs.Prelude.{unsigned_abs, OnOk, IsTrue, ◌↔◌, []};
 ghost use Rattle.label_field.specs.PairLists.{IsPair};
 ghost use Rattle.move_energy.specs.BySite.{degree};
 ghost use Rattle.labellings.specs.Energies.{labelling};
@@ -7,11 +9,14 @@ ghost use Rattle.move_energy.specs.declared.choice.Choice.TheVariants.{Open};
 ghost use Rattle.move_energy.specs.Choices.{choice_at, bit_of};
 ghost use Rattle.move_energy.specs.Limits.{surplus_limit};
 ghost use Rattle.move_energy.specs.Weights.{surplus_of, pair_table};
-ghost use Rattle.deciding.specs.Finding.{IsPosedMove, WhereFound, IsInBudget, ends_left, total_left};
+ghost use Rattle.deciding.specs.Finding.{IsPosedMove, WhereFound, IsInBudget, ends_left};
+ghost use Rattle.deciding.specs.Finding.{total_left};
 ghost use Rattle.deciding.specs.Rising.{rises_at, table_labels};
 ghost use Rattle.deciding.specs.Working.{summed_count, CanDecide, TellsValue, IsMarked, IsSummed};
-ghost use Rattle.deciding.specs.Working.{IsWithinRange, AreWaiting, AreWaitingBut, ArePartlyDecided};
-ghost use Rattle.deciding.specs.Working.{SeesPair, IsLooking, Shifts, least_shift as least_shift_of};
+ghost use Rattle.deciding.specs.Working.{IsWithinRange, AreWaiting, AreWaitingBut};
+ghost use Rattle.deciding.specs.Working.{ArePartlyDecided};
+ghost use Rattle.deciding.specs.Working.{SeesPair, IsLooking, Shifts};
+ghost use Rattle.deciding.specs.Working.{least_shift as least_shift_of};
 ghost use Rattle.deciding.specs.Working.{greatest_shift as greatest_shift_of, greatest_total};
 
 use crate::Bounds;
