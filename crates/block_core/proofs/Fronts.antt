@@ -42,7 +42,7 @@ pub refused_label : {rooms : List (List ℕ)} {s : core.State} (b c : ℕ) (x : 
     → core.way_at s.ways b c ≡ Refused x a d told ∷ rest → told ≤ top s.net
 refused_label {rooms} {s} b c x a d told rest held front =
     let found = front_out s b c (Refused x a d told) rest held.sound front in
-    omega (arith, found.2, held.sound.top (far s.net x) (far_in s.net x held.sound.sized.net found.0.direction))
+    omega (arith, found.2, held.sound.labels.top (far s.net x) (far_in s.net x held.sound.sized.net found.0.direction))
 
 -- the amount that comes back is the one that is out
 pub refused_amount : {rooms : List (List ℕ)} {s : core.State} (b c : ℕ) (x : Direction) (a d told : ℕ) (rest : List Message) → IsHeld rooms s

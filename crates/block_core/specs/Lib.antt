@@ -3,3 +3,4 @@ pub mod Mails
 pub mod Counting
 pub mod Pieces
 pub mod Parts
+pub mod Calls

@@ -1,5 +1,5 @@
 ghost use Rattle.std.specs.Prelude.{IfOk, length, slice_get, Some, IfSome, IfNone, [], ◌∷◌, drop};
-ghost use Rattle.std.specs.Prelude.{◌≡◌, ◌↔◌, ◌<◌, ◌≤◌, ◌+◌, ℕ, IsTrue, MatchBool};
+ghost use Rattle.std.specs.Prelude.{◌≡◌, ◌↔◌, ◌<◌, ◌≤◌, ◌+◌, ℕ, IsTrue};
 ghost use Rattle.flow_network.specs.Cut.{nodes, IsNet};
 ghost use Rattle.block_events.specs.declared.message.Message.TheVariants.{Parcel, Accepted, Refused};
 ghost use Rattle.block_events.specs.Directions.{IsDirection, far};
@@ -11,6 +11,7 @@ ghost use Rattle.block_events.specs.Events.{Happens, IsActive, IsQuiet, IsEnable
 ghost use Rattle.block_net.specs.Limits.{block_limit};
 ghost use Rattle.block_net.specs.Split.{CanSplit};
 ghost use Rattle.laid_blocks.specs.Views.{IsLaid};
+ghost use Rattle.block_core.specs.Calls.{HappensIfEnabled};
 ghost use Rattle.block_core.specs.Mails.{IsHeld};
 ghost use Rattle.block_core.specs.Parts.{IsIn};
 ghost use Rattle.block_net.specs.Whole.{whole_of};
@@ -218,9 +219,7 @@ impl State {
 
     /// Excess of a node goes to the sink; no where that is not enabled, and nothing changes.
     fn push_sink(&mut self, v: usize) -> bool
-        ensures { MatchBool result
-            (IsEnabled self.old (PushSink v) × (self.new ≡ effect self.old (PushSink v)))
-            ((¬ IsEnabled self.old (PushSink v)) × (self.new ≡ self.old)) }
+        ensures { HappensIfEnabled self.old (PushSink v) self.new result }
     {
         if !self.may_push_sink(v) {
             return false;
@@ -253,10 +252,7 @@ impl State {
     /// Excess goes along a direction within a block; no where that is not enabled, and nothing
     /// changes.
     fn push_inner(&mut self, direction: Direction) -> bool
-        ensures { MatchBool result
-            (IsEnabled self.old (PushInner direction)
-            × (self.new ≡ effect self.old (PushInner direction)))
-            ((¬ IsEnabled self.old (PushInner direction)) × (self.new ≡ self.old)) }
+        ensures { HappensIfEnabled self.old (PushInner direction) self.new result }
     {
         if !self.may_push_inner(direction) {
             return false;
@@ -268,9 +264,7 @@ impl State {
     /// Excess leaves along a direction to another block; no where that is not enabled, and nothing
     /// changes.
     fn send(&mut self, direction: Direction) -> bool
-        ensures { MatchBool result
-            (IsEnabled self.old (Send direction) × (self.new ≡ effect self.old (Send direction)))
-            ((¬ IsEnabled self.old (Send direction)) × (self.new ≡ self.old)) }
+        ensures { HappensIfEnabled self.old (Send direction) self.new result }
     {
         if !self.may_send(direction) {
             return false;
@@ -287,9 +281,7 @@ impl State {
     /// A node gets the highest label that it may have; no where that is not enabled, and nothing
     /// changes.
     fn relabel(&mut self, v: usize) -> bool
-        ensures { MatchBool result
-            (IsEnabled self.old (Relabel v) × (self.new ≡ effect self.old (Relabel v)))
-            ((¬ IsEnabled self.old (Relabel v)) × (self.new ≡ self.old)) }
+        ensures { HappensIfEnabled self.old (Relabel v) self.new result }
     {
         if !self.is_active(v) {
             return false;
@@ -400,9 +392,7 @@ impl State {
 
     /// Each label becomes the exact one; no where that is not enabled, and nothing changes.
     fn raise_all(&mut self) -> bool
-        ensures { MatchBool result
-            (Happens self.old RaiseAll self.new)
-            ((¬ IsEnabled self.old RaiseAll) × (self.new ≡ self.old)) }
+        ensures { HappensIfEnabled self.old RaiseAll self.new result }
     {
         if !self.is_quiet() {
             return false;
@@ -424,9 +414,7 @@ impl State {
 
     /// The parcel in front of a way is taken; no where that is not enabled, and nothing changes.
     fn accept(&mut self, from: usize, to: usize) -> bool
-        ensures { MatchBool result
-            (IsEnabled self.old (Accept from to) × (self.new ≡ effect self.old (Accept from to)))
-            ((¬ IsEnabled self.old (Accept from to)) × (self.new ≡ self.old)) }
+        ensures { HappensIfEnabled self.old (Accept from to) self.new result }
     {
         match self.front(from, to) {
             Some(
@@ -449,9 +437,7 @@ impl State {
     /// The parcel in front of a way is sent back; no where that is not enabled, and nothing
     /// changes.
     fn refuse(&mut self, from: usize, to: usize) -> bool
-        ensures { MatchBool result
-            (IsEnabled self.old (Refuse from to) × (self.new ≡ effect self.old (Refuse from to)))
-            ((¬ IsEnabled self.old (Refuse from to)) × (self.new ≡ self.old)) }
+        ensures { HappensIfEnabled self.old (Refuse from to) self.new result }
     {
         match self.front(from, to) {
             Some(
@@ -474,9 +460,7 @@ impl State {
     /// The answer in front of a way ends its flight; no where that is not enabled, and nothing
     /// changes.
     fn settle(&mut self, from: usize, to: usize) -> bool
-        ensures { MatchBool result
-            (IsEnabled self.old (Settle from to) × (self.new ≡ effect self.old (Settle from to)))
-            ((¬ IsEnabled self.old (Settle from to)) × (self.new ≡ self.old)) }
+        ensures { HappensIfEnabled self.old (Settle from to) self.new result }
     {
         match self.front(from, to) {
             Some(Message::Accepted { direction, amount }) => {
@@ -500,8 +484,7 @@ impl State {
 
     /// The event happens; no where it is not enabled, and nothing changes. Takes no memory.
     pub fn perform(&mut self, event: Event) -> bool
-        ensures happens { MatchBool result (Happens self.old event self.new)
-            ((¬ IsEnabled self.old event) × (self.new ≡ self.old)) }
+        ensures happens { HappensIfEnabled self.old event self.new result }
         ensures sound { IsSound self.old }
     {
         // Reading a field brings the state's soundness to hand.

@@ -40,4 +40,4 @@ pub shown_smallest : (s : State) (labels : List ℕ) (r : Solved) → IsSound s 
 shown_smallest s labels r sound done is = finished_smallest s (side_of r) sound done (reach_of s labels r.sink_side.items is.exact is.side)
 
 pub shown_bound : (s : State) (labels : List ℕ) (r : Solved) → IsSound s → IsShownBy s labels r → r.value ≤ capacity_limit
-shown_bound s labels r sound is = omega (arith, is.value, sound.total, sound.sized.net.total)
+shown_bound s labels r sound is = omega (arith, is.value, sound.flow.total, sound.sized.net.total)

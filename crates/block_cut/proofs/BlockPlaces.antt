@@ -95,4 +95,4 @@ rooms_tell_got w got ways laid long sound =
     ∙ sum_below-same n (λ b. sum (block_at w b).rooms) (λ b. sum_below (count (block_at w b)) (slice_index (block_at w b).rooms)) (λ b lb.
     sum_by-sum_below (λ (x : ℕ). x) (block_at w b).rooms 0
     ∙ ap (λ k. sum_below k (slice_index (block_at w b).rooms)) (All-get_or (λ (q : CellsView). length q.rooms ≡ count q) w.blocks b no_block lb long)) in
-    omega (arith, shown, turn, each, sound.got)
+    omega (arith, shown, turn, each, sound.flow.got)

@@ -84,7 +84,7 @@ module _ (p q : Pieces) (net : q.net ≡ p.net) (firsts : q.parts.firsts.items �
 
     module _ (given : q.got + sum (state_in q).rooms ≡ sum q.net.sinks) where
       got_same : going.got ≡ q.got
-      got_same = omega (arith, sound_given.got, given)
+      got_same = omega (arith, sound_given.flow.got, given)
 
       pub held_again : IsHeld p.ways.rooms (state_in p) → IsHeld q.ways.rooms (state_in q)
       held_again held = record {

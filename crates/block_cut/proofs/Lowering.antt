@@ -1,5 +1,5 @@
 -- Fewer and fewer events lead on, until the state is finished.
-use Rattle.std.proofs.Common.{◌≡◌, ℕ, ◌<◌, ◌≤◌, Bool, true, false, ◌||◌, MatchBool, List, [], refl, sym, ◌∙◌, ap, subst, inl, inr, arith}
+use Rattle.std.proofs.Common.{◌≡◌, ℕ, ◌<◌, ◌≤◌, Bool, true, false, ◌||◌, List, [], refl, sym, ◌∙◌, ap, subst, inl, inr, arith}
 use Rattle.std.proofs.lemmas.Bool.{false≢true, true≢false}
 use Rattle.block_events.specs.declared.message.Message.{Message}
 use Rattle.block_events.specs.declared.event.Event.{Event}
@@ -11,6 +11,7 @@ use Rattle.block_events.proofs.Lists.{lowers, never_raises}
 use Rattle.block_events.proofs.Ends.{block_in, near_block_in}
 use Rattle.block_events.proofs.Progress.{progress}
 use Rattle.block_events.specs.Workers.{MayStart}
+use Rattle.block_core.specs.Calls.{HappensIfEnabled}
 use Rattle.block_core.proofs.Keeping.{effect_net}
 use Rattle.block_cut.specs.Lowers.{IsAfter, Lowers}
 
@@ -91,10 +92,7 @@ none_starts s sound quiet none = elim (progress s sound) [
 
 -- ---- what the code tells
 
-abbrev pub Performed : State → Event → State → Bool → Type 0
-Performed s e t r = MatchBool r (Happens s e t) ((¬ IsEnabled s e) × (t ≡ s))
-
-pub lowers_by : (s t : State) (e : Event) (r : Bool) → IsSound s → (e ≡ RaiseAll → ⊥) → Performed s e t r → Lowers s t r
+pub lowers_by : (s t : State) (e : Event) (r : Bool) → IsSound s → (e ≡ RaiseAll → ⊥) → HappensIfEnabled s e t r → Lowers s t r
 lowers_by s t e true sound other h = lowers_one s t e sound other h
 lowers_by s t e false sound other h = lowers_same s t h.1
 

@@ -135,7 +135,7 @@ zeros_at_first net blocks v l = get_or-replicate (nodes net) v 0 0 l
 held_by : (p : Pieces) (blocks : List CellsView) (got : ℕ) → AreOpening p blocks → IsHeld p.ways.rooms (state_in p) → got + sum (state_at p blocks p.ways.messages got).rooms ≡ sum p.net.sinks
     → IsHeld p.ways.rooms (state_at p blocks p.ways.messages got)
 held_by p blocks got opening held given' =
-    let same : opening.got ≡ got = omega (arith, opening.sound.got, given') in
+    let same : opening.got ≡ got = omega (arith, opening.sound.flow.got, given') in
     record {
       sound = subst (λ g. IsSound (state_at p blocks p.ways.messages g)) same opening.sound;
       few = opening.laid.few;

@@ -101,11 +101,11 @@ module _ (w : Whole) (got : ℕ) (blocks : List CellsView) (left : List (List (L
       let way = λ (p : ℕ) (q : ℕ). way_at (logs_of n q (back.sent q) (back.taken q)) p c in
       elim (cases_eq b c) [
         | inl same ↦
-            let none : way_at left b c ≡ [] = ap (way_at left b) (sym same) ∙ back.none b lb in
+            let none : way_at left b c ≡ [] = ap (way_at left b) (sym same) ∙ back.rest.none b lb in
             ap (way b) same ∙ (sym (append-nil (way b c)) ∙ ap (λ (r : List Message). way b c ++ r) (sym none))
         | inr apart ↦
             sent_read n b c (back.sent b) (back.taken b) lb lc
-            ∙ (back.ways b c lb lc apart
+            ∙ (back.rest.ways b c lb lc apart
             ∙ ap (λ (r : List Message). r ++ way_at left b c) (sym (taken_read n b c (back.sent c) (back.taken c) lb lc apart)))
       ]
 
@@ -120,14 +120,14 @@ module _ (w : Whole) (got : ℕ) (blocks : List CellsView) (left : List (List (L
     count = histories.1;
     led = λ b lb. (histories.2 b lb).1;
     joined = blocks_join w blocks back.many laid got (λ b. logs_of (length w.blocks) b (back.sent b) (back.taken b)) gots left;
-    square = back.square;
+    square = back.rest.square;
     ways = joins;
     busy = λ b e lb may none. omega (arith, ap length none, (histories.2 b lb).0, back.busy b e lb may);
   }
 
   -- it is what the rooms lack
   got_is : counted.got ≡ rooms_lack (with_blocks w blocks)
-  got_is = omega (arith, (round_kept (quiet_state w got) counted sound (is_quiet w got) round).got)
+  got_is = omega (arith, (round_kept (quiet_state w got) counted sound (is_quiet w got) round).flow.got)
 
   -- the round to a state where the sink got so much, and how long its histories are
   abbrev Numbered : ℕ → Type 0

@@ -65,7 +65,7 @@ one_step b s t (Send x) es does = refl
 one_step b s t (Accept c to) es does = refl
 one_step b s t (Refuse c to) es does = refl
 one_step b s t (Settle c to) es does = refl
-one_step b s t RaiseAll es does = absurd does
+one_step b s t RaiseAll es does = absurd does.0
 
 each_step : (b : ℕ) (es : List Event) (s t : State) → IsHistory b s es t → steps es ≡ length es
 each_step b [] s t led = refl

@@ -141,4 +141,4 @@ start_is_step w b got h s (Send x) seat room may = start_send w b got h x s seat
 start_is_step w b got h s (Accept c to) seat room may = absurd may
 start_is_step w b got h s (Refuse c to) seat room may = absurd may
 start_is_step w b got h s (Settle c to) seat room may = absurd may
-start_is_step w b got h s RaiseAll seat room may = absurd may
+start_is_step w b got h s RaiseAll seat room may = absurd may.0

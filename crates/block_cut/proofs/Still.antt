@@ -90,7 +90,7 @@ may_with v b ways ways' got got' (Send x) may = (may.0, (may.1.0, may.1.1, activ
 may_with v b ways ways' got got' (Accept c to) may = absurd may
 may_with v b ways ways' got got' (Refuse c to) may = absurd may
 may_with v b ways ways' got got' (Settle c to) may = absurd may
-may_with v b ways ways' got got' RaiseAll may = absurd may
+may_with v b ways ways' got got' RaiseAll may = absurd may.0
 
 -- no events change nothing
 no_events : (s t : State) (events : List Event) → length events ≡ 0 → IsRunOfEvents s events t → t ≡ s

@@ -14,7 +14,8 @@ use Rattle.block_events.proofs.Kept.{kept}
 use Rattle.block_events.proofs.Replies.{front_out}
 use Rattle.block_core.proofs.Keeping.{effect_net}
 use Rattle.block_cut.specs.Takes.{IsTaking, TookIn, IsTakenIn, IsRowEmpty}
-use Rattle.block_cut.proofs.Lowering.{lowers_one, lowers_same, lowers_then, Performed}
+use Rattle.block_core.specs.Calls.{HappensIfEnabled}
+use Rattle.block_cut.proofs.Lowering.{lowers_one, lowers_same, lowers_then}
 
 -- ---- one message
 
@@ -69,7 +70,7 @@ front_taken : (s : State) (b c : ℕ) (m : Message) (rest : List Message) → Is
 front_taken s b c (Parcel x a d) rest sound way e accept refuse settle =
     let o = front_out s b c (Parcel x a d) rest sound e in
     let at_x = sound.flights x o.direction (record { amount = a; label = d }) o.flight in
-    let known = sound.known x o.direction o.border in
+    let known = sound.labels.known x o.direction o.border in
     elim (cases_lt (label_of s (far s.net x)) d) [
       | inl low ↦
           let may : MayAccept s (Parcel x a d ∷ rest) = omega (arith, at_x.1, at_x.2, known, low) in
@@ -119,16 +120,16 @@ taken_still s t u p h k = let P : State → Type 0 = λ q. IsTakenIn s q p in su
 pub from_same : (s s1 t : State) (r : Bool) → s1 ≡ s → IsTakenIn s1 t r → IsTakenIn s t r
 from_same s s1 t r e h = let P : State → Type 0 = λ q. IsTakenIn q t r in subst P e h
 
-pub settle_by : (s t : State) (b c : ℕ) (r : Bool) → IsSound s → Performed s (Settle b c) t r → IsTakenIn s t r
+pub settle_by : (s t : State) (b c : ℕ) (r : Bool) → IsSound s → HappensIfEnabled s (Settle b c) t r → IsTakenIn s t r
 settle_by s t b c true sound h = settle_taken s t b c sound h
 settle_by s t b c false sound h = taken_same s t h.1
 
-not_settled : (s t : State) (b c : ℕ) (r : Bool) → Performed s (Settle b c) t r → IsFalse r → IsEnabled s (Settle b c) → ⊥
+not_settled : (s t : State) (b c : ℕ) (r : Bool) → HappensIfEnabled s (Settle b c) t r → IsFalse r → IsEnabled s (Settle b c) → ⊥
 not_settled s t b c true h off = absurd (true≢false off)
 not_settled s t b c false h off = h.0
 
 pub none_taken : (s s1 s2 t : State) (b c : ℕ) (r : Bool) → IsSound s → (¬ IsEnabled s (Accept b c)) × (s1 ≡ s) → (¬ IsEnabled s1 (Refuse b c)) × (s2 ≡ s1)
-    → Performed s2 (Settle b c) t r → IsFalse r → IsWay s b c → way_at s.ways b c ≡ []
+    → HappensIfEnabled s2 (Settle b c) t r → IsFalse r → IsWay s b c → way_at s.ways b c ≡ []
 none_taken s s1 s2 t b c r sound accept refuse settle off =
     let P : State → Type 0 = λ q. ¬ IsEnabled q (Refuse b c) in
     let Q : State → Type 0 = λ q. ¬ IsEnabled q (Settle b c) in

@@ -29,7 +29,14 @@ quiet_state w got = state_of (blocks_in w) (no_messages (length w.blocks)) got
 
 -- ---- after it
 
--- the blocks came back from a round, and these messages are left on the way
+-- what one block put for another is what the other took from it, followed by what is left on the
+-- way
+pub record AreLeft (blocks : ℕ) (sent taken : ℕ → ℕ → List Message) (left : Ways) : Type 0 where
+  pub square : IsSquare blocks left
+  pub none : (b : ℕ) → b < blocks → way_at left b b ≡ []
+  pub ways : (b c : ℕ) → b < blocks → c < blocks → b ≢ c → sent b c ≡ taken c b ++ way_at left b c
+
+-- each block did steps of a turn and came back, and these messages are left on the way
 pub record AreBack (w : Whole) (got : ℕ) (blocks : List CellsView) (left : Ways) : Type 0 where
   -- what block b put for c, what it took from c, and how many steps it did
   pub sent : ℕ → ℕ → List Message
@@ -39,11 +46,7 @@ pub record AreBack (w : Whole) (got : ℕ) (blocks : List CellsView) (left : Way
   pub does : (b : ℕ) → b < length w.blocks
       → DoesMany (fresh (block_at w b)) (steps b)
       (record { block = block_at (with_blocks w blocks) b; sent = sent b; taken = taken b })
-  -- what one block put for another is what the other took, followed by what is left on the way
-  pub square : IsSquare (length w.blocks) left
-  pub ways : (b c : ℕ) → b < length w.blocks → c < length w.blocks → b ≢ c
-      → sent b c ≡ taken c b ++ way_at left b c
-  pub none : (b : ℕ) → b < length w.blocks → way_at left b b ≡ []
+  pub rest : AreLeft (length w.blocks) sent taken left
   -- a block that could do something without taking a message did something
   pub busy : (b : ℕ) (e : Event) → b < length w.blocks
       → MayStart b (quiet_state w got) e → 0 < steps b

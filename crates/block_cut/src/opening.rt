@@ -54,9 +54,9 @@ fn send_up(cells: &mut Cells, v: usize)
     }
 }
 
-/// Gives the sink what it can take of the node's excess, and sends the rest to lower nodes, by its
-/// last direction first.
-fn send_down(cells: &mut Cells, v: usize)
+/// Gives the sink what it can take of the node's excess, and sends the rest to higher nodes, or to
+/// lower ones, by its last direction first.
+fn send_back(cells: &mut Cells, v: usize, to_higher: bool)
     requires { v < count cells.old }
     ensures { Opens cells.old cells.new }
 {
@@ -69,28 +69,7 @@ fn send_down(cells: &mut Cells, v: usize)
         if cells.excess(v) == 0 {
             return;
         }
-        if (cells.lane(j).far as usize) < v {
-            send(cells, v, j);
-        }
-    }
-}
-
-/// Gives the sink what it can take of the node's excess, and sends the rest to higher nodes, by its
-/// last direction first.
-fn send_again(cells: &mut Cells, v: usize)
-    requires { v < count cells.old }
-    ensures { Opens cells.old cells.new }
-{
-    if cells.excess(v) == 0 {
-        return;
-    }
-    give(cells, v);
-    let (first, end) = cells.range(v);
-    'lanes: for j in (first..end).rev() {
-        if cells.excess(v) == 0 {
-            return;
-        }
-        if cells.lane(j).far as usize > v {
+        if (cells.lane(j).far as usize > v) == to_higher {
             send(cells, v, j);
         }
     }
@@ -107,10 +86,10 @@ fn open_block(cells: &mut Cells)
         send_up(cells, v);
     }
     'down: for v in (0..cells.len()).rev() {
-        send_down(cells, v);
+        send_back(cells, v, false);
     }
     'again: for v in 0..cells.len() {
-        send_again(cells, v);
+        send_back(cells, v, true);
     }
 }
 

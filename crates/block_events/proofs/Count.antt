@@ -104,7 +104,7 @@ some_times a d h k = mul-le 1 1 a d h k
 pub excess-le : (s : State) (v : ℕ) → IsSound s → v < nodes s.net → excess_of s v ≤ sum s.net.sources
 excess-le s v sound l =
     let part = get_or-le-sum_by (λ (n : ℕ). n) s.excess v 0 (omega (arith, l, sound.sized.excess)) in
-    omega (arith, part, sound.total)
+    omega (arith, part, sound.flow.total)
 
 -- ---- inner events
 
@@ -228,11 +228,11 @@ returned_lowers s b c x a d told rest sound way e =
     let change = directions_changed (length s.net.arcs) s.lanes x lane (λ y q. count_if (is_border s.net s.blocks y) (top s.net - q.known)) (long s sound.sized) o.direction in
     let c1 : count_if (is_border s.net s.blocks x) (top s.net - told) ≡ top s.net - told = rw o.border refl in
     let c2 : count_if (is_border s.net s.blocks x) (top s.net - known_of s x) ≡ top s.net - known_of s x = rw o.border refl in
-    let low = sound.top (far s.net x) (far_in s.net x sound.sized.net o.direction) in
+    let low = sound.labels.top (far s.net x) (far_in s.net x sound.sized.net o.direction) in
     let h = height_more (nodes s.net) s.excess s.labels v a (near_in s.net x sound.sized.net o.direction) sound.sized.excess in
     let same = ap (λ q. a * q) at_x.2 in
     let pos = some_times a d o.some (omega (arith, at_x.1, at_x.2)) in
-    let some : 1 ≤ sum s.net.sources = omega (arith, carried, sound.total, o.some) in
+    let some : 1 ≤ sum s.net.sources = omega (arith, carried, sound.flow.total, o.some) in
     let many = mul-le 1 1 (top s.net) (sum s.net.sources) (omega arith) some in
     let t = after_settle s b c (Refused x a d told ∷ rest) in
     by_rise (labels_to_rise s) (labels_to_rise t) (height s) (height t) (unit s) 1

@@ -35,7 +35,7 @@ flow_sink s v l = get_or-map-range_with_len (λ (u : ℕ). slice_index s.net.sin
 
 pub arc_full : (s : State) (k : ℕ) → IsSound s → IsQuiet s → k < length s.net.arcs
     → residual_of s (forward k) + residual_of s (backward k) ≡ (arc_at s.net k).capacity
-arc_full s k sound quiet l = omega (arith, sound.arcs k l, quiet_none s (carries_on k) sound.sized.ways quiet)
+arc_full s k sound quiet l = omega (arith, sound.flow.arcs k l, quiet_none s (carries_on k) sound.sized.ways quiet)
 
 -- ---- the excess of a node
 
@@ -66,20 +66,20 @@ quiet_preflow s sound quiet = record {
   sinks_len = length-map-range_with_len (λ (u : ℕ). slice_index s.net.sinks u - room_of s u) 0 (nodes s.net);
   arcs = λ k l. omega (arith, flow_arc s k sound l, arc_full s k sound quiet l);
   sinks = λ v l. omega (arith, flow_sink s v l);
-  covered = λ v l. omega (arith, flow_sink s v l, sound.rooms v l, sound.balance v l, node_flows s v sound quiet);
+  covered = λ v l. omega (arith, flow_sink s v l, sound.flow.rooms v l, sound.flow.balance v l, node_flows s v sound quiet);
 }
 
 pub quiet_excess : (s : State) (v : ℕ) → IsSound s → IsQuiet s → v < nodes s.net → excess s.net (shown_flow s) v ≡ excess_of s v
-quiet_excess s v sound quiet l = omega (arith, flow_sink s v l, sound.rooms v l, sound.balance v l, node_flows s v sound quiet)
+quiet_excess s v sound quiet l = omega (arith, flow_sink s v l, sound.flow.rooms v l, sound.flow.balance v l, node_flows s v sound quiet)
 
 pub quiet_gets : (s : State) → IsSound s → IsQuiet s → sink_gets s.net (shown_flow s) ≡ s.got
 quiet_gets s sound quiet =
     let n = nodes s.net in
     let all = sum_below-same n (λ v. slice_index (shown_flow s).sinks v + room_of s v) (λ v. slice_index s.net.sinks v)
-    (λ v l. omega (arith, flow_sink s v l, sound.rooms v l)) in
+    (λ v l. omega (arith, flow_sink s v l, sound.flow.rooms v l)) in
     let rooms = sum_is s.rooms ∙ ap (λ k. sum_below k (room_of s)) sound.sized.rooms in
     let sinks = sum_is s.net.sinks ∙ ap (λ k. sum_below k (slice_index s.net.sinks)) sound.sized.net.same in
-    omega (arith, all, sum_below-add n (slice_index (shown_flow s).sinks) (room_of s), rooms, sinks, sound.got)
+    omega (arith, all, sum_below-add n (slice_index (shown_flow s).sinks) (room_of s), rooms, sinks, sound.flow.got)
 
 -- ---- paths
 
@@ -91,7 +91,7 @@ quiet_shown s sound quiet = record {
   to = λ k l. refl;
   carried = λ k l. flow_arc s k sound l;
   full = λ k l. arc_full s k sound quiet l;
-  rooms = λ v l. omega (arith, flow_sink s v l, sound.rooms v l);
+  rooms = λ v l. omega (arith, flow_sink s v l, sound.flow.rooms v l);
 }
 
 pub quiet_reach : (s : State) (side : ℕ → Bool) → IsSound s → IsQuiet s → IsReachOf s side → IsReach s.net (shown_flow s) side

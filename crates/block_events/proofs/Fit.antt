@@ -40,12 +40,12 @@ pub record IsFit (s : State) : Type 0 where
 pub sound_fit : (s : State) → IsSound s → IsFit s
 sound_fit s sound = record {
   sized = sound.sized;
-  got = sound.got;
-  rooms = sound.rooms;
-  balance = sound.balance;
-  top = sound.top;
-  sink = sound.sink;
-  steep = sound.steep;
+  got = sound.flow.got;
+  rooms = sound.flow.rooms;
+  balance = sound.flow.balance;
+  top = sound.labels.top;
+  sink = sound.labels.sink;
+  steep = sound.labels.steep;
   flights = sound.flights;
 }
 

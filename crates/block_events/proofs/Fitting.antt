@@ -67,7 +67,7 @@ way_fits s b c sound lb lc =
     let at = λ (i : ℕ). get_or way i none in
     let term = λ (x : Direction) (i : ℕ). count_if (J x) (names x (at i)) in
     let ones = at_least_ones n (λ i. over_directions m (λ x. term x i)) (λ i li.
-    let o = sound.belong b c i none li in
+    let o = sound.messages.belong b c i none li in
     let x = direction_of (at i) in
     let whole : term x i ≡ 1 = counted-true (J x) (names x (at i)) (belongs_joins s.net s.blocks s.lanes s.labels b c (at i) o) ∙ names_same x in
     let part = direction-le m x.arc x.back (λ y. term y i) (belongs_direction s.net s.blocks s.lanes s.labels b c (at i) o) in
@@ -77,7 +77,7 @@ way_fits s b c sound lb lc =
     let all = sum_below-counted n (J x) (λ i. names x (at i)) in
     let is = sum_by-sum_below (names x) way none in
     let few = way-le-messages s.blocks (names x) s.ways b c sound.sized.ways lb lc in
-    let most : sum_below n (λ i. names x (at i)) ≤ 1 = omega (arith, is, few, sound.named x l, out-le-one (flight_of s x)) in
+    let most : sum_below n (λ i. names x (at i)) ≤ 1 = omega (arith, is, few, sound.messages.named x l, out-le-one (flight_of s x)) in
     let low = counted_le (J x) (sum_below n (λ i. names x (at i))) 1 most in
     let done : sum_below n (λ i. term x i) ≤ count_if (J x) 1 = omega (arith, all, low) in
     done in

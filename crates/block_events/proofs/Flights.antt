@@ -43,7 +43,7 @@ taken_kept s b c x a rest sound way e =
     let ways = put_way s.ways b c rest in
     let lng = long s sound.sized in
     let less = λ (f : Message → ℕ). messages_less n f s.ways b c m rest sq way.0 way.1 e in
-    let was : over_messages (names x) s.ways ≡ 1 = sound.named x lx ∙ ap out o.flight in
+    let was : over_messages (names x) s.ways ≡ 1 = sound.messages.named x lx ∙ ap out o.flight in
     let none : over_messages (names x) ways ≡ 0 = omega (arith, less (names x), names_same x, was) in
     let good = good_without s.net s.blocks s.lanes s.labels ways x lane
     (each_put n (IsGoodWay s.net s.blocks s.lanes s.labels) s.ways b c rest sq way.0 way.1 (good_ways s s.lanes sound (λ y h. refl))
@@ -61,24 +61,30 @@ taken_kept s b c x a rest sound way e =
         blocks = sound.sized.blocks;
         ways = square_put n s.ways b c rest sq;
       };
-      arcs = λ k lk. omega (arith, sound.arcs k lk, less (carries_on k), arc_changed arcs s.lanes x lane 0 0 k lng lx (omega arith), counted_none (eqb x.arc k));
-      total = omega (arith, sound.total, less carries);
-      got = sound.got;
-      rooms = sound.rooms;
-      balance = λ u lu. omega (arith, sound.balance u lu, leaving_changed s.net s.lanes x lane 0 0 u lng lx (omega arith));
-      top = sound.top;
-      sink = sound.sink;
-      steep = each_lane arcs s.lanes x lane (λ y l. 0 < l.residual → label_of s (near s.net y) ≤ cond (is_border s.net s.blocks y) l.known (label_of s (far s.net y)) + 1) lng lx
-          (λ y off ly. sound.steep y ly) (sound.steep x lx);
-      known = each_lane arcs s.lanes x lane (λ y l. is_border s.net s.blocks y ≡ true → l.known ≤ label_of s (far s.net y)) lng lx
-          (λ y off ly. sound.known y ly) (sound.known x lx);
+      flow = record {
+        arcs = λ k lk. omega (arith, sound.flow.arcs k lk, less (carries_on k), arc_changed arcs s.lanes x lane 0 0 k lng lx (omega arith), counted_none (eqb x.arc k));
+        total = omega (arith, sound.flow.total, less carries);
+        got = sound.flow.got;
+        rooms = sound.flow.rooms;
+        balance = λ u lu. omega (arith, sound.flow.balance u lu, leaving_changed s.net s.lanes x lane 0 0 u lng lx (omega arith));
+      };
+      labels = record {
+        top = sound.labels.top;
+        sink = sound.labels.sink;
+        steep = each_lane arcs s.lanes x lane (λ y l. 0 < l.residual → label_of s (near s.net y) ≤ cond (is_border s.net s.blocks y) l.known (label_of s (far s.net y)) + 1) lng lx
+            (λ y off ly. sound.labels.steep y ly) (sound.labels.steep x lx);
+        known = each_lane arcs s.lanes x lane (λ y l. is_border s.net s.blocks y ≡ true → l.known ≤ label_of s (far s.net y)) lng lx
+            (λ y off ly. sound.labels.known y ly) (sound.labels.known x lx);
+      };
       flights = each_lane arcs s.lanes x lane
           (λ y l. (f : Flight) → l.flight ≡ Some f → (is_border s.net s.blocks y ≡ true) × (label_of s (near s.net y) ≡ l.known + 1) × (label_of s (near s.net y) ≡ f.label)) lng lx
           (λ y off ly. sound.flights y ly) (λ f h. absurd (cc));
-      named = each_lane arcs s.lanes x lane (λ y l. over_messages (names y) ways ≡ out l.flight) lng lx
-          (λ y off ly. omega (arith, less (names y), names_not x y (λ h. off (sym h)), sound.named y ly)) none;
-      belong = λ b' c'. (good b' c').belong;
-      order = λ b' c'. (good b' c').order;
+      messages = record {
+        named = each_lane arcs s.lanes x lane (λ y l. over_messages (names y) ways ≡ out l.flight) lng lx
+            (λ y off ly. omega (arith, less (names y), names_not x y (λ h. off (sym h)), sound.messages.named y ly)) none;
+        belong = λ b' c'. (good b' c').belong;
+        order = λ b' c'. (good b' c').order;
+      };
     }
 
 -- ---- settled, what was sent back
@@ -101,7 +107,7 @@ returned_kept s b c x a d told rest sound way e =
     let lng = long s sound.sized in
     let at_x = sound.flights x lx (record { amount = a; label = d }) o.flight in
     let less = λ (f : Message → ℕ). messages_less n f s.ways b c m rest sq way.0 way.1 e in
-    let was : over_messages (names x) s.ways ≡ 1 = sound.named x lx ∙ ap out o.flight in
+    let was : over_messages (names x) s.ways ≡ 1 = sound.messages.named x lx ∙ ap out o.flight in
     let none : over_messages (names x) ways ≡ 0 = omega (arith, less (names x), names_same x, was) in
     let good = good_without s.net s.blocks s.lanes s.labels ways x lane
     (each_put n (IsGoodWay s.net s.blocks s.lanes s.labels) s.ways b c rest sq way.0 way.1 (good_ways s s.lanes sound (λ y h. refl))
@@ -119,24 +125,30 @@ returned_kept s b c x a d told rest sound way e =
         blocks = sound.sized.blocks;
         ways = square_put n s.ways b c rest sq;
       };
-      arcs = λ k lk. omega (arith, sound.arcs k lk, less (carries_on k), arc_changed arcs s.lanes x lane 0 a k lng lx (omega arith), counted_none (eqb x.arc k));
-      total = omega (arith, sound.total, less carries, sum_more s.excess v a lv);
-      got = sound.got;
-      rooms = sound.rooms;
-      balance = λ u lu. omega (arith, sound.balance u lu, set_more s.excess v a u lv, leaving_changed s.net s.lanes x lane 0 a u lng lx (omega arith), counted_none (eqb v u));
-      top = sound.top;
-      sink = sound.sink;
-      steep = each_lane arcs s.lanes x lane (λ y l. 0 < l.residual → label_of s (near s.net y) ≤ cond (is_border s.net s.blocks y) l.known (label_of s (far s.net y)) + 1) lng lx
-          (λ y off ly. sound.steep y ly) (λ some. rw o.border (omega (arith, at_x.2, front.1)));
-      known = each_lane arcs s.lanes x lane (λ y l. is_border s.net s.blocks y ≡ true → l.known ≤ label_of s (far s.net y)) lng lx
-          (λ y off ly. sound.known y ly) (λ h. front.2);
+      flow = record {
+        arcs = λ k lk. omega (arith, sound.flow.arcs k lk, less (carries_on k), arc_changed arcs s.lanes x lane 0 a k lng lx (omega arith), counted_none (eqb x.arc k));
+        total = omega (arith, sound.flow.total, less carries, sum_more s.excess v a lv);
+        got = sound.flow.got;
+        rooms = sound.flow.rooms;
+        balance = λ u lu. omega (arith, sound.flow.balance u lu, set_more s.excess v a u lv, leaving_changed s.net s.lanes x lane 0 a u lng lx (omega arith), counted_none (eqb v u));
+      };
+      labels = record {
+        top = sound.labels.top;
+        sink = sound.labels.sink;
+        steep = each_lane arcs s.lanes x lane (λ y l. 0 < l.residual → label_of s (near s.net y) ≤ cond (is_border s.net s.blocks y) l.known (label_of s (far s.net y)) + 1) lng lx
+            (λ y off ly. sound.labels.steep y ly) (λ some. rw o.border (omega (arith, at_x.2, front.1)));
+        known = each_lane arcs s.lanes x lane (λ y l. is_border s.net s.blocks y ≡ true → l.known ≤ label_of s (far s.net y)) lng lx
+            (λ y off ly. sound.labels.known y ly) (λ h. front.2);
+      };
       flights = each_lane arcs s.lanes x lane
           (λ y l. (f : Flight) → l.flight ≡ Some f → (is_border s.net s.blocks y ≡ true) × (label_of s (near s.net y) ≡ l.known + 1) × (label_of s (near s.net y) ≡ f.label)) lng lx
           (λ y off ly. sound.flights y ly) (λ f h. absurd (cc));
-      named = each_lane arcs s.lanes x lane (λ y l. over_messages (names y) ways ≡ out l.flight) lng lx
-          (λ y off ly. omega (arith, less (names y), names_not x y (λ h. off (sym h)), sound.named y ly)) none;
-      belong = λ b' c'. (good b' c').belong;
-      order = λ b' c'. (good b' c').order;
+      messages = record {
+        named = each_lane arcs s.lanes x lane (λ y l. over_messages (names y) ways ≡ out l.flight) lng lx
+            (λ y off ly. omega (arith, less (names y), names_not x y (λ h. off (sym h)), sound.messages.named y ly)) none;
+        belong = λ b' c'. (good b' c').belong;
+        order = λ b' c'. (good b' c').order;
+      };
     }
 
 -- ---- sent
@@ -164,7 +176,7 @@ sent_kept s x a sound lx border some enough fits level idle =
     let ways = put_message s.ways b c m in
     let lng = long s sound.sized in
     let more = λ (f : Message → ℕ). messages_more n f s.ways b c m sq lb lc in
-    let none : over_messages (names x) s.ways ≡ 0 = sound.named x lx ∙ ap out idle in
+    let none : over_messages (names x) s.ways ≡ 0 = sound.messages.named x lx ∙ ap out idle in
     let old = good_without s.net s.blocks s.lanes s.labels s.ways x lane (good_ways s s.lanes sound (λ y h. refl)) (names_other n s.ways x none) in
     let here : IsOut s.net s.blocks lanes x a d b c = record {
       direction = lx;
@@ -188,22 +200,28 @@ sent_kept s x a sound lx border some enough fits level idle =
         blocks = sound.sized.blocks;
         ways = square_put n s.ways b c (way_at s.ways b c ++ m ∷ []) sq;
       };
-      arcs = λ k lk. omega (arith, sound.arcs k lk, more (carries_on k), arc_changed arcs s.lanes x lane a 0 k lng lx (omega arith), counted_none (eqb x.arc k));
-      total = omega (arith, sound.total, more carries, sum_less s.excess v a lv enough);
-      got = sound.got;
-      rooms = sound.rooms;
-      balance = λ u lu. omega (arith, sound.balance u lu, set_less s.excess v a u lv enough, leaving_changed s.net s.lanes x lane a 0 u lng lx (omega arith), counted_none (eqb v u));
-      top = sound.top;
-      sink = sound.sink;
-      steep = each_lane arcs s.lanes x lane (λ y l. 0 < l.residual → label_of s (near s.net y) ≤ cond (is_border s.net s.blocks y) l.known (label_of s (far s.net y)) + 1) lng lx
-          (λ y off ly. sound.steep y ly) (λ some. rw border (omega (arith, level)));
-      known = each_lane arcs s.lanes x lane (λ y l. is_border s.net s.blocks y ≡ true → l.known ≤ label_of s (far s.net y)) lng lx
-          (λ y off ly. sound.known y ly) (sound.known x lx);
+      flow = record {
+        arcs = λ k lk. omega (arith, sound.flow.arcs k lk, more (carries_on k), arc_changed arcs s.lanes x lane a 0 k lng lx (omega arith), counted_none (eqb x.arc k));
+        total = omega (arith, sound.flow.total, more carries, sum_less s.excess v a lv enough);
+        got = sound.flow.got;
+        rooms = sound.flow.rooms;
+        balance = λ u lu. omega (arith, sound.flow.balance u lu, set_less s.excess v a u lv enough, leaving_changed s.net s.lanes x lane a 0 u lng lx (omega arith), counted_none (eqb v u));
+      };
+      labels = record {
+        top = sound.labels.top;
+        sink = sound.labels.sink;
+        steep = each_lane arcs s.lanes x lane (λ y l. 0 < l.residual → label_of s (near s.net y) ≤ cond (is_border s.net s.blocks y) l.known (label_of s (far s.net y)) + 1) lng lx
+            (λ y off ly. sound.labels.steep y ly) (λ some. rw border (omega (arith, level)));
+        known = each_lane arcs s.lanes x lane (λ y l. is_border s.net s.blocks y ≡ true → l.known ≤ label_of s (far s.net y)) lng lx
+            (λ y off ly. sound.labels.known y ly) (sound.labels.known x lx);
+      };
       flights = each_lane arcs s.lanes x lane
           (λ y l. (f : Flight) → l.flight ≡ Some f → (is_border s.net s.blocks y ≡ true) × (label_of s (near s.net y) ≡ l.known + 1) × (label_of s (near s.net y) ≡ f.label)) lng lx
           (λ y off ly. sound.flights y ly) (λ f h. (border, level, flight_label d a f h));
-      named = each_lane arcs s.lanes x lane (λ y l. over_messages (names y) ways ≡ out l.flight) lng lx
-          (λ y off ly. omega (arith, more (names y), names_not x y (λ h. off (sym h)), sound.named y ly)) (omega (arith, more (names x), names_same x, none));
-      belong = λ b' c'. (good b' c').belong;
-      order = λ b' c'. (good b' c').order;
+      messages = record {
+        named = each_lane arcs s.lanes x lane (λ y l. over_messages (names y) ways ≡ out l.flight) lng lx
+            (λ y off ly. omega (arith, more (names y), names_not x y (λ h. off (sym h)), sound.messages.named y ly)) (omega (arith, more (names x), names_same x, none));
+        belong = λ b' c'. (good b' c').belong;
+        order = λ b' c'. (good b' c').order;
+      };
     }

@@ -90,7 +90,7 @@ effect_own b old s (Send x) t own does =
 effect_own b old s (Accept c to) t own does = subst (λ (u : State). IsOwn b old u) (sym does.5) (accept_own b c old s does.1 own does.2 does.3)
 effect_own b old s (Refuse c to) t own does = subst (λ (u : State). IsOwn b old u) (sym does.4) (refuse_own b c old s does.1 own does.2 does.3)
 effect_own b old s (Settle c to) t own does = subst (λ (u : State). IsOwn b old u) (sym does.4) (settle_own b c old s does.1 own does.2 does.3)
-effect_own b old s RaiseAll t own does = absurd does
+effect_own b old s RaiseAll t own does = absurd does.0
 
 history_own : (b : ℕ) (old : State) (h : List Event) (s t : State) → IsOwn b old s → IsHistory b s h t → IsOwn b old t
 history_own b old [] s t own led = subst (λ (u : State). IsOwn b old u) (sym led) own

@@ -47,8 +47,8 @@ pushed_kept s x a sound lx inner enough fits level =
     let Steep : Direction → Lane → Type 0 = λ y l. 0 < l.residual → label_of s (near s.net y) ≤ cond (is_border s.net s.blocks y) l.known (label_of s (far s.net y)) + 1 in
     let Known : Direction → Lane → Type 0 = λ y l. is_border s.net s.blocks y ≡ true → l.known ≤ label_of s (far s.net y) in
     let Level : Direction → Lane → Type 0 = λ y l. (f : Flight) → l.flight ≡ Some f → (is_border s.net s.blocks y ≡ true) × (label_of s (near s.net y) ≡ l.known + 1) × (label_of s (near s.net y) ≡ f.label) in
-    let steep = each_lane arcs s.lanes x lane Steep lng lx (λ y off ly. sound.steep y ly) (λ left. sound.steep x lx (omega (arith, left))) in
-    let known = each_lane arcs s.lanes x lane Known lng lx (λ y off ly. sound.known y ly) (sound.known x lx) in
+    let steep = each_lane arcs s.lanes x lane Steep lng lx (λ y off ly. sound.labels.steep y ly) (λ left. sound.labels.steep x lx (omega (arith, left))) in
+    let known = each_lane arcs s.lanes x lane Known lng lx (λ y off ly. sound.labels.known y ly) (sound.labels.known x lx) in
     let flights = each_lane arcs s.lanes x lane Level lng lx (λ y off ly. sound.flights y ly) (sound.flights x lx) in
     record {
       sized = record {
@@ -61,31 +61,37 @@ pushed_kept s x a sound lx inner enough fits level =
         blocks = sound.sized.blocks;
         ways = sound.sized.ways;
       };
-      arcs = λ k lk. omega (arith, sound.arcs k lk, arc_changed arcs s.lanes x lane a 0 k lng lx (omega arith), arc_changed arcs taken opp back 0 a k lng1 lx (omega arith), counted_none (eqb x.arc k));
-      total = omega (arith, sound.total, sum_less s.excess v a lv enough, sum_more less w a lw);
-      got = sound.got;
-      rooms = sound.rooms;
-      balance = λ u lu.
-          let turn = ap (λ q. count_if (eqb q u) a) near_is in
-          omega (
-            arith,
-            sound.balance u lu,
-            set_less s.excess v a u lv enough,
-            set_more less w a u lw,
-            turn,
-            leaving_changed s.net s.lanes x lane a 0 u lng lx (omega arith),
-            leaving_changed s.net taken opp back 0 a u lng1 lx (omega arith),
-            counted_none (eqb v u),
-            counted_none (eqb (near s.net opp) u),
-          );
-      top = sound.top;
-      sink = sound.sink;
-      steep = each_lane arcs taken opp back Steep lng1 lx (λ y off ly. steep y ly) (λ some. rw inner' (omega (arith, label_near, label_far, level)));
-      known = each_lane arcs taken opp back Known lng1 lx (λ y off ly. known y ly) (known opp lx);
+      flow = record {
+        arcs = λ k lk. omega (arith, sound.flow.arcs k lk, arc_changed arcs s.lanes x lane a 0 k lng lx (omega arith), arc_changed arcs taken opp back 0 a k lng1 lx (omega arith), counted_none (eqb x.arc k));
+        total = omega (arith, sound.flow.total, sum_less s.excess v a lv enough, sum_more less w a lw);
+        got = sound.flow.got;
+        rooms = sound.flow.rooms;
+        balance = λ u lu.
+            let turn = ap (λ q. count_if (eqb q u) a) near_is in
+            omega (
+              arith,
+              sound.flow.balance u lu,
+              set_less s.excess v a u lv enough,
+              set_more less w a u lw,
+              turn,
+              leaving_changed s.net s.lanes x lane a 0 u lng lx (omega arith),
+              leaving_changed s.net taken opp back 0 a u lng1 lx (omega arith),
+              counted_none (eqb v u),
+              counted_none (eqb (near s.net opp) u),
+            );
+      };
+      labels = record {
+        top = sound.labels.top;
+        sink = sound.labels.sink;
+        steep = each_lane arcs taken opp back Steep lng1 lx (λ y off ly. steep y ly) (λ some. rw inner' (omega (arith, label_near, label_far, level)));
+        known = each_lane arcs taken opp back Known lng1 lx (λ y off ly. known y ly) (known opp lx);
+      };
       flights = each_lane arcs taken opp back Level lng1 lx (λ y off ly. flights y ly) (flights opp lx);
-      named = λ y ly. sound.named y ly ∙ sym (ap out (same y ly));
-      belong = λ b' c'. (good b' c').belong;
-      order = λ b' c'. (good b' c').order;
+      messages = record {
+        named = λ y ly. sound.messages.named y ly ∙ sym (ap out (same y ly));
+        belong = λ b' c'. (good b' c').belong;
+        order = λ b' c'. (good b' c').order;
+      };
     }
 
 -- ---- a gift to the sink
@@ -106,19 +112,25 @@ given_kept s v a sound lv enough fits =
         blocks = sound.sized.blocks;
         ways = sound.sized.ways;
       };
-      arcs = sound.arcs;
-      total = omega (arith, sound.total, sum_less s.excess v a le enough);
-      got = omega (arith, sound.got, sum_less s.rooms v a lr fits);
-      rooms = λ u lu. omega (arith, sound.rooms u lu, room_at u);
-      balance = λ u lu. omega (arith, sound.balance u lu, set_less s.excess v a u le enough, room_at u);
-      top = sound.top;
-      sink = λ u lu some. sound.sink u lu (omega (arith, some, room_at u));
-      steep = sound.steep;
-      known = sound.known;
+      flow = record {
+        arcs = sound.flow.arcs;
+        total = omega (arith, sound.flow.total, sum_less s.excess v a le enough);
+        got = omega (arith, sound.flow.got, sum_less s.rooms v a lr fits);
+        rooms = λ u lu. omega (arith, sound.flow.rooms u lu, room_at u);
+        balance = λ u lu. omega (arith, sound.flow.balance u lu, set_less s.excess v a u le enough, room_at u);
+      };
+      labels = record {
+        top = sound.labels.top;
+        sink = λ u lu some. sound.labels.sink u lu (omega (arith, some, room_at u));
+        steep = sound.labels.steep;
+        known = sound.labels.known;
+      };
       flights = sound.flights;
-      named = sound.named;
-      belong = sound.belong;
-      order = sound.order;
+      messages = record {
+        named = sound.messages.named;
+        belong = sound.messages.belong;
+        order = sound.messages.order;
+      };
     }
 
 -- ---- a new label
@@ -162,31 +174,37 @@ relabelled_kept s v d sound may =
         blocks = sound.sized.blocks;
         ways = sound.sized.ways;
       };
-      arcs = sound.arcs;
-      total = sound.total;
-      got = sound.got;
-      rooms = sound.rooms;
-      balance = sound.balance;
-      top = λ u lu. elim (label_at s v d u l) [
-        | inl here ↦ omega (arith, here.1, may.top)
-        | inr other ↦ omega (arith, other.1, sound.top u lu)
-      ];
-      sink = λ u lu some. elim (label_at s v d u l) [
-        | inl here ↦ let room = ap (room_of s) here.0 in let low = may.sink (omega (arith, room, some)) in omega (arith, here.1, low)
-        | inr other ↦ omega (arith, other.1, sound.sink u lu some)
-      ];
-      steep = λ y ly some. let seen' = seen_rises s labels y up in elim (label_at s v d (near s.net y) l) [
-        | inl here ↦ omega (arith, here.1, may.steep y ly here.0 some, seen')
-        | inr other ↦ omega (arith, other.1, sound.steep y ly some, seen')
-      ];
-      known = λ y ly border. omega (arith, sound.known y ly border, up (far s.net y));
+      flow = record {
+        arcs = sound.flow.arcs;
+        total = sound.flow.total;
+        got = sound.flow.got;
+        rooms = sound.flow.rooms;
+        balance = sound.flow.balance;
+      };
+      labels = record {
+        top = λ u lu. elim (label_at s v d u l) [
+          | inl here ↦ omega (arith, here.1, may.top)
+          | inr other ↦ omega (arith, other.1, sound.labels.top u lu)
+        ];
+        sink = λ u lu some. elim (label_at s v d u l) [
+          | inl here ↦ let room = ap (room_of s) here.0 in let low = may.sink (omega (arith, room, some)) in omega (arith, here.1, low)
+          | inr other ↦ omega (arith, other.1, sound.labels.sink u lu some)
+        ];
+        steep = λ y ly some. let seen' = seen_rises s labels y up in elim (label_at s v d (near s.net y) l) [
+          | inl here ↦ omega (arith, here.1, may.steep y ly here.0 some, seen')
+          | inr other ↦ omega (arith, other.1, sound.labels.steep y ly some, seen')
+        ];
+        known = λ y ly border. omega (arith, sound.labels.known y ly border, up (far s.net y));
+      };
       flights = λ y ly f h. elim (label_at s v d (near s.net y) l) [
         | inl here ↦ let none = may.idle y ly here.0 in absurd (cc)
         | inr other ↦ let at = sound.flights y ly f h in (at.0, other.1 ∙ at.1, other.1 ∙ at.2)
       ];
-      named = sound.named;
-      belong = λ b c k e le. belongs_kept s.net s.blocks s.lanes s.lanes s.labels labels b c (get_or (way_at s.ways b c) k e) (sound.belong b c k e le) (λ h. refl) up;
-      order = λ b c i j e lij lj. behind_kept s.net s.labels labels _ _ up (sound.order b c i j e lij lj);
+      messages = record {
+        named = sound.messages.named;
+        belong = λ b c k e le. belongs_kept s.net s.blocks s.lanes s.lanes s.labels labels b c (get_or (way_at s.ways b c) k e) (sound.messages.belong b c k e le) (λ h. refl) up;
+        order = λ b c i j e lij lj. behind_kept s.net s.labels labels _ _ up (sound.messages.order b c i j e lij lj);
+      };
     }
 
 -- ---- the highest label that is allowed

@@ -19,9 +19,9 @@ met_of old new sound quiet r = record {
   joined = r.joined;
   square = r.square;
   ways = r.ways;
-  known = sound.known;
+  known = sound.labels.known;
   arcs = λ k lk. arc_full old k sound quiet lk;
-  got = sound.got;
+  got = sound.flow.got;
 }
 
 -- the state of these parts is sound
@@ -37,19 +37,25 @@ met_sound old new ends met = record {
     blocks = met.sized.blocks;
     ways = met.square;
   };
-  arcs = arcs_met old new ends met;
-  total = total_met old new ends met;
-  got = got_met old new ends met;
-  rooms = rooms_met old new ends met;
-  balance = balance_met old new ends met;
-  top = top_met old new ends met;
-  sink = sink_met old new ends met;
-  steep = steep_met old new ends met;
-  known = known_met old new ends met;
+  flow = record {
+    arcs = arcs_met old new ends met;
+    total = total_met old new ends met;
+    got = got_met old new ends met;
+    rooms = rooms_met old new ends met;
+    balance = balance_met old new ends met;
+  };
+  labels = record {
+    top = top_met old new ends met;
+    sink = sink_met old new ends met;
+    steep = steep_met old new ends met;
+    known = known_met old new ends met;
+  };
   flights = flights_met old new ends met;
-  named = named_met old new ends met;
-  belong = belong_met old new ends met;
-  order = order_met old new ends met;
+  messages = record {
+    named = named_met old new ends met;
+    belong = belong_met old new ends met;
+    order = order_met old new ends met;
+  };
 }
 
 -- whatever the schedule, a round from a sound and quiet state gives back a sound state

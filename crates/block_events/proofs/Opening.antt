@@ -68,7 +68,7 @@ raised_lowers s labels sound exact =
     (λ v l. (exact_rises s labels sound exact v l, exact-le-top s v (slice_index labels v) (exact.exact v l), excess-lt-unit s v sound l)) in
     let known = λ (x : Direction) (l : IsDirection s.net x). counted_le (is_border s.net s.blocks x) (t - (lane_at lanes x).known) (t - known_of s x) (λ h.
     let told = ap (λ (q : Lane). q.known) (told_is s labels x l) ∙ ap (λ (b : Bool). cond b (slice_index labels (far s.net x)) (known_of s x)) h in
-    omega (arith, told, sound.known x l h, exact_rises s labels sound exact (far s.net x) (far_in s.net x sound.sized.net l))) in
+    omega (arith, told, sound.labels.known x l h, exact_rises s labels sound exact (far s.net x) (far_in s.net x sound.sized.net l))) in
     let dirs = sum_below-le m
     (λ k. count_if (is_border s.net s.blocks (forward k)) (t - (lane_at lanes (forward k)).known) + count_if (is_border s.net s.blocks (backward k)) (t - (lane_at lanes (backward k)).known))
     (λ k. count_if (is_border s.net s.blocks (forward k)) (t - known_of s (forward k)) + count_if (is_border s.net s.blocks (backward k)) (t - known_of s (backward k)))
@@ -131,24 +131,30 @@ opened_sound net blocks h some =
         blocks = some;
         ways = sq;
       };
-      arcs = λ k lk. omega (arith, none (carries_on k), residual (forward k) lk, residual (backward k) lk);
-      total = omega (arith, none carries);
-      got = omega arith;
-      rooms = λ v lv. omega arith;
-      balance = λ u lu.
-          let all = sum_below-same m
-          (λ k. count_if (eqb (near net (forward k)) u) (residual_of s (forward k)) + count_if (eqb (near net (backward k)) u) (residual_of s (backward k)))
-          (λ k. count_if (eqb (near net (forward k)) u) (first_residual net (forward k)) + count_if (eqb (near net (backward k)) u) (first_residual net (backward k)))
-          (λ k lk. omega (arith, ap (count_if (eqb (near net (forward k)) u)) (residual (forward k) lk), ap (count_if (eqb (near net (backward k)) u)) (residual (backward k) lk))) in
-          omega (arith, all);
-      top = λ v lv. omega (arith, label v lv);
-      sink = λ v lv room. omega (arith, label v lv);
-      steep = λ x lx room. omega (arith, label (near net x) (near_in net x h lx));
-      known = λ x lx border. omega (arith, known x lx);
+      flow = record {
+        arcs = λ k lk. omega (arith, none (carries_on k), residual (forward k) lk, residual (backward k) lk);
+        total = omega (arith, none carries);
+        got = omega arith;
+        rooms = λ v lv. omega arith;
+        balance = λ u lu.
+            let all = sum_below-same m
+            (λ k. count_if (eqb (near net (forward k)) u) (residual_of s (forward k)) + count_if (eqb (near net (backward k)) u) (residual_of s (backward k)))
+            (λ k. count_if (eqb (near net (forward k)) u) (first_residual net (forward k)) + count_if (eqb (near net (backward k)) u) (first_residual net (backward k)))
+            (λ k lk. omega (arith, ap (count_if (eqb (near net (forward k)) u)) (residual (forward k) lk), ap (count_if (eqb (near net (backward k)) u)) (residual (backward k) lk))) in
+            omega (arith, all);
+      };
+      labels = record {
+        top = λ v lv. omega (arith, label v lv);
+        sink = λ v lv room. omega (arith, label v lv);
+        steep = λ x lx room. omega (arith, label (near net x) (near_in net x h lx));
+        known = λ x lx border. omega (arith, known x lx);
+      };
       flights = λ x lx f is. let none' = flight x lx in absurd (cc);
-      named = λ x lx. none (names x) ∙ sym (ap out (flight x lx));
-      belong = λ b c k d l. let none' = ap length (empty b c) in absurd (omega (arith, none', l));
-      order = λ b c i j d lij lj. let none' = ap length (empty b c) in absurd (omega (arith, none', lj));
+      messages = record {
+        named = λ x lx. none (names x) ∙ sym (ap out (flight x lx));
+        belong = λ b c k d l. let none' = ap length (empty b c) in absurd (omega (arith, none', l));
+        order = λ b c i j d lij lj. let none' = ap length (empty b c) in absurd (omega (arith, none', lj));
+      };
     }
 
 -- ---- the count at the opening

@@ -118,7 +118,7 @@ opposite_carries s b c b' c' k x a d rest g (Accepted y n) sound front near' far
           let clash : Parcel x a d ≡ Accepted y n = sym head ∙ at in
           absurd (cc)
       | inr later ↦
-          let pair = sound.order b' c' 0 k (Parcel x a d) (omega arith) lk in
+          let pair = sound.messages.order b' c' 0 k (Parcel x a d) (omega arith) lk in
           let head : get_or (way_at s.ways b' c') 0 (Parcel x a d) ≡ Parcel x a d = rw same refl in
           let low : IsBehind s.net s.labels (Parcel x a d) (Accepted y n) = rw at at (rw head at pair) in
           let less = low e in
@@ -144,24 +144,24 @@ accept_fits s b c x a d rest sound front level =
     let opp = opposite x in
     let k = x.arc in
     let at_x = sound.flights x o.direction (record { amount = a; label = d }) o.flight in
-    let low = sound.top (near s.net x) (near_in s.net x sound.sized.net o.direction) in
+    let low = sound.labels.top (near s.net x) (near_in s.net x sound.sized.net o.direction) in
     let split = messages_le (λ n. carries_along x n + carries_along opp n) (carries_on k) s.ways (both_along x) in
     let add = messages_add (carries_along x) (carries_along opp) s.ways in
     let lf : 0 < length (way_at s.ways b c) = (let len = ap length front in omega (arith, len)) in
     let head : get_or (way_at s.ways b c) 0 m ≡ m = rw front refl in
     let one = message-le-messages s.blocks (carries_along x) s.ways b c 0 m lf in
     let mine : carries_along x (get_or (way_at s.ways b c) 0 m) ≡ a = ap (carries_along x) head ∙ ap (λ (t : Bool). count_if t a) (same_itself x) in
-    let whole = sound.arcs k o.direction in
+    let whole = sound.flow.arcs k o.direction in
     let sides = residual-le s x in
     let theirs : amount_out (flight_of s opp) ≤ over_messages (carries_along opp) s.ways = elim (cases_flight (flight_of s opp)) [
       | inl none ↦ omega (arith, ap amount_out none)
       | inr (g, is) ↦
-          let is_one : over_messages (names opp) s.ways ≡ 1 = sound.named opp o.direction ∙ ap out is in
+          let is_one : over_messages (names opp) s.ways ≡ 1 = sound.messages.named opp o.direction ∙ ap out is in
           let found = some_message (names opp) s.ways m (omega (arith, is_one)) in
           let n = get_or (way_at s.ways found.0 found.1) found.2 m in
           let e = names_means opp n found.4 in
           let amount = opposite_carries s b c found.0 found.1 found.2 x a d rest g n sound front o.near o.far level is found.3 refl
-          (sound.belong found.0 found.1 found.2 m found.3) e in
+          (sound.messages.belong found.0 found.1 found.2 m found.3) e in
           let part = message-le-messages s.blocks (carries_along opp) s.ways found.0 found.1 found.2 m found.3 in
           let here : carries_along opp n ≡ carries n = ap (λ (t : Bool). count_if t (carries n)) (ap (λ (z : Direction). is_same z opp) e ∙ same_itself opp) in
           omega (arith, ap amount_out is, amount, part, here)
@@ -178,10 +178,10 @@ settle_fits s b c x a d told rest sound front =
     let head : get_or (way_at s.ways b c) 0 m ≡ m = rw front refl in
     let one = message-le-messages s.blocks (carries_on x.arc) s.ways b c 0 m lf in
     let mine : carries_on x.arc (get_or (way_at s.ways b c) 0 m) ≡ a = ap (carries_on x.arc) head ∙ ap (λ (t : Bool). count_if t a) (eq-eqb x.arc x.arc refl) in
-    let low = sound.top (far s.net x) (far_in s.net x sound.sized.net o.0.direction) in
+    let low = sound.labels.top (far s.net x) (far_in s.net x sound.sized.net o.0.direction) in
     let sides = residual-le s (opposite x) in
     let turn = ap (residual_of s) (opposite_twice x) in
-    (omega (arith, o.2, low), o.0.flight, omega (arith, sound.arcs x.arc o.0.direction, one, mine, sides, turn))
+    (omega (arith, o.2, low), o.0.flight, omega (arith, sound.flow.arcs x.arc o.0.direction, one, mine, sides, turn))
 
 -- an excess and what a message in front carries are within what the source sends
 pub excess_fits : (s : State) (b c v : ℕ) (m : Message) (rest : List Message) → IsSound s → way_at s.ways b c ≡ m ∷ rest → v < nodes s.net
@@ -192,4 +192,4 @@ excess_fits s b c v m rest sound front lv =
     let one = message-le-messages s.blocks carries s.ways b c 0 m lf in
     let mine = ap carries head in
     let part = get_or-le-sum_by (λ (n : ℕ). n) s.excess v 0 (omega (arith, lv, sound.sized.excess)) in
-    omega (arith, sound.total, one, mine, part)
+    omega (arith, sound.flow.total, one, mine, part)

@@ -54,7 +54,7 @@ front_event : (s : State) (b c : ℕ) (m : Message) (rest : List Message) → Is
 front_event s b c (Parcel x a d) rest sound in_range e =
     let o = front_out s b c (Parcel x a d) rest sound e in
     let at_x = sound.flights x o.direction (record { amount = a; label = d }) o.flight in
-    let known = sound.known x o.direction o.border in
+    let known = sound.labels.known x o.direction o.border in
     elim (cases_lt (label_of s (far s.net x)) d) [
       | inl low ↦
           let may : MayAccept s (Parcel x a d ∷ rest) = omega (arith, at_x.1, at_x.2, known, low) in
@@ -106,7 +106,7 @@ direction_event s v x sound quiet active lx =
             ]))
         | inl some ↦
             let label = ap (label_of s) at_v in
-            let steep = sound.steep x lx some in
+            let steep = sound.labels.steep x lx some in
             let active' : IsActive s (near s.net x) = subst (λ (u : ℕ). IsActive s u) (sym at_v) active in
             elim (cases_lt (label_of s v) (seen_label s x + 1)) [
               | inl low ↦ inr (allowed_at (eqb (near s.net x) v) (is_open_direction s x) (seen_label s x + 1) (top s.net) (label_of s v) active.below (λ h opens. low))
@@ -141,7 +141,7 @@ node_event s v sound quiet active =
           elim (cases_eq (label_of s v) 1) [
             | inr other ↦
                 let start = start_at (ltb 0 (room_of s v)) (top s.net) (label_of s v) active.below (λ h.
-                (let low = sound.sink v active.node (ltb-true 0 (room_of s v) h) in omega arith)) in
+                (let low = sound.labels.sink v active.node (ltb-true 0 (room_of s v) h) in omega arith)) in
                 let high = lt-least (length s.net.arcs) (λ k. min (allowed_label s v (forward k)) (allowed_label s v (backward k))) (cond (ltb 0 (room_of s v)) 1 (top s.net)) (label_of s v) start none in
                 (Relabel v, (λ h. absurd (cc)), (active, high))
             | inl one ↦ elim (cases_lt 0 (room_of s v)) [
@@ -194,11 +194,11 @@ label_gap n f =
 above_gap : (s : State) → IsSound s → (g : ℕ) → ((v : ℕ) → v < nodes s.net → label_of s v ≡ g + 1 → ⊥)
     → (d v : ℕ) → g + 1 < label_of s v → ReachesSinkIn s d v → ⊥
 above_gap s sound g gap zero v high path = path
-above_gap s sound g gap (suc zero) v high (lv, room) = omega (arith, high, sound.sink v lv room)
+above_gap s sound g gap (suc zero) v high (lv, room) = omega (arith, high, sound.labels.sink v lv room)
 above_gap s sound g gap (suc (suc d)) v high (x, lx, at_v, some, path) =
     let w = far s.net x in
     let label = ap (label_of s) at_v in
-    let steep = sound.steep x lx some in
+    let steep = sound.labels.steep x lx some in
     let low = seen-le s x sound lx in
     elim (cases_eq (label_of s w) (g + 1)) [
       | inl e ↦ gap w (far_in s.net x sound.sized.net lx) e

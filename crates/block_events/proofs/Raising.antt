@@ -45,21 +45,21 @@ out_none None h = refl
 out_none (Some f) h = absurd (omega arith)
 
 pub quiet_idle : (s : State) → IsSound s → IsQuiet s → (x : Direction) → IsDirection s.net x → flight_of s x ≡ None
-quiet_idle s sound quiet x lx = out_none (flight_of s x) (sym (sound.named x lx) ∙ quiet_none s (names x) sound.sized.ways quiet)
+quiet_idle s sound quiet x lx = out_none (flight_of s x) (sym (sound.messages.named x lx) ∙ quiet_none s (names x) sound.sized.ways quiet)
 
 -- ---- labels are at most the lengths of residual paths
 
 pub seen-le : (s : State) (x : Direction) → IsSound s → IsDirection s.net x → seen_label s x ≤ label_of s (far s.net x)
 seen-le s x sound lx = elim (cases_Bool (is_border s.net s.blocks x)) [
-  | inl border ↦ rw border (sound.known x lx border)
+  | inl border ↦ rw border (sound.labels.known x lx border)
   | inr inner ↦ rw inner (omega arith)
 ]
 
 pub label-le-path : (s : State) → IsSound s → (d v : ℕ) → ReachesSinkIn s d v → label_of s v ≤ d
 label-le-path s sound zero v path = absurd path
-label-le-path s sound (suc zero) v (l, room) = sound.sink v l room
+label-le-path s sound (suc zero) v (l, room) = sound.labels.sink v l room
 label-le-path s sound (suc (suc d)) v (x, lx, at_v, some, path) =
-    let fall = sound.steep x lx some in
+    let fall = sound.labels.steep x lx some in
     let rest = label-le-path s sound (suc d) (far s.net x) path in
     let at = ap (label_of s) at_v in
     omega (arith, fall, rest, at, seen-le s x sound lx)
@@ -85,7 +85,7 @@ exact_falls s x here there lx some at_near (inr none) = omega (arith, exact-le-t
 
 rises_to : (s : State) (v label : ℕ) → IsSound s → v < nodes s.net → IsExact s v label → label_of s v ≤ label
 rises_to s v label sound lv (inl near) = label-le-path s sound label v near.1
-rises_to s v label sound lv (inr far) = omega (arith, sound.top v lv, far.0)
+rises_to s v label sound lv (inr far) = omega (arith, sound.labels.top v lv, far.0)
 
 pub exact_rises : (s : State) (labels : List ℕ) → IsSound s → AreExact s labels → (v : ℕ) → v < nodes s.net → label_of s v ≤ slice_index labels v
 exact_rises s labels sound exact v lv = rises_to s v (slice_index labels v) sound lv (exact.exact v lv)
@@ -133,28 +133,34 @@ raised_kept s labels sound quiet exact =
         blocks = sound.sized.blocks;
         ways = sound.sized.ways;
       };
-      arcs = λ k lk. omega (arith, sound.arcs k lk, residual (forward k) lk, residual (backward k) lk);
-      total = sound.total;
-      got = sound.got;
-      rooms = sound.rooms;
-      balance = λ u lu.
-          let all = sum_below-same arcs
-          (λ k. count_if (eqb (near s.net (forward k)) u) (lane_at lanes (forward k)).residual + count_if (eqb (near s.net (backward k)) u) (lane_at lanes (backward k)).residual)
-          (λ k. count_if (eqb (near s.net (forward k)) u) (residual_of s (forward k)) + count_if (eqb (near s.net (backward k)) u) (residual_of s (backward k)))
-          (λ k lk. omega (arith, ap (count_if (eqb (near s.net (forward k)) u)) (residual (forward k) lk), ap (count_if (eqb (near s.net (backward k)) u)) (residual (backward k) lk))) in
-          omega (arith, sound.balance u lu, all);
-      top = λ v lv. exact-le-top s v (slice_index labels v) (exact.exact v lv);
-      sink = λ v lv some. exact-le-path s v (slice_index labels v) 1 (exact.exact v lv) (lv, some);
-      steep = λ x lx some.
-          let falls = exact_falls s x (slice_index labels (near s.net x)) (slice_index labels (far s.net x)) lx (omega (arith, some, residual x lx))
-          (exact.exact (near s.net x) (near_in s.net x net lx)) (exact.exact (far s.net x) (far_in s.net x net lx)) in
-          elim (cases_Bool (is_border s.net s.blocks x)) [
-            | inl border ↦ rw border (omega (arith, falls, told x lx border))
-            | inr inner ↦ rw inner (omega (arith, falls))
-          ];
-      known = λ x lx border. omega (arith, told x lx border);
+      flow = record {
+        arcs = λ k lk. omega (arith, sound.flow.arcs k lk, residual (forward k) lk, residual (backward k) lk);
+        total = sound.flow.total;
+        got = sound.flow.got;
+        rooms = sound.flow.rooms;
+        balance = λ u lu.
+            let all = sum_below-same arcs
+            (λ k. count_if (eqb (near s.net (forward k)) u) (lane_at lanes (forward k)).residual + count_if (eqb (near s.net (backward k)) u) (lane_at lanes (backward k)).residual)
+            (λ k. count_if (eqb (near s.net (forward k)) u) (residual_of s (forward k)) + count_if (eqb (near s.net (backward k)) u) (residual_of s (backward k)))
+            (λ k lk. omega (arith, ap (count_if (eqb (near s.net (forward k)) u)) (residual (forward k) lk), ap (count_if (eqb (near s.net (backward k)) u)) (residual (backward k) lk))) in
+            omega (arith, sound.flow.balance u lu, all);
+      };
+      labels = record {
+        top = λ v lv. exact-le-top s v (slice_index labels v) (exact.exact v lv);
+        sink = λ v lv some. exact-le-path s v (slice_index labels v) 1 (exact.exact v lv) (lv, some);
+        steep = λ x lx some.
+            let falls = exact_falls s x (slice_index labels (near s.net x)) (slice_index labels (far s.net x)) lx (omega (arith, some, residual x lx))
+            (exact.exact (near s.net x) (near_in s.net x net lx)) (exact.exact (far s.net x) (far_in s.net x net lx)) in
+            elim (cases_Bool (is_border s.net s.blocks x)) [
+              | inl border ↦ rw border (omega (arith, falls, told x lx border))
+              | inr inner ↦ rw inner (omega (arith, falls))
+            ];
+        known = λ x lx border. omega (arith, told x lx border);
+      };
       flights = λ x lx f h. let none = quiet_idle s sound quiet x lx in let is' = flight x lx in absurd (cc);
-      named = λ x lx. sound.named x lx ∙ sym (ap out (flight x lx));
-      belong = λ b c k d l. let none = ap length (empty b c) in absurd (omega (arith, none, l));
-      order = λ b c i j d lij lj. let none = ap length (empty b c) in absurd (omega (arith, none, lj));
+      messages = record {
+        named = λ x lx. sound.messages.named x lx ∙ sym (ap out (flight x lx));
+        belong = λ b c k d l. let none = ap length (empty b c) in absurd (omega (arith, none, l));
+        order = λ b c i j d lij lj. let none = ap length (empty b c) in absurd (omega (arith, none, lj));
+      };
     }

@@ -50,8 +50,8 @@ pub record IsGoodWay (net : Network) (blocks : ℕ) (lanes : Lanes) (labels : Li
 pub good_ways : (s : State) (lanes : Lanes) → IsSound s → ((y : Direction) → IsDirection s.net y → (lane_at lanes y).flight ≡ flight_of s y)
     → EachWay (IsGoodWay s.net s.blocks lanes s.labels) s.ways
 good_ways s lanes sound same b c = record {
-  belong = λ k d l. belongs_kept s.net s.blocks s.lanes lanes s.labels s.labels b c _ (sound.belong b c k d l) (λ h. same _ h) (λ v. omega arith);
-  order = sound.order b c;
+  belong = λ k d l. belongs_kept s.net s.blocks s.lanes lanes s.labels s.labels b c _ (sound.messages.belong b c k d l) (λ h. same _ h) (λ v. omega arith);
+  order = sound.messages.order b c;
 }
 
 pub good_rest : (net : Network) (blocks : ℕ) (lanes : Lanes) (labels : List ℕ) (b c : ℕ) (m : Message) (rest way : List Message)
@@ -72,7 +72,7 @@ good_more net blocks lanes labels b c m way good here behind = record {
 
 -- the parcel in front
 pub front_out : (s : State) (b c : ℕ) (m : Message) (rest : List Message) → IsSound s → way_at s.ways b c ≡ m ∷ rest → Belongs s.net s.blocks s.lanes s.labels b c m
-front_out s b c m rest sound e = all_front (Belongs s.net s.blocks s.lanes s.labels b c) m rest (rw e at (sound.belong b c))
+front_out s b c m rest sound e = all_front (Belongs s.net s.blocks s.lanes s.labels b c) m rest (rw e at (sound.messages.belong b c))
 
 -- ---- refused
 
@@ -100,19 +100,25 @@ refused_kept s b c x a d rest sound way e high =
         blocks = sound.sized.blocks;
         ways = square_answered n s.ways b c rest reply sq;
       };
-      arcs = λ k lk. omega (arith, sound.arcs k lk, messages_answered n (carries_on k) s.ways b c m rest reply sq way.0 way.1 e);
-      total = omega (arith, sound.total, messages_answered n carries s.ways b c m rest reply sq way.0 way.1 e);
-      got = sound.got;
-      rooms = sound.rooms;
-      balance = sound.balance;
-      top = sound.top;
-      sink = sound.sink;
-      steep = sound.steep;
-      known = sound.known;
+      flow = record {
+        arcs = λ k lk. omega (arith, sound.flow.arcs k lk, messages_answered n (carries_on k) s.ways b c m rest reply sq way.0 way.1 e);
+        total = omega (arith, sound.flow.total, messages_answered n carries s.ways b c m rest reply sq way.0 way.1 e);
+        got = sound.flow.got;
+        rooms = sound.flow.rooms;
+        balance = sound.flow.balance;
+      };
+      labels = record {
+        top = sound.labels.top;
+        sink = sound.labels.sink;
+        steep = sound.labels.steep;
+        known = sound.labels.known;
+      };
       flights = sound.flights;
-      named = λ y ly. omega (arith, sound.named y ly, messages_answered n (names y) s.ways b c m rest reply sq way.0 way.1 e);
-      belong = λ b' c'. (good b' c').belong;
-      order = λ b' c'. (good b' c').order;
+      messages = record {
+        named = λ y ly. omega (arith, sound.messages.named y ly, messages_answered n (names y) s.ways b c m rest reply sq way.0 way.1 e);
+        belong = λ b' c'. (good b' c').belong;
+        order = λ b' c'. (good b' c').order;
+      };
     }
 
 -- ---- accepted
@@ -181,34 +187,38 @@ accepted_kept s b c x a d rest sound way e level =
         blocks = sound.sized.blocks;
         ways = square_answered n s.ways b c rest reply sq;
       };
-      arcs = λ k lk.
-          omega (
-            arith,
-            sound.arcs k lk,
-            messages_answered n (carries_on k) s.ways b c m rest reply sq way.0 way.1 e,
-            arc_changed arcs s.lanes opp lane 0 a k lng lx (omega arith),
-            counted_none (eqb x.arc k),
-          );
-      total = omega (arith, sound.total, messages_answered n carries s.ways b c m rest reply sq way.0 way.1 e, sum_more s.excess w a lw);
-      got = sound.got;
-      rooms = sound.rooms;
-      balance = λ u lu.
-          let turn = ap (λ q. count_if (eqb q u) a) near_is in
-          omega (arith, sound.balance u lu, set_more s.excess w a u lw, leaving_changed s.net s.lanes opp lane 0 a u lng lx (omega arith), counted_none (eqb (near s.net opp) u), turn);
-      top = sound.top;
-      sink = sound.sink;
-      steep = each_lane arcs s.lanes opp lane (λ y l. 0 < l.residual → label_of s (near s.net y) ≤ cond (is_border s.net s.blocks y) l.known (label_of s (far s.net y)) + 1) lng lx
-          (λ y off ly. sound.steep y ly)
-          (λ some. rw border (elim cases [
-            | inl none ↦ omega (arith, none.1, label_near, level)
-            | inr (g, is, kept) ↦ let at = sound.flights opp lx g is in omega (arith, kept, at.1)
-          ]));
-      known = each_lane arcs s.lanes opp lane (λ y l. is_border s.net s.blocks y ≡ true → l.known ≤ label_of s (far s.net y)) lng lx
-          (λ y off ly. sound.known y ly)
-          (λ b. elim cases [
-            | inl none ↦ omega (arith, none.1, label_far, at_x.2, sound.known opp lx border)
-            | inr (g, is, kept) ↦ omega (arith, kept, sound.known opp lx border)
-          ]);
+      flow = record {
+        arcs = λ k lk.
+            omega (
+              arith,
+              sound.flow.arcs k lk,
+              messages_answered n (carries_on k) s.ways b c m rest reply sq way.0 way.1 e,
+              arc_changed arcs s.lanes opp lane 0 a k lng lx (omega arith),
+              counted_none (eqb x.arc k),
+            );
+        total = omega (arith, sound.flow.total, messages_answered n carries s.ways b c m rest reply sq way.0 way.1 e, sum_more s.excess w a lw);
+        got = sound.flow.got;
+        rooms = sound.flow.rooms;
+        balance = λ u lu.
+            let turn = ap (λ q. count_if (eqb q u) a) near_is in
+            omega (arith, sound.flow.balance u lu, set_more s.excess w a u lw, leaving_changed s.net s.lanes opp lane 0 a u lng lx (omega arith), counted_none (eqb (near s.net opp) u), turn);
+      };
+      labels = record {
+        top = sound.labels.top;
+        sink = sound.labels.sink;
+        steep = each_lane arcs s.lanes opp lane (λ y l. 0 < l.residual → label_of s (near s.net y) ≤ cond (is_border s.net s.blocks y) l.known (label_of s (far s.net y)) + 1) lng lx
+            (λ y off ly. sound.labels.steep y ly)
+            (λ some. rw border (elim cases [
+              | inl none ↦ omega (arith, none.1, label_near, level)
+              | inr (g, is, kept) ↦ let at = sound.flights opp lx g is in omega (arith, kept, at.1)
+            ]));
+        known = each_lane arcs s.lanes opp lane (λ y l. is_border s.net s.blocks y ≡ true → l.known ≤ label_of s (far s.net y)) lng lx
+            (λ y off ly. sound.labels.known y ly)
+            (λ b. elim cases [
+              | inl none ↦ omega (arith, none.1, label_far, at_x.2, sound.labels.known opp lx border)
+              | inr (g, is, kept) ↦ omega (arith, kept, sound.labels.known opp lx border)
+            ]);
+      };
       flights = each_lane arcs s.lanes opp lane
           (λ y l. (f : Flight) → l.flight ≡ Some f → (is_border s.net s.blocks y ≡ true) × (label_of s (near s.net y) ≡ l.known + 1) × (label_of s (near s.net y) ≡ f.label)) lng lx
           (λ y off ly. sound.flights y ly)
@@ -216,7 +226,9 @@ accepted_kept s b c x a d rest sound way e level =
             | inl none ↦ let clash : None ≡ Some f = sym none.0 ∙ h in absurd (cc)
             | inr (g, is, kept) ↦ let at = sound.flights opp lx f h in (at.0, omega (arith, kept, at.1), at.2)
           ]);
-      named = λ y ly. omega (arith, sound.named y ly, messages_answered n (names y) s.ways b c m rest reply sq way.0 way.1 e, ap out (same y ly));
-      belong = λ b' c'. (good b' c').belong;
-      order = λ b' c'. (good b' c').order;
+      messages = record {
+        named = λ y ly. omega (arith, sound.messages.named y ly, messages_answered n (names y) s.ways b c m rest reply sq way.0 way.1 e, ap out (same y ly));
+        belong = λ b' c'. (good b' c').belong;
+        order = λ b' c'. (good b' c').order;
+      };
     }

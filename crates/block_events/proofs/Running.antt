@@ -213,7 +213,7 @@ does_goes b first l ways (Refuse c to) l' sound sl by does begins =
     named_goes b to (λ q. Refuse c q) first l ways (after_refuse l c b (taken_with l b c does.1)) l' does.0 does.4 begins (λ h. refuse_goes b c first l ways does.1 sound sl by does.2 does.3 h)
 does_goes b first l ways (Settle c to) l' sound sl by does begins =
     named_goes b to (λ q. Settle c q) first l ways (after_settle l c b (taken_with l b c does.1)) l' does.0 does.4 begins (λ h. settle_goes b c first l ways does.1 sound sl by does.2 does.3 h)
-does_goes b first l ways RaiseAll l' sound sl by does begins = absurd does
+does_goes b first l ways RaiseAll l' sound sl by does begins = absurd does.0
 
 -- ---- a history
 
@@ -278,7 +278,7 @@ does_grows b l (Send x) l' does = subst (λ (q : State). Grown l.ways q.ways) (s
 does_grows b l (Accept c to) l' does = subst (λ (q : State). Grown l.ways q.ways) (sym does.5) (accept_grows b c l does.1 does.3)
 does_grows b l (Refuse c to) l' does = subst (λ (q : State). Grown l.ways q.ways) (sym does.4) (refuse_grows b c l does.1 does.3)
 does_grows b l (Settle c to) l' does = subst (λ (q : State). Grown l.ways q.ways) (sym does.4) (settle_grows b c l does.1 does.3)
-does_grows b l RaiseAll l' does = absurd does
+does_grows b l RaiseAll l' does = absurd does.0
 
 history_grows : (b : ℕ) (h : List Event) (l t : State) → IsHistory b l h t → Grown l.ways t.ways
 history_grows b [] l t led = subst (λ (q : State). Grown l.ways q.ways) (sym led) (grown_same l.ways)

@@ -16,8 +16,8 @@ use Rattle.block_events.proofs.Ways.{square_put}
 use Rattle.block_events.proofs.Opening.{opened_square}
 use Rattle.block_events.proofs.Replies.{front_out}
 use Rattle.block_events.proofs.Owning as owning
-use Rattle.block_events.specs.Workers.{MayTake, FitsArc, FitsFlight, taken_with, DoesOwn}
-use Rattle.block_events.specs.RoundLaws.{without_messages, no_messages, IsEventOf, TookFronts}
+use Rattle.block_events.specs.Workers.{MayTake, FitsArc, FitsFlight, taken_with, IsEventOf, DoesOwn}
+use Rattle.block_events.specs.RoundLaws.{without_messages, no_messages, TookFronts}
 use Rattle.block_events.proofs.Running.{active_same, no_way}
 use Rattle.block_events.proofs.Words.{put_here, put_other}
 
@@ -96,7 +96,7 @@ settle_terms b c s (Accepted x a ∷ rest) sound l e may =
 settle_terms b c s (Refused x a d told ∷ rest) sound l e may =
     let h = front_out s c b (Refused x a d told) rest sound e in
     let o = h.0 in
-    let high = sound.top (far s.net x) (far_in s.net x sound.sized.net o.direction) in (
+    let high = sound.labels.top (far s.net x) (far_in s.net x sound.sized.net o.direction) in (
       Refused x a d told,
       record { addressed = record { direction = o.direction; border = o.border; near = o.near; far = o.far }; fair = (o.some, label_some s x a d b c sound o, h.1) },
       (o.flight, omega (arith, h.2, high)),

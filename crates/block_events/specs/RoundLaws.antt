@@ -1,12 +1,11 @@
 -- The laws of rounds and of histories, over the definitions alone.
 use Rattle.std.specs.Prelude.{◌≡◌, ◌≢◌, ℕ, ◌<◌, List, [], ◌++◌, length, slice_index_or, replicate}
 use Rattle.block_events.specs.declared.event.Event.{Event}
-use Rattle.block_events.specs.declared.event.Event.TheVariants.{PushInner, PushSink, Relabel, Send, Accept, Refuse, Settle, RaiseAll}
 use Rattle.block_events.specs.declared.message.Message.{Message}
-use Rattle.block_events.specs.States.{State, way_at, block_of, near_block}
+use Rattle.block_events.specs.States.{State, way_at}
 use Rattle.block_events.specs.Events.{IsQuiet, IsEnabled, IsRunOfEvents}
 use Rattle.block_events.specs.Soundness.{IsSound, IsSquare}
-use Rattle.block_events.specs.Workers.{DoesOwn, IsHistory, MayStart}
+use Rattle.block_events.specs.Workers.{IsEventOf, DoesOwn, IsHistory, MayStart}
 use Rattle.block_events.specs.Rounds.{RoundOf}
 
 -- whatever the schedule, a round from a sound and quiet state gives back a sound state
@@ -50,17 +49,6 @@ HistoryRuns =
     → ((c : ℕ) → b ≢ c → way_at s.ways c b ≡ way_at t.ways c b ++ left c)
     → (ways : List (List (List Message))) × IsRunOfEvents s h (with_ways t ways)
     × IsPassed b s.ways t.ways ways
-
--- the event is one of block b
-abbrev pub IsEventOf : ℕ → State → Event → Type 0
-IsEventOf b s (PushInner x) = near_block s.net s.blocks x ≡ b
-IsEventOf b s (PushSink v) = block_of s.net s.blocks v ≡ b
-IsEventOf b s (Relabel v) = block_of s.net s.blocks v ≡ b
-IsEventOf b s (Send x) = near_block s.net s.blocks x ≡ b
-IsEventOf b s (Accept c to) = to ≡ b
-IsEventOf b s (Refuse c to) = to ≡ b
-IsEventOf b s (Settle c to) = to ≡ b
-IsEventOf b s RaiseAll = ⊥
 
 -- what block b took from each other block stood in front of the way from there, and the rest is
 -- left

@@ -94,8 +94,8 @@ pub record IsSized (s : State) : Type 0 where
 abbrev pub first_residual : Network → Direction → ℕ
 first_residual net x = cond x.back 0 (arc_at net x.arc).capacity
 
-pub record IsSound (s : State) : Type 0 where
-  pub sized : IsSized s
+-- no flow is lost: what left the source is at the nodes, on the way or in the sink
+pub record ConservesFlow (s : State) : Type 0 where
   -- the residuals of an arc and what is on the way on it are its capacity
   pub arcs : (k : ℕ) → k < length s.net.arcs
       → residual_of s (forward k) + residual_of s (backward k) + over_messages (carries_on k) s.ways
@@ -110,23 +110,37 @@ pub record IsSound (s : State) : Type 0 where
   pub balance : (v : ℕ) → v < nodes s.net
       → excess_of s v + slice_index s.net.sinks v + sum_leaving s.net v (first_residual s.net)
       ≡ slice_index s.net.sources v + room_of s v + sum_leaving s.net v (residual_of s)
-  -- a valid labelling, by the labels that are seen
+
+-- a valid labelling: along a direction that can carry more, the label falls by at most 1
+pub record HasValidLabels (s : State) : Type 0 where
   pub top : (v : ℕ) → v < nodes s.net → label_of s v ≤ top s.net
   pub sink : (v : ℕ) → v < nodes s.net → 0 < room_of s v → label_of s v ≤ 1
+  -- by the label that is seen of the far end, which across a border is the one known
   pub steep : (x : Direction) → IsDirection s.net x → 0 < residual_of s x
       → label_of s (near s.net x) ≤ seen_label s x + 1
+  -- and no label is below what is known of it
   pub known : (x : Direction) → IsDirection s.net x → is_border s.net s.blocks x ≡ true
       → known_of s x ≤ label_of s (far s.net x)
-  -- where a parcel is out, on a border direction, its label and the label seen are those that it
-  -- was sent by
-  pub flights : (x : Direction) → IsDirection s.net x → (f : Flight) → flight_of s x ≡ Some f
-      → (is_border s.net s.blocks x ≡ true) × (label_of s (near s.net x) ≡ known_of s x + 1)
-      × (label_of s (near s.net x) ≡ f.label)
+
+-- the messages on the way are those of the parcels that are out
+pub record HasMessages (s : State) : Type 0 where
   -- a parcel is out exactly where one message names the direction
   pub named : (x : Direction) → IsDirection s.net x
       → over_messages (names x) s.ways ≡ out (flight_of s x)
   pub belong : (b c : ℕ) → All (Belongs s.net s.blocks s.lanes s.labels b c) (way_at s.ways b c)
   pub order : (b c : ℕ) → AllPairs (IsBehind s.net s.labels) (way_at s.ways b c)
+
+-- a preflow with a valid labelling, of which some is on the way in messages
+pub record IsSound (s : State) : Type 0 where
+  pub sized : IsSized s
+  pub flow : ConservesFlow s
+  pub labels : HasValidLabels s
+  -- where a parcel is out, on a border direction, its label and the label seen are those that it
+  -- was sent by
+  pub flights : (x : Direction) → IsDirection s.net x → (f : Flight) → flight_of s x ≡ Some f
+      → (is_border s.net s.blocks x ≡ true) × (label_of s (near s.net x) ≡ known_of s x + 1)
+      × (label_of s (near s.net x) ≡ f.label)
+  pub messages : HasMessages s
 
 -- no message is on the way, and no node with excess reaches the sink
 pub record IsFinished (s : State) : Type 0 where

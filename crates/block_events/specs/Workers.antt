@@ -62,21 +62,25 @@ FitsFlight s (Refused x a d told) =
 
 -- ---- events
 
+-- the event is one of block b
+abbrev pub IsEventOf : ℕ → State → Event → Type 0
+IsEventOf b s (PushInner x) = near_block s.net s.blocks x ≡ b
+IsEventOf b s (PushSink v) = block_of s.net s.blocks v ≡ b
+IsEventOf b s (Relabel v) = block_of s.net s.blocks v ≡ b
+IsEventOf b s (Send x) = near_block s.net s.blocks x ≡ b
+IsEventOf b s (Accept c to) = to ≡ b
+IsEventOf b s (Refuse c to) = to ≡ b
+IsEventOf b s (Settle c to) = to ≡ b
+IsEventOf b s RaiseAll = ⊥
+
 -- what b took from c so far, with one more message, which also stands in front, where an event
 -- looks for it: the event drops it there, and what is left is what b took
 abbrev pub taken_with : State → ℕ → ℕ → Message → List Message
 taken_with s b c m = m ∷ (way_at s.ways c b ++ m ∷ [])
 
--- block b does an event of its own, enabled in its own terms, and that leads from s to t
+-- block b does an event of its own, which leads from s to t. It takes a message that it may take so
+-- and that fits in its own terms; or it takes none, and the event is enabled
 abbrev pub DoesOwn : ℕ → State → Event → State → Type 0
-DoesOwn b s (PushInner x) t =
-    (near_block s.net s.blocks x ≡ b) × IsEnabled s (PushInner x) × (t ≡ effect s (PushInner x))
-DoesOwn b s (PushSink v) t =
-    (block_of s.net s.blocks v ≡ b) × IsEnabled s (PushSink v) × (t ≡ effect s (PushSink v))
-DoesOwn b s (Relabel v) t =
-    (block_of s.net s.blocks v ≡ b) × IsEnabled s (Relabel v) × (t ≡ effect s (Relabel v))
-DoesOwn b s (Send x) t = (near_block s.net s.blocks x ≡ b) × IsEnabled s (Send x)
-    × (t ≡ effect s (Send x))
 DoesOwn b s (Accept c to) t =
     (to ≡ b) × (m : Message) × MayTake s b c m × MayAccept s (m ∷ []) × FitsArc s m
     × (t ≡ after_accept s c b (taken_with s b c m))
@@ -86,7 +90,7 @@ DoesOwn b s (Refuse c to) t =
 DoesOwn b s (Settle c to) t =
     (to ≡ b) × (m : Message) × MayTake s b c m × FitsFlight s m
     × (t ≡ after_settle s c b (taken_with s b c m))
-DoesOwn b s RaiseAll t = ⊥
+DoesOwn b s e t = IsEventOf b s e × IsEnabled s e × (t ≡ effect s e)
 
 -- events of block b, one after another, lead from s to t
 abbrev pub IsHistory : ℕ → State → List Event → State → Type 0
@@ -95,8 +99,7 @@ IsHistory b s (e ∷ es) t = (mid : State) × DoesOwn b s e mid × IsHistory b m
 
 -- an event of block b that takes no message is enabled
 abbrev pub MayStart : ℕ → State → Event → Type 0
-MayStart b s (PushInner x) = (near_block s.net s.blocks x ≡ b) × IsEnabled s (PushInner x)
-MayStart b s (PushSink v) = (block_of s.net s.blocks v ≡ b) × IsEnabled s (PushSink v)
-MayStart b s (Relabel v) = (block_of s.net s.blocks v ≡ b) × IsEnabled s (Relabel v)
-MayStart b s (Send x) = (near_block s.net s.blocks x ≡ b) × IsEnabled s (Send x)
-MayStart b s e = ⊥
+MayStart b s (Accept c to) = ⊥
+MayStart b s (Refuse c to) = ⊥
+MayStart b s (Settle c to) = ⊥
+MayStart b s e = IsEventOf b s e × IsEnabled s e

@@ -7,7 +7,7 @@ use Rattle.flow_network.specs.Progress.{top}
 use Rattle.grouping.specs.Grouping.{count_below, rank}
 use Rattle.block_events.specs.declared.direction.Direction.{Direction}
 use Rattle.block_events.specs.Directions.{IsDirection, near, far, opposite}
-use Rattle.block_events.specs.States.{block_of, is_border}
+use Rattle.block_events.specs.States.{block_of, near_block, far_block, is_border}
 use Rattle.block_events.specs.Soundness.{first_residual, opening_state}
 use Rattle.block_net.specs.declared.lanes.InnerLane.{InnerLane}
 use Rattle.block_net.specs.declared.lanes.Border.{Border}
@@ -70,44 +70,51 @@ inner_rows rows = rows_of rows.starts rows.places
 abbrev pub outer_rows : ℕ → ByNode → Rows
 outer_rows n rows = rows_of (drop n rows.starts) rows.places
 
--- the rows are those of the directions that lead to another block exactly as asked
+-- where the row of a node begins, and the direction at a place of the rows
+abbrev pub row_start : Rows → ℕ → ℕ
+row_start rows v = slice_index rows.starts v
+
+abbrev pub row_direction : Network → Rows → ℕ → Direction
+row_direction net rows p = direction_in net (slice_index rows.places p)
+
+-- the row of each node has the directions that leave it: of all directions those that lead to
+-- another block, or those that do not, as asked
 pub record AreRows (net : Network) (blocks : ℕ) (leaves : Bool) (rows : Rows) : Type 0 where
   pub starts_len : nodes net < length rows.starts
   pub places_len : length rows.places ≡ directions net
-  pub ordered : (v : ℕ) → v < nodes net
-      → slice_index rows.starts v ≤ slice_index rows.starts (v + 1)
-  pub within : (v : ℕ) → v ≤ nodes net → slice_index rows.starts v ≤ directions net
-  pub small : (v p : ℕ) → v < nodes net → slice_index rows.starts v ≤ p
-      → p < slice_index rows.starts (v + 1)
+  pub ordered : (v : ℕ) → v < nodes net → row_start rows v ≤ row_start rows (v + 1)
+  pub within : (v : ℕ) → v ≤ nodes net → row_start rows v ≤ directions net
+  -- what stands in the row of a node leaves it, and is as asked
+  pub small : (v p : ℕ) → v < nodes net → row_start rows v ≤ p → p < row_start rows (v + 1)
       → slice_index rows.places p < directions net
-  pub node : (v p : ℕ) → v < nodes net → slice_index rows.starts v ≤ p
-      → p < slice_index rows.starts (v + 1)
-      → near net (direction_in net (slice_index rows.places p)) ≡ v
-  pub outer : (v p : ℕ) → v < nodes net → slice_index rows.starts v ≤ p
-      → p < slice_index rows.starts (v + 1)
-      → is_border net blocks (direction_in net (slice_index rows.places p)) ≡ leaves
+  pub node : (v p : ℕ) → v < nodes net → row_start rows v ≤ p → p < row_start rows (v + 1)
+      → near net (row_direction net rows p) ≡ v
+  pub outer : (v p : ℕ) → v < nodes net → row_start rows v ≤ p → p < row_start rows (v + 1)
+      → is_border net blocks (row_direction net rows p) ≡ leaves
+  -- each such direction stands in the row of its near end, at one place
   pub found : (x : Direction) → IsDirection net x → is_border net blocks x ≡ leaves
-      → (p : ℕ) × (slice_index rows.starts (near net x) ≤ p)
-      × (p < slice_index rows.starts (near net x + 1))
+      → (p : ℕ) × (row_start rows (near net x) ≤ p) × (p < row_start rows (near net x + 1))
       × (slice_index rows.places p ≡ index_of net x)
-  pub apart : (p q : ℕ) → slice_index rows.starts 0 ≤ p → p < slice_index rows.starts (nodes net)
-      → slice_index rows.starts 0 ≤ q → q < slice_index rows.starts (nodes net)
+  pub apart : (p q : ℕ) → row_start rows 0 ≤ p → p < row_start rows (nodes net)
+      → row_start rows 0 ≤ q → q < row_start rows (nodes net)
       → slice_index rows.places p ≡ slice_index rows.places q → p ≡ q
 
--- where the rows of a block begin
+-- where the rows of a block begin, and how many directions they have
 abbrev pub base_of : Network → ℕ → Rows → ℕ → ℕ
-base_of net blocks rows b = slice_index rows.starts (first_node (nodes net) blocks b)
+base_of net blocks rows b = row_start rows (first_node (nodes net) blocks b)
+
+abbrev pub row_total : Network → ℕ → Rows → ℕ → ℕ
+row_total net blocks rows b = base_of net blocks rows (b + 1) - base_of net blocks rows b
 
 -- the slot of the direction that stands at a place of the rows: its place among those of its block
 abbrev pub slot_at : Network → ℕ → Rows → ℕ → ℕ
 slot_at net blocks rows p =
-    p - base_of net blocks rows
-    (block_of net blocks (near net (direction_in net (slice_index rows.places p))))
+    p - base_of net blocks rows (near_block net blocks (row_direction net rows p))
 
 -- the table has the slot of each direction of the rows
 abbrev pub HasSlots : Network → ℕ → Rows → List ℕ → Type 0
 HasSlots net blocks rows slots =
-    (p : ℕ) → slice_index rows.starts 0 ≤ p → p < slice_index rows.starts (nodes net)
+    (p : ℕ) → row_start rows 0 ≤ p → p < row_start rows (nodes net)
     → slice_index slots (slice_index rows.places p) ≡ slot_at net blocks rows p
 
 -- the directions within blocks and those between blocks, each grouped by its near node, and all
@@ -139,7 +146,7 @@ abbrev pub base_for : Network → ℕ → Direction → ℕ
 base_for net blocks x =
     slice_index (starts_made net blocks)
     (cond (is_border net blocks x) (nodes net) 0
-    + first_node (nodes net) blocks (block_of net blocks (near net x)))
+    + first_node (nodes net) blocks (near_block net blocks x))
 
 -- the directions of a net in blocks in the order of their keys: at each place the direction that
 -- has it as its rank
@@ -180,13 +187,16 @@ border_by net first to opposite x = record {
   flight = None;
 }
 
+-- what a table of all directions has at one
+abbrev pub entry_of : Network → List ℕ → Direction → ℕ
+entry_of net table x = slice_index table (index_of net x)
+
 abbrev pub lane_made : Network → List ℕ → ℕ → Direction → InnerLane
-lane_made net slots first x = lane_by net first (slice_index slots (index_of net (opposite x))) x
+lane_made net slots first x = lane_by net first (entry_of net slots (opposite x)) x
 
 abbrev pub border_made : Network → ℕ → List ℕ → ℕ → Direction → Border
 border_made net blocks slots first x =
-    border_by net first (block_of net blocks (far net x))
-    (slice_index slots (index_of net (opposite x))) x
+    border_by net first (far_block net blocks x) (entry_of net slots (opposite x)) x
 
 abbrev pub lanes_made : Network → List ℕ → ℕ → List ℕ → List InnerLane
 lanes_made net slots first indices =
@@ -249,12 +259,8 @@ all_rows net blocks rows = table blocks (block_rows net blocks rows)
 -- room for them, before any is written
 abbrev pub blank_rows : Network → ℕ → ByNode → ℕ → BlockRows
 blank_rows net blocks rows b = record {
-  lanes = replicate (base_of net blocks (inner_rows rows) (b + 1)
-      - base_of net blocks (inner_rows rows) b) no_row;
-  borders =
-      replicate (base_of net blocks (outer_rows (nodes net) rows) (b + 1)
-      - base_of net blocks (outer_rows (nodes net) rows) b)
-      no_border;
+  lanes = replicate (row_total net blocks (inner_rows rows) b) no_row;
+  borders = replicate (row_total net blocks (outer_rows (nodes net) rows) b) no_border;
 }
 
 abbrev pub firsts_made : Network → ℕ → List ℕ
@@ -265,35 +271,45 @@ firsts_made net blocks = table blocks (first_node (nodes net) blocks)
 abbrev pub rows_at : List BlockRows → ℕ → BlockRows
 rows_at lists b = slice_index_or lists b no_rows
 
--- the lists have room for all directions, and those of which this holds stand at their slots
+-- the first node of the block that a direction leaves
+abbrev pub near_first : Network → ℕ → Direction → ℕ
+near_first net blocks x = first_node (nodes net) blocks (near_block net blocks x)
+
+-- what the block that a direction leaves has at the direction's slot
+abbrev pub near_lane : Network → ℕ → ByNode → List BlockRows → Direction → InnerLane
+near_lane net blocks rows lists x =
+    slice_index_or (rows_at lists (near_block net blocks x)).lanes (entry_of net rows.slots x)
+    no_row
+
+abbrev pub near_border : Network → ℕ → ByNode → List BlockRows → Direction → Border
+near_border net blocks rows lists x =
+    slice_index_or (rows_at lists (near_block net blocks x)).borders (entry_of net rows.slots x)
+    no_border
+
+-- each block has room for its directions, and those of which this holds stand at their slots
 pub record AreHeld (net : Network) (blocks : ℕ) (rows : ByNode) (held : Direction → Type 0)
     (lists : List BlockRows) : Type 0 where
   pub many : length lists ≡ blocks
-  pub lanes_len : (b : ℕ) → b < blocks → length (rows_at lists b).lanes
-      ≡ base_of net blocks (inner_rows rows) (b + 1) - base_of net blocks (inner_rows rows) b
-  pub borders_len : (b : ℕ) → b < blocks → length (rows_at lists b).borders
-      ≡ base_of net blocks (outer_rows (nodes net) rows) (b + 1)
-      - base_of net blocks (outer_rows (nodes net) rows) b
+  pub lanes_len : (b : ℕ) → b < blocks
+      → length (rows_at lists b).lanes ≡ row_total net blocks (inner_rows rows) b
+  pub borders_len : (b : ℕ) → b < blocks
+      → length (rows_at lists b).borders ≡ row_total net blocks (outer_rows (nodes net) rows) b
   pub lanes : (x : Direction) → IsDirection net x → held x → is_border net blocks x ≡ false
-      → slice_index_or (rows_at lists (block_of net blocks (near net x))).lanes
-      (slice_index rows.slots (index_of net x)) no_row
-      ≡ lane_made net rows.slots
-      (first_node (nodes net) blocks (block_of net blocks (near net x))) x
+      → near_lane net blocks rows lists x
+      ≡ lane_made net rows.slots (near_first net blocks x) x
   pub borders : (x : Direction) → IsDirection net x → held x → is_border net blocks x ≡ true
-      → slice_index_or (rows_at lists (block_of net blocks (near net x))).borders
-      (slice_index rows.slots (index_of net x)) no_border
-      ≡ border_made net blocks rows.slots
-      (first_node (nodes net) blocks (block_of net blocks (near net x))) x
+      → near_border net blocks rows lists x
+      ≡ border_made net blocks rows.slots (near_first net blocks x) x
 
--- a table of all directions has what comes after at those of the first so many arcs, and at the
--- others what was before
+-- a table of all directions that is written arc by arc: those of the first `many` arcs have their
+-- new entries, the others still their old ones
 pub record AreWritten (net : Network) (after before : List ℕ) (many : ℕ)
     (table : List ℕ) : Type 0 where
   pub len : length table ≡ directions net
   pub done : (x : Direction) → IsDirection net x → x.arc < many
-      → slice_index table (index_of net x) ≡ slice_index after (index_of net x)
+      → entry_of net table x ≡ entry_of net after x
   pub rest : (x : Direction) → IsDirection net x → many ≤ x.arc
-      → slice_index table (index_of net x) ≡ slice_index before (index_of net x)
+      → entry_of net table x ≡ entry_of net before x
 
 -- ---- the whole
 

@@ -125,11 +125,25 @@ state_shown w = record {
 
 -- ---- where everything stands
 
+-- where the slots of a node's directions within its block begin, and where those to other blocks
+-- do; they end where those of the next node begin
+abbrev pub lanes_begin : Whole → ℕ → ℕ
+lanes_begin w v = first_lane (block_with w v) (place w v)
+
+abbrev pub lanes_end : Whole → ℕ → ℕ
+lanes_end w v = first_lane (block_with w v) (place w v + 1)
+
+abbrev pub borders_begin : Whole → ℕ → ℕ
+borders_begin w v = first_border (block_with w v) (place w v)
+
+abbrev pub borders_end : Whole → ℕ → ℕ
+borders_end w v = first_border (block_with w v) (place w v + 1)
+
 -- the block holds a direction within it in the range of its near node, with its far node and the
 -- slot of the opposite direction
 pub record IsInnerAt (w : Whole) (x : Direction) : Type 0 where
-  pub from : first_lane (block_with w (near w.net x)) (place w (near w.net x)) ≤ slot w x
-  pub below : slot w x < first_lane (block_with w (near w.net x)) (place w (near w.net x) + 1)
+  pub from : lanes_begin w (near w.net x) ≤ slot w x
+  pub below : slot w x < lanes_end w (near w.net x)
   pub within : slot w x < length (block_with w (near w.net x)).lanes
   pub far : (lane_of w x).far ≡ place w (far w.net x)
   pub opposite : (lane_of w x).opposite ≡ slot w (opposite x)
@@ -137,8 +151,8 @@ pub record IsInnerAt (w : Whole) (x : Direction) : Type 0 where
 -- the block holds a direction to another block in the range of its near node, with its number, its
 -- near node, the other block, the slot of the opposite direction there and the arc's capacity
 pub record IsBorderAt (w : Whole) (x : Direction) : Type 0 where
-  pub from : first_border (block_with w (near w.net x)) (place w (near w.net x)) ≤ slot w x
-  pub below : slot w x < first_border (block_with w (near w.net x)) (place w (near w.net x) + 1)
+  pub from : borders_begin w (near w.net x) ≤ slot w x
+  pub below : slot w x < borders_end w (near w.net x)
   pub within : slot w x < length (block_with w (near w.net x)).borders
   pub direction : (border_of w x).direction ≡ x
   pub near : (border_of w x).near ≡ place w (near w.net x)
@@ -157,21 +171,21 @@ pub record StandsAt (w : Whole) (leaves : Bool) (v j : ℕ) (x : Direction) : Ty
 pub record IsPlaced (w : Whole) : Type 0 where
   pub firsts_len : length w.firsts ≡ length w.blocks
   pub slots_len : length w.slots ≡ 2 * length w.net.arcs
+  pub tops : (b : ℕ) → b < length w.blocks → (block_at w b).top ≡ top w.net
+  -- each node has a place in its block, counted from the block's first node
   pub homes : (v : ℕ) → v < nodes w.net → home w v < length w.blocks
   pub firsts : (v : ℕ) → v < nodes w.net → slice_index w.firsts (home w v) ≤ v
   pub places : (v : ℕ) → v < nodes w.net → place w v < count (block_with w v)
-  pub tops : (b : ℕ) → b < length w.blocks → (block_at w b).top ≡ top w.net
+  -- each direction has a slot in the range of its near end
   pub inner : (x : Direction) → IsDirection w.net x → is_outer w x ≡ false → IsInnerAt w x
   pub borders : (x : Direction) → IsDirection w.net x → is_outer w x ≡ true → IsBorderAt w x
   pub apart : (x y : Direction) → IsDirection w.net x → IsDirection w.net y
       → is_outer w x ≡ is_outer w y
       → near_home w x ≡ near_home w y → slot w x ≡ slot w y → x ≡ y
-  -- the ranges of a node hold nothing else
-  pub lanes : (v j : ℕ) → v < nodes w.net → first_lane (block_with w v) (place w v) ≤ j
-      → j < first_lane (block_with w v) (place w v + 1)
+  -- and the ranges of a node hold nothing else
+  pub lanes : (v j : ℕ) → v < nodes w.net → lanes_begin w v ≤ j → j < lanes_end w v
       → (x : Direction) × StandsAt w false v j x
-  pub outers : (v j : ℕ) → v < nodes w.net → first_border (block_with w v) (place w v) ≤ j
-      → j < first_border (block_with w v) (place w v + 1)
+  pub outers : (v j : ℕ) → v < nodes w.net → borders_begin w v ≤ j → j < borders_end w v
       → (x : Direction) × StandsAt w true v j x
 
 -- v is the node at a place of a block

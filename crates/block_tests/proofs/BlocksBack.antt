@@ -150,12 +150,14 @@ come_back = record {
     steps = steps;
     many = refl;
     does = by_node (λ b. DoesMany (fresh (block_at whole_before b)) (steps b) (came b)) does0 does1;
-    square = record { rows = refl; columns = by_node (λ b. length (get_or left_on_the_way b []) ≡ 2) refl refl };
-    ways = λ b c lb lc.
-        by_node (λ b. (c : ℕ) → c < 2 → Joins b c)
-        (by_node (λ c. Joins 0 c) (λ off. absurd (off refl)) (λ off. refl))
-        (by_node (λ c. Joins 1 c) (λ off. refl) (λ off. absurd (off refl))) b lb c lc;
-    none = by_node (λ b. way_at left_on_the_way b b ≡ []) refl refl;
+    rest = record {
+      square = record { rows = refl; columns = by_node (λ b. length (get_or left_on_the_way b []) ≡ 2) refl refl };
+      none = by_node (λ b. way_at left_on_the_way b b ≡ []) refl refl;
+      ways = λ b c lb lc.
+          by_node (λ b. (c : ℕ) → c < 2 → Joins b c)
+          (by_node (λ c. Joins 0 c) (λ off. absurd (off refl)) (λ off. refl))
+          (by_node (λ c. Joins 1 c) (λ off. refl) (λ off. absurd (off refl))) b lb c lc;
+    };
     busy = λ b e lb may. by_node (λ b. 0 < steps b) (omega arith) (omega arith) b lb;
   };
 }

@@ -440,8 +440,8 @@ fn is_accepted(letter: Option<Letter>) -> bool {
     }
 }
 
-/// Whether a letter sends the 4 back from the label 1 to the label 1.
-fn is_refused(letter: Option<Letter>) -> bool {
+/// Whether a letter sends the 4 back, which came from the label 1 and met this label.
+fn is_refused(letter: Option<Letter>, met: u32) -> bool {
     let Some(letter) = letter else {
         return false;
     };
@@ -451,47 +451,98 @@ fn is_refused(letter: Option<Letter>) -> bool {
             amount,
             label,
             told,
-        } => direction == FORWARD && amount == 4 && label == 1 && told == 1 && letter.place == 0,
+        } => direction == FORWARD && amount == 4 && label == 1 && told == met && letter.place == 0,
         _ => false,
     }
 }
 
-/// A parcel goes from the label 1 to the label 0, one below: it is taken. Its arc can then carry 4
-/// back, and the label known of the tail is 1.
-#[test]
-fn a_parcel_is_taken(rt: HostRuntime) -> Result<(), Fail> {
-    let (first, second) = two_blocks(&rt)?;
-    let (first, parcel) = send_parcel(&rt, first)?;
-    assert!(rt; is_parcel(parcel));
-    let first = expect_nothing(&rt, first, 1, SENT)?;
-    let second = expect_nothing(&rt, second, 0, SECOND)?;
-    let taken = Edge {
-        excess: 5,
-        residual: 4,
-        known: 1,
-        ..SECOND
-    };
-    let answer = answer_to(&rt, second, parcel, taken)?;
-    assert!(rt; is_accepted(answer));
-    let settled = Edge {
-        flight: None,
-        ..SENT
-    };
-    expect_settled(&rt, first, answer, settled)?;
-    Ok(())
+/// How a parcel from the label 1 meets the second block: whether that block's node rises first, the
+/// label that the parcel is sent back with, what the second block then holds, and what the first
+/// block holds once the answer ended the flight.
+#[derive(Clone, Copy)]
+struct Meeting {
+    rises: bool,
+    told: Option<u32>,
+    met: Edge,
+    settled: Edge,
 }
 
-/// A parcel from the label 1 meets the label 1: it is sent back, with the label that it met.
+const MEETINGS: &[Meeting] = &[
+    // The label 0 is one below: the parcel is taken. Its arc can then carry 4 back, and the label
+    // known of the tail is 1.
+    Meeting {
+        rises: false,
+        told: None,
+        met: Edge {
+            excess: 5,
+            residual: 4,
+            known: 1,
+            ..SECOND
+        },
+        settled: Edge {
+            flight: None,
+            ..SENT
+        },
+    },
+    // The label 1 is not below: the parcel is sent back, with the label that it met.
+    Meeting {
+        rises: true,
+        told: Some(1),
+        met: Edge { label: 1, ..SECOND },
+        settled: Edge { known: 1, ..FIRST },
+    },
+];
+
+/// The first block once it has sent its parcel and taken nothing, and the letter.
+fn sent_by_first(
+    rt: &(impl Abort + AllocGlobal),
+    block: Block,
+) -> Result<(Block, Option<Letter>), AllocError> {
+    let (block, parcel) = send_parcel(rt, block)?;
+    assert!(*rt; is_parcel(parcel));
+    let block = expect_nothing(rt, block, 1, SENT)?;
+    Ok((block, parcel))
+}
+
+/// The second block's answer.
+fn answer_by_second(
+    rt: &(impl Abort + AllocGlobal),
+    block: Block,
+    parcel: Option<Letter>,
+    meeting: Meeting,
+) -> Result<Option<Letter>, AllocError> {
+    let mut block = expect_nothing(rt, block, 0, SECOND)?;
+    if meeting.rises {
+        assert!(*rt; relabel(&mut block, 0));
+    }
+    answer_to(rt, block, parcel, meeting.met)
+}
+
+/// Whether a letter is the answer to the parcel: it was taken, or sent back with the label told.
+fn is_answer(letter: Option<Letter>, told: Option<u32>) -> bool {
+    match told {
+        None => is_accepted(letter),
+        Some(label) => is_refused(letter, label),
+    }
+}
+
+/// A parcel goes from the first block to the second, and the answer back.
+fn expect_meeting(
+    rt: &(impl Abort + AllocGlobal),
+    meeting: Meeting,
+    place: usize,
+) -> Result<(), AllocError> {
+    let (first, second) = two_blocks(rt)?;
+    let (first, parcel) = sent_by_first(rt, first)?;
+    let answer = answer_by_second(rt, second, parcel, meeting)?;
+    expect(rt, "MEETINGS", place, is_answer(answer, meeting.told));
+    expect_settled(rt, first, answer, meeting.settled)
+}
+
 #[test]
-fn a_parcel_is_sent_back(rt: HostRuntime) -> Result<(), Fail> {
-    let (first, second) = two_blocks(&rt)?;
-    let (first, parcel) = send_parcel(&rt, first)?;
-    let mut second = second;
-    assert!(rt; relabel(&mut second, 0));
-    let met = Edge { label: 1, ..SECOND };
-    let answer = answer_to(&rt, second, parcel, met)?;
-    assert!(rt; is_refused(answer));
-    let settled = Edge { known: 1, ..FIRST };
-    expect_settled(&rt, first, answer, settled)?;
+fn parcels_are_taken_or_sent_back(rt: HostRuntime) -> Result<(), Fail> {
+    for (place, meeting) in MEETINGS.iter().enumerate() {
+        expect_meeting(&rt, *meeting, place)?;
+    }
     Ok(())
 }

@@ -1,7 +1,6 @@
 -- Labels that are written block by block.
-use Rattle.std.specs.Prelude.{◌≡◌, ℕ, ◌<◌, ◌≤◌, true, List, [], length, slice_index}
+use Rattle.std.specs.Prelude.{◌≡◌, ℕ, ◌<◌, ◌≤◌, true, List, length, slice_index}
 use Rattle.flow_network.specs.Cut.{nodes, IsNet}
-use Rattle.block_events.specs.declared.lane.Lane.{Lane}
 use Rattle.block_events.specs.declared.direction.Direction.{Direction}
 use Rattle.block_events.specs.Directions.{IsDirection, near, far}
 use Rattle.block_events.specs.States as core

@@ -7,10 +7,18 @@ use Rattle.block_events.specs.Directions.{near, far, forward, backward}
 use Rattle.block_events.specs.Reach.{ReachesSinkIn}
 use Rattle.block_events.specs.States as core
 use Rattle.block_events.specs.Effects.{BlocksView, state_of, told_lane}
+use Rattle.laid_blocks.specs.Views.{IsLong}
 
 -- the state with no label and nothing on the way: paths to the sink do not depend on these
 abbrev pub bare : BlocksView → core.State
 bare b = state_of (record b { labels = [] }) [] 0
+
+-- each label is the top one, and the rest is as it was
+pub record IsCutOff (old new : BlocksView) : Type 0 where
+  pub rest : new ≡ record old { labels = new.labels }
+  pub long : IsLong old
+  pub len : length new.labels ≡ nodes old.net
+  pub tops : (v : ℕ) → v < nodes old.net → slice_index new.labels v ≡ top old.net
 
 -- each label is the top one, or below it and the length of a path to the sink
 pub record AreLengths (b : BlocksView) : Type 0 where

@@ -1,10 +1,12 @@
 -- What the blocks of a net show of its nodes and directions.
-use Rattle.std.specs.Prelude.{Bool, true, false, cond, replicate, ℕ, ◌≡◌, ◌<◌, ◌≤◌, List, length, map, None}
+use Rattle.std.specs.Prelude.{Bool, true, false, cond, min, replicate, ℕ, ◌≡◌, ◌<◌, ◌≤◌, List, length, map, slice_index, None}
 use Rattle.flow_network.specs.declared.arc.Arc.{Arc}
 use Rattle.flow_network.specs.Cut.{Network, nodes, IsNet}
+use Rattle.flow_network.specs.Progress.{top}
 use Rattle.block_events.specs.declared.lane.Lane.{Lane}
 use Rattle.block_events.specs.declared.direction.Direction.{Direction}
-use Rattle.block_events.specs.Directions.{IsDirection}
+use Rattle.block_events.specs.Directions.{IsDirection, near, far}
+use Rattle.block_events.specs.States.{lane_at, is_border}
 use Rattle.block_events.specs.Effects.{BlocksView}
 use Rattle.block_net.specs.Limits.{arc_limit, block_limit}
 use Rattle.block_net.specs.Whole.{Whole, home, place, near_home, slot, is_outer, state_shown, IsPlaced, IsFilled}
@@ -54,6 +56,35 @@ pub record IsLong (b : BlocksView) : Type 0 where
   pub rooms : length b.rooms ≡ nodes b.net
   pub forth : length b.lanes.forth ≡ length b.net.arcs
   pub back : length b.lanes.back ≡ length b.net.arcs
+
+-- a direction within a block, and one from a block to another
+pub record IsInside (b : BlocksView) (x : Direction) : Type 0 where
+  pub direction : IsDirection b.net x
+  pub inner : is_border b.net b.blocks x ≡ false
+
+pub record IsCrossing (b : BlocksView) (x : Direction) : Type 0 where
+  pub direction : IsDirection b.net x
+  pub border : is_border b.net b.blocks x ≡ true
+
+-- the labels of a direction's ends
+abbrev pub label_near : BlocksView → Direction → ℕ
+label_near b x = slice_index b.labels (near b.net x)
+
+abbrev pub label_far : BlocksView → Direction → ℕ
+label_far b x = slice_index b.labels (far b.net x)
+
+-- what a push along a direction moves: all that its near end has and the direction can carry
+abbrev pub push_amount : BlocksView → Direction → ℕ
+push_amount b x = min (slice_index b.excess (near b.net x)) (lane_at b.lanes x).residual
+
+-- what a push to the sink moves
+abbrev pub sink_amount : BlocksView → ℕ → ℕ
+sink_amount b v = min (slice_index b.excess v) (slice_index b.rooms v)
+
+-- a label for each node, none above the top one
+pub record AreLabels (b : BlocksView) (labels : List ℕ) : Type 0 where
+  pub len : length labels ≡ nodes b.net
+  pub limit : (v : ℕ) → v < nodes b.net → slice_index labels v ≤ top b.net
 
 -- ---- the opening
 

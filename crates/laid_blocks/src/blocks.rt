@@ -1,4 +1,4 @@
-ghost use Rattle.std.specs.Prelude.{IfOk, ◌≡◌, ◌≢◌, ◌↔◌, ◌+◌, ◌*◌, ◌/◌, ◌<◌, ◌≤◌, ℕ, IsTrue, None, true, false, min, [], length, slice_index};
+ghost use Rattle.std.specs.Prelude.{IfOk, ◌≡◌, ◌≢◌, ◌↔◌, ◌+◌, ◌*◌, ◌/◌, ◌<◌, ◌≤◌, IsTrue, None, [], length, slice_index};
 ghost use Rattle.flow_network.specs.Limits.{node_limit};
 ghost use Rattle.flow_network.specs.Cut.{nodes, IsNet};
 ghost use Rattle.flow_network.specs.Preflow.{arc_at};
@@ -13,6 +13,7 @@ ghost use Rattle.block_net.specs.Split.{CanSplit, homes_made};
 ghost use Rattle.block_net.specs.Whole.{index_of, is_outer, whole_of};
 ghost use Rattle.block_events.specs.Effects.{state_of, blocks_after_sink_push, blocks_after_relabel, blocks_after_push, blocks_after_send, blocks_after_accept, blocks_after_settle, blocks_after_return};
 ghost use Rattle.laid_blocks.specs.Views.{blocks_in, IsLaid, IsLong, IsSpot, IsRow, opening_blocks};
+ghost use Rattle.laid_blocks.specs.Views.{IsInside, IsCrossing, AreLabels, label_near, label_far, push_amount, sink_amount};
 ghost use Rattle.laid_blocks.specs.ByBlock.{IsToldFrom, IsRelabelled};
 
 use crate::by_block::{label_block, tell_block};
@@ -87,8 +88,7 @@ pub fn near_of(net: &Net, direction: Direction) -> usize
 pub fn spot(net: &Net, parts: &Parts, v: usize) -> (usize, usize)
     requires laid { IsLaid (whole_of net.now parts.now) }
     requires node { v < nodes net.now }
-    ensures { IsSpot (whole_of net.now parts.now)
-        v result.0 result.1 }
+    ensures { IsSpot (whole_of net.now parts.now) v result.0 result.1 }
 {
     let block = home_of(v, net.nodes(), parts.blocks.len());
     (block, v - parts.firsts[block])
@@ -305,11 +305,9 @@ impl Blocks {
     /// Whether excess of an active node can go along a direction within its block, as the block
     /// tells.
     pub fn may_push(&self, direction: Direction) -> bool
-        requires direction { IsDirection self.now.net direction }
-        requires inner { is_border self.now.net self.now.blocks direction ≡ false }
+        requires { IsInside self.now direction }
         ensures { IsTrue result ↔ (0 < (lane_at self.now.lanes direction).residual)
-            × (slice_index self.now.labels (near self.now.net direction)
-            ≡ slice_index self.now.labels (far self.now.net direction) + 1) }
+            × (label_near self.now direction ≡ label_far self.now direction + 1) }
     {
         let (_, place) = spot(&self.net, &self.parts, near_of(&self.net, direction));
         let (block, slot) = row(&self.net, &self.parts, direction);
@@ -319,11 +317,9 @@ impl Blocks {
     /// Whether excess of an active node can leave along a direction to another block, as the node's
     /// block tells.
     pub fn may_send(&self, direction: Direction) -> bool
-        requires direction { IsDirection self.now.net direction }
-        requires border { is_border self.now.net self.now.blocks direction ≡ true }
+        requires { IsCrossing self.now direction }
         ensures { IsTrue result ↔ (0 < (lane_at self.now.lanes direction).residual)
-            × (slice_index self.now.labels (near self.now.net direction)
-            ≡ (lane_at self.now.lanes direction).known + 1)
+            × (label_near self.now direction ≡ (lane_at self.now.lanes direction).known + 1)
             × ((lane_at self.now.lanes direction).flight ≡ None) }
     {
         let (_, place) = spot(&self.net, &self.parts, near_of(&self.net, direction));
@@ -342,9 +338,7 @@ impl Blocks {
     /// The nodes of a block get the labels that stand at their numbers in the list.
     pub fn relabel_block(&mut self, block: usize, labels: &[u32])
         requires block { block < self.old.blocks }
-        requires len { length labels.now ≡ nodes self.old.net }
-        requires limit { (v : ℕ) → v < nodes self.old.net
-            → slice_index labels.now v ≤ top self.old.net }
+        requires labels { AreLabels self.old labels.now }
         ensures { IsRelabelled self.old self.new block labels.now }
     {
         label_block(&self.net, &mut self.parts, block, labels);
@@ -354,10 +348,8 @@ impl Blocks {
     /// amount.
     pub fn give(&mut self, v: usize) -> u64
         requires { v < nodes self.old.net }
-        ensures given { self.new ≡ blocks_after_sink_push self.old v
-            (min (slice_index self.old.excess v) (slice_index self.old.rooms v)) }
-        ensures amount { result ≡ min (slice_index self.old.excess v)
-            (slice_index self.old.rooms v) }
+        ensures given { self.new ≡ blocks_after_sink_push self.old v (sink_amount self.old v) }
+        ensures amount { result ≡ sink_amount self.old v }
     {
         let (block, place) = spot(&self.net, &self.parts, v);
         self.parts.blocks[block].give(place)
@@ -376,12 +368,9 @@ impl Blocks {
     /// Excess of the near end goes along a direction within a block to the far end: as much as the
     /// direction can carry.
     pub fn push(&mut self, direction: Direction)
-        requires direction { IsDirection self.old.net direction }
-        requires inner { is_border self.old.net self.old.blocks direction ≡ false }
+        requires inner { IsInside self.old direction }
         requires other { near self.old.net direction ≢ far self.old.net direction }
-        ensures { self.new ≡ blocks_after_push self.old direction
-            (min (slice_index self.old.excess (near self.old.net direction))
-            (lane_at self.old.lanes direction).residual) }
+        ensures { self.new ≡ blocks_after_push self.old direction (push_amount self.old direction) }
     {
         let (_, place) = spot(&self.net, &self.parts, near_of(&self.net, direction));
         let (block, slot) = row(&self.net, &self.parts, direction);
@@ -391,16 +380,12 @@ impl Blocks {
     /// Excess of the near end leaves along a direction to another block: as much as the direction
     /// can carry. Answers the parcel.
     pub fn send(&mut self, direction: Direction) -> Message
-        requires direction { IsDirection self.old.net direction }
-        requires border { is_border self.old.net self.old.blocks direction ≡ true }
+        requires border { IsCrossing self.old direction }
         requires idle { (lane_at self.old.lanes direction).flight ≡ None }
         ensures sent { self.new ≡ blocks_after_send self.old direction
-            (min (slice_index self.old.excess (near self.old.net direction))
-            (lane_at self.old.lanes direction).residual) }
-        ensures parcel { result ≡ Parcel direction
-            (min (slice_index self.old.excess (near self.old.net direction))
-            (lane_at self.old.lanes direction).residual)
-            (slice_index self.old.labels (near self.old.net direction)) }
+            (push_amount self.old direction) }
+        ensures parcel { result ≡ Parcel direction (push_amount self.old direction)
+            (label_near self.old direction) }
     {
         let (_, place) = spot(&self.net, &self.parts, near_of(&self.net, direction));
         let (block, slot) = row(&self.net, &self.parts, direction);
@@ -410,10 +395,8 @@ impl Blocks {
     /// Whether a parcel with a label, along a direction from another block, is to be taken, as the
     /// far end's block tells.
     pub fn may_accept(&self, direction: Direction, label: u32) -> bool
-        requires direction { IsDirection self.now.net direction }
-        requires border { is_border self.now.net self.now.blocks direction ≡ true }
-        ensures { IsTrue result ↔
-            (slice_index self.now.labels (far self.now.net direction) + 1 ≡ label) }
+        requires { IsCrossing self.now direction }
+        ensures { IsTrue result ↔ (label_far self.now direction + 1 ≡ label) }
     {
         let (block, slot) = row(&self.net, &self.parts, opposite_of(direction));
         self.parts.blocks[block].may_accept(slot, label)
@@ -422,10 +405,8 @@ impl Blocks {
     /// Whether a parcel with a label, along a direction from another block, is to be sent back, as
     /// the far end's block tells.
     pub fn may_refuse(&self, direction: Direction, label: u32) -> bool
-        requires direction { IsDirection self.now.net direction }
-        requires border { is_border self.now.net self.now.blocks direction ≡ true }
-        ensures { IsTrue result ↔
-            (label ≤ slice_index self.now.labels (far self.now.net direction)) }
+        requires { IsCrossing self.now direction }
+        ensures { IsTrue result ↔ (label ≤ label_far self.now direction) }
     {
         let (block, slot) = row(&self.net, &self.parts, opposite_of(direction));
         self.parts.blocks[block].may_refuse(slot, label)
@@ -435,8 +416,7 @@ impl Blocks {
     /// direction learns the label that it was sent by, but not while a parcel of its own is out.
     /// Answers that it was taken.
     pub fn accept(&mut self, direction: Direction, amount: u64, label: u32) -> Message
-        requires direction { IsDirection self.old.net direction }
-        requires border { is_border self.old.net self.old.blocks direction ≡ true }
+        requires border { IsCrossing self.old direction }
         requires fits { (lane_at self.old.lanes (opposite direction)).residual
             + amount_out (lane_at self.old.lanes (opposite direction)).flight + amount
             ≤ (arc_at self.old.net direction.arc).capacity }
@@ -451,10 +431,8 @@ impl Blocks {
     /// The answer that a parcel along a direction from another block was not taken: with the label
     /// that stands against it.
     pub fn refusal(&self, direction: Direction, amount: u64, label: u32) -> Message
-        requires direction { IsDirection self.now.net direction }
-        requires border { is_border self.now.net self.now.blocks direction ≡ true }
-        ensures { result ≡ Refused direction amount label
-            (slice_index self.now.labels (far self.now.net direction)) }
+        requires { IsCrossing self.now direction }
+        ensures { result ≡ Refused direction amount label (label_far self.now direction) }
     {
         let (block, slot) = row(&self.net, &self.parts, opposite_of(direction));
         self.parts.blocks[block].refusal(slot, amount, label)
@@ -462,8 +440,7 @@ impl Blocks {
 
     /// The parcel of a direction to another block was taken.
     pub fn settle(&mut self, direction: Direction)
-        requires direction { IsDirection self.old.net direction }
-        requires border { is_border self.old.net self.old.blocks direction ≡ true }
+        requires { IsCrossing self.old direction }
         ensures { self.new ≡ blocks_after_settle self.old direction }
     {
         let (block, slot) = row(&self.net, &self.parts, direction);
@@ -472,8 +449,7 @@ impl Blocks {
 
     /// The parcel of a direction to another block comes back, with the label that stood against it.
     pub fn take_back(&mut self, direction: Direction, amount: u64, told: u32)
-        requires direction { IsDirection self.old.net direction }
-        requires border { is_border self.old.net self.old.blocks direction ≡ true }
+        requires border { IsCrossing self.old direction }
         requires fits { amount ≤ amount_out (lane_at self.old.lanes direction).flight }
         requires told { told ≤ top self.old.net }
         ensures { self.new ≡ blocks_after_return self.old direction amount told }

@@ -5,9 +5,9 @@ ghost use Rattle.block_events.specs.Reach.{AreExact};
 ghost use Rattle.block_events.specs.Directions.{IsDirection, forward, backward};
 ghost use Rattle.block_events.specs.States.{lane_at};
 ghost use Rattle.block_events.specs.Effects.{blocks_with_known_labels};
-ghost use Rattle.laid_blocks.specs.Raising.{bare, AreLengths, IsLowered, IsStableAt, IsStableAlong, IsStable};
+ghost use Rattle.laid_blocks.specs.Raising.{bare, AreLengths, IsCutOff, IsLowered, IsStableAt, IsStableAlong, IsStable};
 ghost use Rattle.block_events.specs.Effects.{BlocksView};
-ghost use Rattle.laid_blocks.specs.Views.{IsLong};
+ghost use Rattle.laid_blocks.specs.Views.{AreLabels};
 
 use crate::blocks::Blocks;
 use block_events::Direction;
@@ -96,11 +96,7 @@ impl Blocks {
 
     /// Each label becomes the top one.
     fn cut_off(&mut self)
-        ensures rest { self.new ≡ record self.old { labels = self.new.labels } }
-        ensures long { IsLong self.old }
-        ensures len { length self.new.labels ≡ nodes self.old.net }
-        ensures tops { (v : ℕ) → v < nodes self.old.net
-            → slice_index self.new.labels v ≡ top self.old.net }
+        ensures { IsCutOff self.old self.new }
     {
         let top = self.nodes() as u32 + 2;
         'nodes: for v in 0..self.nodes() {
@@ -130,9 +126,7 @@ impl Blocks {
 
     /// Each node gets the label that is told, block by block.
     fn set_labels(&mut self, labels: &[u32])
-        requires len { length labels.now ≡ nodes self.old.net }
-        requires limit { (v : ℕ) → v < nodes self.old.net
-            → slice_index labels.now v ≤ top self.old.net }
+        requires { AreLabels self.old labels.now }
         ensures { self.new ≡ record self.old { labels = labels.now } }
     {
         'each: for block in 0..self.count() {
@@ -143,9 +137,7 @@ impl Blocks {
     /// Each node gets the label that is told, and each direction to another block knows that of its
     /// far end.
     pub fn raise_to(&mut self, labels: &[u32])
-        requires len { length labels.now ≡ nodes self.old.net }
-        requires limit { (v : ℕ) → v < nodes self.old.net
-            → slice_index labels.now v ≤ top self.old.net }
+        requires { AreLabels self.old labels.now }
         ensures { self.new ≡ blocks_with_known_labels (record self.old { labels = labels.now }) }
     {
         self.set_labels(labels);

@@ -5,7 +5,7 @@ pub up-preserved : goal.up-preserved
 up-preserved c = opens_more c.args.cells.now c.up.cells c.send_up.new.cells c.up.invariant c.send_up.ensures
 
 pub down-preserved : goal.down-preserved
-down-preserved c = opens_more c.args.cells.now c.down.cells c.send_down.new.cells c.down.invariant c.send_down.ensures
+down-preserved c = opens_more c.args.cells.now c.down.cells c.send_back.new.cells c.down.invariant c.send_back.ensures
 
 pub again-preserved : goal.again-preserved
-again-preserved c = opens_more c.args.cells.now c.again.cells c.send_again.new.cells c.again.invariant c.send_again.ensures
+again-preserved c = opens_more c.args.cells.now c.again.cells c.send_back-in-again.new.cells c.again.invariant c.send_back-in-again.ensures

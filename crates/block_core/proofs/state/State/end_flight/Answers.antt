@@ -7,23 +7,15 @@ use Rattle.block_core.proofs.Keeping.{held_next}
 use Rattle.block_core.proofs.Fronts.{accepted_out, may_settle, settle_is}
 use Rattle.block_core.proofs.state.State.end_flight.Goals as goal
 
-pub settle-requires-clause-direction : goal.settle-requires-clause-direction
-settle-requires-clause-direction c =
+pub settle-requires : goal.settle-requires
+settle-requires c =
     let b = c.args.from in
     let e = c.args.to in
     let x = c.args.direction in
     let s : core.State = state_of c.self.inside.blocks c.self.inside.ways.messages c.self.inside.got in
     let front : core.way_at s.ways b e ≡ Accepted x c.args.amount ∷ drop 1 (core.way_at s.ways b e) = subst (λ (t : core.State). core.way_at t.ways b e ≡ Accepted x c.args.amount ∷ drop 1 (core.way_at t.ways b e)) (sym c.self.view_is) c.requires.front in
-    (accepted_out b e x c.args.amount _ c.self.invariant front).1.direction
-
-pub settle-requires-clause-border : goal.settle-requires-clause-border
-settle-requires-clause-border c =
-    let b = c.args.from in
-    let e = c.args.to in
-    let x = c.args.direction in
-    let s : core.State = state_of c.self.inside.blocks c.self.inside.ways.messages c.self.inside.got in
-    let front : core.way_at s.ways b e ≡ Accepted x c.args.amount ∷ drop 1 (core.way_at s.ways b e) = subst (λ (t : core.State). core.way_at t.ways b e ≡ Accepted x c.args.amount ∷ drop 1 (core.way_at t.ways b e)) (sym c.self.view_is) c.requires.front in
-    (accepted_out b e x c.args.amount _ c.self.invariant front).1.border
+    let out = (accepted_out b e x c.args.amount _ c.self.invariant front).1 in
+    record { direction = out.direction; border = out.border }
 
 pub invariant_of-self : goal.invariant_of-self
 invariant_of-self c =

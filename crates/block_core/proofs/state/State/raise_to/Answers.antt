@@ -8,15 +8,11 @@ use Rattle.block_events.proofs.Raising.{exact-le-top}
 use Rattle.block_core.proofs.Raised.{told_happens, held_raised}
 use Rattle.block_core.proofs.state.State.raise_to.Goals as goal
 
-pub raise_to-requires-clause-len : goal.raise_to-requires-clause-len
-raise_to-requires-clause-len c =
-    (subst (λ (s : core.State). AreExact s c.args.labels.now) (sym c.self.view_is) c.requires.exact).len
-
-pub raise_to-requires-clause-limit : goal.raise_to-requires-clause-limit
-raise_to-requires-clause-limit c =
+pub raise_to-requires : goal.raise_to-requires
+raise_to-requires c =
     let exact = subst (λ (s : core.State). AreExact s c.args.labels.now) (sym c.self.view_is) c.requires.exact in
     let s : core.State = state_of c.self.inside.blocks c.self.inside.ways.messages c.self.inside.got in
-    λ v l. exact-le-top s v (slice_index c.args.labels.now v) (exact.exact v l)
+    record { len = exact.len; limit = λ v l. exact-le-top s v (slice_index c.args.labels.now v) (exact.exact v l) }
 
 pub invariant_of-self : goal.invariant_of-self
 invariant_of-self c =

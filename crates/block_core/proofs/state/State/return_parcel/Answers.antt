@@ -10,23 +10,15 @@ use Rattle.block_core.proofs.Keeping.{held_next}
 use Rattle.block_core.proofs.Fronts.{parcel_out, parcel_arc, may_refuse, refuse_room, refuse_is}
 use Rattle.block_core.proofs.state.State.return_parcel.Goals as goal
 
-pub refusal-refused-requires-clause-direction : goal.refusal-refused-requires-clause-direction
-refusal-refused-requires-clause-direction c =
+pub refusal-refused-requires : goal.refusal-refused-requires
+refusal-refused-requires c =
     let b = c.args.from in
     let e = c.args.to in
     let x = c.args.direction in
     let s : core.State = state_of c.self.inside.blocks c.self.inside.ways.messages c.self.inside.got in
     let front : core.way_at s.ways b e ≡ Parcel x c.args.amount c.args.label ∷ drop 1 (core.way_at s.ways b e) = subst (λ (t : core.State). core.way_at t.ways b e ≡ Parcel x c.args.amount c.args.label ∷ drop 1 (core.way_at t.ways b e)) (sym c.self.view_is) c.requires.front in
-    (parcel_out b e x c.args.amount c.args.label _ c.self.invariant front).direction
-
-pub refusal-refused-requires-clause-border : goal.refusal-refused-requires-clause-border
-refusal-refused-requires-clause-border c =
-    let b = c.args.from in
-    let e = c.args.to in
-    let x = c.args.direction in
-    let s : core.State = state_of c.self.inside.blocks c.self.inside.ways.messages c.self.inside.got in
-    let front : core.way_at s.ways b e ≡ Parcel x c.args.amount c.args.label ∷ drop 1 (core.way_at s.ways b e) = subst (λ (t : core.State). core.way_at t.ways b e ≡ Parcel x c.args.amount c.args.label ∷ drop 1 (core.way_at t.ways b e)) (sym c.self.view_is) c.requires.front in
-    (parcel_out b e x c.args.amount c.args.label _ c.self.invariant front).border
+    let out = parcel_out b e x c.args.amount c.args.label _ c.self.invariant front in
+    record { direction = out.direction; border = out.border }
 
 pub put-requires-clause-arc : goal.put-requires-clause-arc
 put-requires-clause-arc c =

@@ -7,15 +7,6 @@ use Rattle.block_core.proofs.Keeping.{held_next}
 use Rattle.block_core.proofs.Fronts.{refused_out, refused_amount, refused_label, may_settle, return_is}
 use Rattle.block_core.proofs.state.State.take_back.Goals as goal
 
-pub take_back-requires-clause-direction : goal.take_back-requires-clause-direction
-take_back-requires-clause-direction c =
-    let b = c.args.from in
-    let e = c.args.to in
-    let x = c.args.direction in
-    let s : core.State = state_of c.self.inside.blocks c.self.inside.ways.messages c.self.inside.got in
-    let front : core.way_at s.ways b e ≡ Refused x c.args.amount c.args.label c.args.told ∷ drop 1 (core.way_at s.ways b e) = subst (λ (t : core.State). core.way_at t.ways b e ≡ Refused x c.args.amount c.args.label c.args.told ∷ drop 1 (core.way_at t.ways b e)) (sym c.self.view_is) c.requires.front in
-    (refused_out b e x c.args.amount c.args.label c.args.told _ c.self.invariant front).direction
-
 pub take_back-requires-clause-border : goal.take_back-requires-clause-border
 take_back-requires-clause-border c =
     let b = c.args.from in
@@ -23,7 +14,8 @@ take_back-requires-clause-border c =
     let x = c.args.direction in
     let s : core.State = state_of c.self.inside.blocks c.self.inside.ways.messages c.self.inside.got in
     let front : core.way_at s.ways b e ≡ Refused x c.args.amount c.args.label c.args.told ∷ drop 1 (core.way_at s.ways b e) = subst (λ (t : core.State). core.way_at t.ways b e ≡ Refused x c.args.amount c.args.label c.args.told ∷ drop 1 (core.way_at t.ways b e)) (sym c.self.view_is) c.requires.front in
-    (refused_out b e x c.args.amount c.args.label c.args.told _ c.self.invariant front).border
+    let out = refused_out b e x c.args.amount c.args.label c.args.told _ c.self.invariant front in
+    record { direction = out.direction; border = out.border }
 
 pub take_back-requires-clause-fits : goal.take_back-requires-clause-fits
 take_back-requires-clause-fits c =

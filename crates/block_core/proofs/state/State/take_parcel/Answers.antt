@@ -8,15 +8,6 @@ use Rattle.block_core.proofs.Keeping.{held_next}
 use Rattle.block_core.proofs.Fronts.{parcel_out, parcel_arc, may_accept, accept_room, accept_amount, accept_label, accept_is}
 use Rattle.block_core.proofs.state.State.take_parcel.Goals as goal
 
-pub accept-accepted-requires-clause-direction : goal.accept-accepted-requires-clause-direction
-accept-accepted-requires-clause-direction c =
-    let b = c.args.from in
-    let e = c.args.to in
-    let x = c.args.direction in
-    let s : core.State = state_of c.self.inside.blocks c.self.inside.ways.messages c.self.inside.got in
-    let front : core.way_at s.ways b e ≡ Parcel x c.args.amount c.args.label ∷ drop 1 (core.way_at s.ways b e) = subst (λ (t : core.State). core.way_at t.ways b e ≡ Parcel x c.args.amount c.args.label ∷ drop 1 (core.way_at t.ways b e)) (sym c.self.view_is) c.requires.front in
-    (parcel_out b e x c.args.amount c.args.label _ c.self.invariant front).direction
-
 pub accept-accepted-requires-clause-border : goal.accept-accepted-requires-clause-border
 accept-accepted-requires-clause-border c =
     let b = c.args.from in
@@ -24,7 +15,8 @@ accept-accepted-requires-clause-border c =
     let x = c.args.direction in
     let s : core.State = state_of c.self.inside.blocks c.self.inside.ways.messages c.self.inside.got in
     let front : core.way_at s.ways b e ≡ Parcel x c.args.amount c.args.label ∷ drop 1 (core.way_at s.ways b e) = subst (λ (t : core.State). core.way_at t.ways b e ≡ Parcel x c.args.amount c.args.label ∷ drop 1 (core.way_at t.ways b e)) (sym c.self.view_is) c.requires.front in
-    (parcel_out b e x c.args.amount c.args.label _ c.self.invariant front).border
+    let out = parcel_out b e x c.args.amount c.args.label _ c.self.invariant front in
+    record { direction = out.direction; border = out.border }
 
 pub accept-accepted-requires-clause-fits : goal.accept-accepted-requires-clause-fits
 accept-accepted-requires-clause-fits c =

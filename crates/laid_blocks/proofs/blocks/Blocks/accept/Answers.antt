@@ -4,7 +4,6 @@ use Rattle.block_events.specs.declared.lane.Lane.{Lane}
 use Rattle.block_events.specs.declared.direction.Direction.{Direction}
 use Rattle.block_events.specs.declared.message.Message.TheVariants.{Accepted}
 use Rattle.block_events.specs.Directions.{opposite}
-use Rattle.block_events.specs.States as core
 use Rattle.block_events.specs.Soundness.{amount_out}
 use Rattle.block_events.proofs.Lanes.{border_opposite}
 use Rattle.block_net.specs.Views.{CellsView, border_in}
@@ -24,7 +23,7 @@ accept-requires-clause-fits c =
     let at = at_read w c.args.self.now b B c.self.invariant c.self.view_is c.row-block.ensures.block c.index_mut.ensures.value in
     let x = c.args.direction in
     let found = subst (λ (q : Direction). IsRow w q (is_outer w q) b p) c.opposite_of.ensures c.row-block.ensures in
-    let row = row_as w _ b B (opposite x) true p at found (border_opposite c.args.self.now.net c.args.self.now.blocks x ∙ c.requires.border) in
+    let row = row_as w _ b B (opposite x) true p at found (border_opposite c.args.self.now.net c.args.self.now.blocks x ∙ c.requires.border.border) in
     let lane = border_read w _ b B (opposite x) p at row in
     omega (arith, out_same (border_in B p).flight, ap (λ (q : Lane). amount_out q.flight) lane, ap (λ (q : Lane). q.residual) lane, border_capacity w _ b B (opposite x) p at row, c.requires.fits)
 
@@ -38,7 +37,7 @@ invariant_of-self c =
     let at = at_read w c.args.self.now b B c.self.invariant c.self.view_is c.row-block.ensures.block c.index_mut.ensures.value in
     let x = c.args.direction in
     let found = subst (λ (q : Direction). IsRow w q (is_outer w q) b p) c.opposite_of.ensures c.row-block.ensures in
-    let row = row_as w _ b B (opposite x) true p at found (border_opposite c.args.self.now.net c.args.self.now.blocks x ∙ c.requires.border) in
+    let row = row_as w _ b B (opposite x) true p at found (border_opposite c.args.self.now.net c.args.self.now.blocks x ∙ c.requires.border.border) in
     subst (λ (q : CellsView). IsLaid (put_block w b q)) (sym c.accept.ensures.accepted) (accepted_at w _ b B x p c.args.amount c.args.label at row (back_spot w _ b B x p at row)).laid
 
 pub returns-clause-accepted : goal.returns-clause-accepted
@@ -51,7 +50,7 @@ returns-clause-accepted c =
     let at = at_read w c.args.self.now b B c.self.invariant c.self.view_is c.row-block.ensures.block c.index_mut.ensures.value in
     let x = c.args.direction in
     let found = subst (λ (q : Direction). IsRow w q (is_outer w q) b p) c.opposite_of.ensures c.row-block.ensures in
-    let row = row_as w _ b B (opposite x) true p at found (border_opposite c.args.self.now.net c.args.self.now.blocks x ∙ c.requires.border) in
+    let row = row_as w _ b B (opposite x) true p at found (border_opposite c.args.self.now.net c.args.self.now.blocks x ∙ c.requires.border.border) in
     subst (λ (q : CellsView). blocks_in (put_block w b q) ≡ blocks_after_accept c.args.self.now x c.args.amount c.args.label) (sym c.accept.ensures.accepted) (accepted_at w _ b B x p c.args.amount c.args.label at row (back_spot w _ b B x p at row)).view
 
 pub accept-requires-clause-label : goal.accept-requires-clause-label
@@ -70,5 +69,5 @@ returns-clause-answer c =
     let at = at_read w c.args.self.now b B c.self.invariant c.self.view_is c.row-block.ensures.block c.index_mut.ensures.value in
     let x = c.args.direction in
     let found = subst (λ (q : Direction). IsRow w q (is_outer w q) b p) c.opposite_of.ensures c.row-block.ensures in
-    let row = row_as w _ b B (opposite x) true p at found (border_opposite c.args.self.now.net c.args.self.now.blocks x ∙ c.requires.border) in
+    let row = row_as w _ b B (opposite x) true p at found (border_opposite c.args.self.now.net c.args.self.now.blocks x ∙ c.requires.border.border) in
     c.accept.ensures.answer ∙ ap (λ (q : Direction). Accepted q c.args.amount) (back_names w _ b B x p at row)

@@ -1,7 +1,6 @@
 use Rattle.std.proofs.Common.{◌≡◌, ◌+◌, ◌<◌, slice_index, ◌∙◌, ap, arith}
 use Rattle.block_events.specs.declared.lane.Lane.{Lane}
 use Rattle.block_events.specs.Directions.{near, far}
-use Rattle.block_events.specs.States as core
 use Rattle.laid_blocks.proofs.Lowering.{lowered_label, step_down}
 use Rattle.laid_blocks.proofs.blocks.Blocks.lower_along.Goals as goal
 

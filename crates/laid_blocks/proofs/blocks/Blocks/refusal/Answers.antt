@@ -1,6 +1,5 @@
 use Rattle.std.proofs.Common.{refl, true, ◌∙◌, subst}
 use Rattle.block_events.specs.declared.direction.Direction.{Direction}
-use Rattle.block_events.specs.declared.message.Message.TheVariants.{Refused}
 use Rattle.block_events.specs.Directions.{opposite}
 use Rattle.block_events.proofs.Lanes.{border_opposite}
 use Rattle.block_net.specs.Views.{border_in}

@@ -1,7 +1,6 @@
 use Rattle.std.proofs.lemmas.Grind.{common_steps}
 use Rattle.std.proofs.Common.{◌≡◌, true, sym, ap, subst, arith}
 use Rattle.block_events.specs.declared.lane.Lane.{Lane}
-use Rattle.block_events.specs.States as core
 use Rattle.block_events.specs.Soundness.{amount_out}
 use Rattle.block_net.specs.Views.{CellsView, border_in}
 use Rattle.block_net.specs.Whole.{Whole, put_block, whole_of}
@@ -19,7 +18,7 @@ take_back-requires-clause-fits c =
     let B = c.index_mut.result.now in
     let at = at_read w c.args.self.now b B c.self.invariant c.self.view_is c.row-block.ensures.block c.index_mut.ensures.value in
     let x = c.args.direction in
-    let row = row_as w _ b B x true p at c.row-block.ensures c.requires.border in
+    let row = row_as w _ b B x true p at c.row-block.ensures c.requires.border.border in
     omega (arith, out_same (border_in B p).flight, ap (λ (q : Lane). amount_out q.flight) (border_read w _ b B x p at row), c.requires.fits)
 
 pub take_back-requires-clause-told : goal.take_back-requires-clause-told
@@ -31,7 +30,7 @@ take_back-requires-clause-told c =
     let B = c.index_mut.result.now in
     let at = at_read w c.args.self.now b B c.self.invariant c.self.view_is c.row-block.ensures.block c.index_mut.ensures.value in
     let x = c.args.direction in
-    let row = row_as w _ b B x true p at c.row-block.ensures c.requires.border in
+    let row = row_as w _ b B x true p at c.row-block.ensures c.requires.border.border in
     omega (arith, top_read w _ b B at, c.requires.told)
 
 pub invariant_of-self : goal.invariant_of-self
@@ -43,7 +42,7 @@ invariant_of-self c =
     let B = c.index_mut.result.now in
     let at = at_read w c.args.self.now b B c.self.invariant c.self.view_is c.row-block.ensures.block c.index_mut.ensures.value in
     let x = c.args.direction in
-    let row = row_as w _ b B x true p at c.row-block.ensures c.requires.border in
+    let row = row_as w _ b B x true p at c.row-block.ensures c.requires.border.border in
     subst (λ (q : CellsView). IsLaid (put_block w b q)) (sym c.take_back.ensures) (returned_at w _ b B x p c.args.amount c.args.told at row (border_spot w _ b B x p at row)).laid
 
 pub returns : goal.returns
@@ -55,7 +54,7 @@ returns c =
     let B = c.index_mut.result.now in
     let at = at_read w c.args.self.now b B c.self.invariant c.self.view_is c.row-block.ensures.block c.index_mut.ensures.value in
     let x = c.args.direction in
-    let row = row_as w _ b B x true p at c.row-block.ensures c.requires.border in
+    let row = row_as w _ b B x true p at c.row-block.ensures c.requires.border.border in
     subst (λ (q : CellsView). blocks_in (put_block w b q) ≡ blocks_after_return c.args.self.now x c.args.amount c.args.told) (sym c.take_back.ensures) (returned_at w _ b B x p c.args.amount c.args.told at row (border_spot w _ b B x p at row)).view
 
 pub take_back-requires-clause-place : goal.take_back-requires-clause-place

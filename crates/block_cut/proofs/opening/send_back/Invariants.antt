@@ -1,7 +1,7 @@
 use Rattle.std.proofs.Common.{◌≡◌, ◌+◌, ◌≤◌, length}
 use Rattle.block_net.specs.Views.{first_lane}
 use Rattle.block_cut.specs.Opening.{Opens}
-use Rattle.block_cut.proofs.opening.send_down.Given as goal
+use Rattle.block_cut.proofs.opening.send_back.Given as goal
 
 abbrev pub invariant-lanes : goal.invariant-lanes
 invariant-lanes l =

@@ -1,5 +1,5 @@
 use Rattle.block_cut.proofs.Opened.{opens_more}
-use Rattle.block_cut.proofs.opening.send_down.Goals as goal
+use Rattle.block_cut.proofs.opening.send_back.Goals as goal
 
 pub lanes-preserved-then-lane-v : goal.lanes-preserved-then-lane-v
 lanes-preserved-then-lane-v c =
