@@ -63,7 +63,7 @@ flow_shown s xs ys sound lx ly arcs sinks =
 
 pub rooms_are : (s : State) (rooms : List ℕ) → IsSound s → length rooms ≡ nodes s.net
     → ((v : ℕ) → v < nodes s.net → slice_index rooms v ≡ room_of s v) → AreRooms s.net rooms
-rooms_are s rooms sound len at = record { len = len; within = λ v l. omega (arith, at v l, sound.rooms v l) }
+rooms_are s rooms sound len at = record { len = len; within = λ v l. omega (arith, at v l, sound.flow.rooms v l) }
 
 pub rooms_shown : (s : State) (xs rooms : List ℕ) → IsSound s → length xs ≡ length s.net.arcs → length rooms ≡ nodes s.net
     → ((k : ℕ) → k < length s.net.arcs → slice_index xs k ≡ residual_of s (backward k))

@@ -1,5 +1,5 @@
 -- Where the nodes of a block stand.
-use Rattle.std.proofs.Common.{◌≡◌, ℕ, ◌+◌, ◌-◌, ◌<◌, ◌≤◌, List, length, slice_index, sym, ◌∙◌, ap, inl, inr, arith}
+use Rattle.std.proofs.Common.{◌≡◌, ℕ, ◌+◌, ◌-◌, ◌<◌, ◌≤◌, List, length, slice_index, sym, ◌∙◌, ap, subst, inl, inr, arith}
 use Rattle.std.proofs.lemmas.Bool.{cases_lt}
 use Rattle.flow_network.specs.Cut.{nodes}
 use Rattle.block_net.specs.Views.{count}
@@ -24,7 +24,7 @@ module _ (w : Whole) (laid : IsLaid w) (b : ℕ) (lb : b < length w.blocks) wher
   first = slice_index w.firsts b
 
   -- the node at a place of a block
-  number : (p : ℕ) → p < count (block_at w b) → (v : ℕ) × (v < nodes w.net) × (first + p ≡ v) × (home w v ≡ b)
+  pub number : (p : ℕ) → p < count (block_at w b) → (v : ℕ) × (v < nodes w.net) × (first + p ≡ v) × (home w v ≡ b)
   number p l =
       let there = laid.filled.nodes b p lb l in
       let lies = there.1 in
@@ -64,3 +64,11 @@ module _ (w : Whole) (laid : IsLaid w) (b : ℕ) (lb : b < length w.blocks) wher
         let found = is_inside v l here in
         inside v found.0 (omega (arith, found.1, size)) ∙ sym here
   ]
+
+  pub spot_at : (p : ℕ) → p < count (block_at w b) → IsSpot w (first + p) b p
+  spot_at p l =
+      let there = laid.filled.nodes b p lb l in
+      let lies = there.1 in
+      let spot : IsSpot w there.0 b p = record { node = lies.node; home = lies.home; place = lies.place; block = lb } in
+      let is : first + p ≡ there.0 = omega (arith, ap (slice_index w.firsts) lies.home, lies.place, laid.placed.firsts there.0 lies.node) in
+      subst (λ u. IsSpot w u b p) (sym is) spot

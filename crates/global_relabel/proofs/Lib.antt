@@ -6,3 +6,4 @@ pub mod Seeing
 pub mod Homing
 pub mod Rooms
 pub mod Local
+pub mod Nearby

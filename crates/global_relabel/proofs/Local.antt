@@ -1,12 +1,12 @@
 -- Labels that are exact node by node are exact.
-use Rattle.std.proofs.Common.{◌≡◌, ℕ, zero, suc, ◌+◌, ◌<◌, ◌≤◌, ◌⊎◌, List, slice_index, inl, inr, refl, sym, ◌∙◌, ap, subst, arith}
+use Rattle.std.proofs.Common.{◌≡◌, ℕ, zero, suc, ◌<◌, ◌≤◌, List, slice_index, inl, inr, refl, arith}
 use Rattle.flow_network.specs.Cut.{nodes, IsNet}
 use Rattle.flow_network.specs.Progress.{top}
 use Rattle.block_events.specs.Directions.{far}
 use Rattle.block_events.specs.States.{State}
 use Rattle.block_events.specs.Reach.{ReachesSinkIn, IsExact, AreExact}
-use Rattle.block_events.proofs.Ends.{near_in, far_in}
-use Rattle.global_relabel.specs.Local.{AreLocallyExact, IsLocallyExact}
+use Rattle.block_events.proofs.Ends.{far_in}
+use Rattle.global_relabel.specs.Local.{AreLocallyExact}
 
 module _ (s : State) (labels : List ℕ) (net : IsNet s.net) (local : AreLocallyExact s labels) where
   abbrev label : ℕ → ℕ

@@ -6,10 +6,10 @@ use Rattle.block_events.specs.declared.lane.Lane.{Lane}
 use Rattle.block_events.specs.declared.direction.Direction.{Direction}
 use Rattle.block_events.specs.Directions.{IsDirection, near, far, opposite}
 use Rattle.block_events.specs.States as core
-use Rattle.block_events.proofs.Ends.{far_in}
+use Rattle.block_events.proofs.Ends.{near_in, far_in}
 use Rattle.block_events.proofs.Lanes.{near_opposite, border_opposite}
 use Rattle.block_net.specs.declared.lanes.Border.{Border}
-use Rattle.block_net.specs.Views.{CellsView, lane_in, border_in, first_lane, first_border}
+use Rattle.block_net.specs.Views.{CellsView, count, lane_in, border_in, first_lane, first_border}
 use Rattle.block_net.specs.Whole.{Whole, block_at, block_with, home, place, slot, is_outer, border_of, state_shown, StandsAt}
 use Rattle.laid_blocks.specs.Views.{blocks_in, IsLaid, IsSpot, IsRow}
 use Rattle.laid_blocks.proofs.Steps.{IsAt, lane_below, border_below, inner_read, border_read, far_spot, back_row, back_spot}
@@ -134,3 +134,34 @@ module _ (w : Whole) (b : ℕ) (B : CellsView) (u p : ℕ) (at : IsAt w (blocks_
         omega (arith, is.from, read_at w b B (near w.net x) p (λ (q : CellsView). q.border_starts) (λ q. q) at.is here),
         omega (arith, is.below, read_at w b B (near w.net x) p (λ (q : CellsView). q.border_starts) (λ q. q + 1) at.is here),
       )
+
+  -- what a direction can carry
+  pub lane_residual : (j : ℕ) (x : Direction) → StandsAt w false u j x → (lane_in B j).residual ≡ (core.lane_at (state_shown w).lanes x).residual
+  lane_residual j x stands = ap (λ (q : Lane). q.residual) (inner_read w (blocks_in w) b B x j at (row_of w b false u p j x spot stands))
+
+  pub border_residual : (j : ℕ) (x : Direction) → StandsAt w true u j x → (border_in B j).residual ≡ (core.lane_at (state_shown w).lanes x).residual
+  border_residual j x stands = ap (λ (q : Lane). q.residual) (border_read w (blocks_in w) b B x j at (row_of w b true u p j x spot stands))
+
+-- ---- the places of a block
+
+module _ (w : Whole) (b : ℕ) (B : CellsView) (at : IsAt w (blocks_in w) b B) where
+  -- the opposite of a direction within the block is in the block
+  pub lane_back : (p j : ℕ) → p < count B → first_lane B p ≤ j → j < first_lane B (p + 1) → (lane_in B j).opposite < length B.lanes
+  lane_back p j lp low high =
+      let there = at.laid.filled.nodes b p at.block (omega (arith, lp, ap (λ (q : CellsView). count q) at.is)) in
+      let lies = there.1 in
+      let spot : IsSpot w there.0 b p = record { node = lies.node; home = lies.home; place = lies.place; block = at.block } in
+      (lane_at_place w b B there.0 p at spot j low high).2.back
+
+  -- a direction to another block has its far end there
+  pub border_at_block : (j : ℕ) → j < length B.borders → (x : Direction) × IsBorderEnd w (border_in B j) x
+  border_at_block j lj =
+      let found = at.laid.filled.borders b j at.block (omega (arith, lj, ap (λ (q : CellsView). length q.borders) at.is)) in
+      let x = found.0 in
+      let spot : IsSpot w (near w.net x) b (place w (near w.net x)) = record {
+        node = near_in w.net x at.laid.net found.2.direction;
+        home = found.1;
+        place = refl;
+        block = at.block;
+      } in
+      (x, border_end w b B (near w.net x) (place w (near w.net x)) j x at spot found.2)

@@ -69,7 +69,7 @@ arcs_total s sound =
     let m = length s.net.arcs in
     let f : Arc → ℕ = λ (arc : Arc). arc.capacity in
     let each = sum_below-le m (λ k. (arc_at (residual_net s) k).capacity) (λ k. (arc_at s.net k).capacity)
-    (λ k l. omega (arith, ap f (arc_shown s k l), sound.arcs k l)) in
+    (λ k l. omega (arith, ap f (arc_shown s k l), sound.flow.arcs k l)) in
     omega (
       arith,
       each,
@@ -83,7 +83,7 @@ residual_is_net s sound =
     let net = sound.sized.net in
     let count = count_shown s in
     let rooms = sum-le-sum (residual_net s).sinks s.net.sinks (sinks_len s ∙ sym net.same)
-    (λ v l. let lv : v < nodes s.net = omega (arith, l, net.same) in omega (arith, sink_shown s v lv, sound.rooms v lv)) in
+    (λ v l. let lv : v < nodes s.net = omega (arith, l, net.same) in omega (arith, sink_shown s v lv, sound.flow.rooms v lv)) in
     record {
       same = sinks_len s ∙ sym count;
       count = omega (arith, count, net.count);

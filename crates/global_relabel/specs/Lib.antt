@@ -4,3 +4,4 @@ pub mod Search
 pub mod Workspaces
 pub mod Homes
 pub mod Local
+pub mod Lowering

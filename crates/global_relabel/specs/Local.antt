@@ -1,10 +1,10 @@
 -- Labels that each node can test by what lies next to it.
-use Rattle.std.specs.Prelude.{◌≡◌, ℕ, ◌+◌, ◌<◌, ◌≤◌, ◌⊎◌, List, length, slice_index}
+use Rattle.std.specs.Prelude.{◌≡◌, ℕ, ◌+◌, ◌<◌, ◌≤◌, ◌⊎◌, Bool, List, length, slice_index}
 use Rattle.flow_network.specs.Cut.{nodes}
 use Rattle.flow_network.specs.Progress.{top}
 use Rattle.block_events.specs.declared.direction.Direction.{Direction}
 use Rattle.block_events.specs.Directions.{IsDirection, near, far}
-use Rattle.block_events.specs.States.{State, residual_of, room_of}
+use Rattle.block_events.specs.States.{State, residual_of, room_of, block_of, is_border}
 
 -- the node can give the sink more
 abbrev pub GivesSink : State → ℕ → Type 0
@@ -31,3 +31,27 @@ pub record IsLocallyExact (s : State) (labels : List ℕ) (v : ℕ) : Type 0 whe
 pub record AreLocallyExact (s : State) (labels : List ℕ) : Type 0 where
   pub len : length labels ≡ nodes s.net
   pub each : (v : ℕ) → v < nodes s.net → IsLocallyExact s labels v
+
+-- so is that of each node of block b
+abbrev pub AreLocallyExactIn : State → List ℕ → ℕ → Type 0
+AreLocallyExactIn s labels b =
+    (v : ℕ) → v < nodes s.net → block_of s.net s.blocks v ≡ b → IsLocallyExact s labels v
+
+-- ---- how a node's label is found by what lies next to it
+
+-- a residual direction leads on from v, within its block or to another as asked
+pub record LeadsOnFrom (s : State) (leaves : Bool) (v : ℕ) (x : Direction) : Type 0 where
+  pub direction : IsDirection s.net x
+  pub near : near s.net x ≡ v
+  pub border : is_border s.net s.blocks x ≡ leaves
+  pub residual : 0 < residual_of s x
+
+-- the least of a number and of one more than each label that such a direction leads to
+pub record IsLeastStep (s : State) (leaves : Bool) (labels : List ℕ) (v before least : ℕ)
+    : Type 0 where
+  pub below : least ≤ before
+  pub steps : (x : Direction) → LeadsOnFrom s leaves v x
+      → least ≤ slice_index labels (far s.net x) + 1
+  pub reason : (least ≡ before)
+      ⊎ ((x : Direction) × LeadsOnFrom s leaves v x
+      × (least ≡ slice_index labels (far s.net x) + 1))

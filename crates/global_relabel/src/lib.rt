@@ -6,17 +6,24 @@
 //! raises the labels to it. `sink_side` answers the nodes that reach the sink. A `Workspace` does
 //! the same for many states of one net without memory, and `is_at_rest` tells by exact labels
 //! whether a state is finished.
+//!
+//! A `BlockLabels` is one block's part of a search that blocks make side by side. What they find is
+//! not trusted: `is_block_exact` tests it.
 #![tactic(auto)]
 
 ghost use Rattle.global_relabel.specs.Laws.{ExactAreDistances, LocalIsExact};
 
+mod block_labels;
 mod exact;
+mod exactness;
 mod homes;
 mod rest;
 mod search;
 mod workspace;
 
+pub use block_labels::BlockLabels;
 pub use exact::{distances, raise_all, sink_side};
+pub use exactness::is_block_exact;
 pub use homes::write_homes;
 pub use rest::is_at_rest;
 pub use workspace::Workspace;

@@ -25,10 +25,10 @@ struct Split<'a> {
 
 /// A node, its block and its place there.
 #[derive(Clone, Copy)]
-struct Spot {
-    node: usize,
-    block: usize,
-    place: usize,
+pub(crate) struct Spot {
+    pub(crate) node: usize,
+    pub(crate) block: usize,
+    pub(crate) place: usize,
 }
 
 /// A node's block and its place there, by the table of blocks.

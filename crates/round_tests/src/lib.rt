@@ -21,6 +21,8 @@ mod drawing;
 #[cfg(test)]
 mod gates;
 #[cfg(test)]
+mod labels;
+#[cfg(test)]
 mod overlap;
 #[cfg(test)]
 mod picture;

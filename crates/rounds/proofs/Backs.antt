@@ -1,12 +1,10 @@
 -- Blocks come back from their workers.
-use Rattle.std.proofs.Common.{◌≡◌, ◌≢◌, ℕ, ◌+◌, ◌*◌, ◌<◌, ◌≤◌, ◌⊎◌, true, false, nat_lt, List, [], ◌∷◌, ◌++◌, length, get_or, Option, Some, None, is_some, refl, sym, ◌∙◌, ap, subst, inl, inr, arith}
+use Rattle.std.proofs.Common.{◌≡◌, ℕ, ◌+◌, ◌*◌, ◌<◌, ◌≤◌, ◌⊎◌, true, false, nat_lt, List, [], ◌∷◌, length, get_or, Option, Some, None, is_some, refl, sym, ◌∙◌, ap, subst, inl, inr, arith}
 use mathlib.Core.Path.{fun_ext}
 use Rattle.std.proofs.lemmas.Bool.{cases_lt, lt-ltb}
 use Rattle.std.proofs.lemmas.List.{length-map, get_or-map, get_or_past}
 use Rattle.block_events.specs.declared.event.Event.{Event}
 use Rattle.block_events.specs.declared.message.Message.{Message}
-use Rattle.block_events.specs.States.{way_at}
-use Rattle.block_events.specs.Soundness.{IsSquare}
 use Rattle.block_events.specs.Workers.{MayStart}
 use Rattle.block_net.specs.Views.{CellsView, border_in, count}
 use Rattle.block_net.specs.Whole.{Whole, no_block, block_at}
@@ -14,7 +12,7 @@ use Rattle.laid_blocks.specs.Views.{IsLaid}
 use Rattle.block_turns.specs.Seen.{WaysView}
 use Rattle.block_turns.specs.Steps.{TurnView, DoesMany, IsSure, turn_view}
 use Rattle.block_cut.specs.TurnEvents.{HasRoom}
-use Rattle.block_cut.specs.Rounds.{Ways, fresh, quiet_state}
+use Rattle.block_cut.specs.Rounds.{Ways, AreLeft, fresh, quiet_state}
 use Rattle.block_cut.proofs.Starting.{start_is_sure}
 use Rattle.block_workers.specs.declared.port.Port.{Port}
 use Rattle.block_workers.specs.Ports.{letters_put, letters_taken, free, capacity, IsNewPort}
@@ -243,10 +241,10 @@ module _ (w : Whole) (got ring : ℕ) (ends : List Ends) (old new : List Seat) (
       ∙ ap (λ (B : CellsView). count B) (block_old w.blocks ring ends old new d seated joined worked b low) in
       subst (λ k. (work w.blocks ring ends old new d seated joined worked b low).count ≤ ((get_or new b d).turn + 1) * (k + 16)) same each
 
-  pub seats_back : (left : Ways) → IsSquare total left → ((b : ℕ) → b < total → way_at left b b ≡ [])
-      → ((b c : ℕ) → b < total → c < total → b ≢ c → (ways_of_ports (get_or after b [])).sent c ≡ (ways_of_ports (get_or after c [])).taken b ++ way_at left b c)
+  pub seats_back : (left : Ways)
+      → AreLeft total (λ b. (ways_of_ports (get_or after b [])).sent) (λ b. (ways_of_ports (get_or after b [])).taken) left
       → AreBackAfter (λ b. (get_or new b d).turn) w got (blocks_of new) left
-  seats_back left square none ways = record {
+  seats_back left on_the_way = record {
     back = record {
       sent = λ b. (ways_of_ports (get_or after b [])).sent;
       taken = λ b. (ways_of_ports (get_or after b [])).taken;
@@ -254,9 +252,7 @@ module _ (w : Whole) (got ring : ℕ) (ends : List Ends) (old new : List Seat) (
       many = length-map new (λ (s : Seat). s.block) ∙ many_new w.blocks ring ends old new d seated joined worked;
       does = λ b low.
           picked_is total (λ k. DoesMany (fresh (block_at w b)) k (came w.blocks ring ends old new d seated joined worked b)) did b (cases_lt b total) low (went b);
-      square = square;
-      ways = ways;
-      none = none;
+      rest = on_the_way;
       busy = λ b e low may. picked_is total (λ k. 0 < k) did b (cases_lt b total) low (λ l. busy b e l may);
     };
     few = λ b low. picked_is total (λ k. k ≤ ((get_or new b d).turn + 1) * (count (block_at w b) + 16)) did b (cases_lt b total) low (few b);

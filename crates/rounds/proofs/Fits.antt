@@ -21,5 +21,5 @@ round_fits w got blocks left steps rooms has round =
       room = held.1;
       arcs = λ b c lb lc apart.
           All-weaker (Belongs s.net s.blocks s.lanes s.labels b c) (λ m. (direction_of m).arc < 2 ^ 32)
-          (λ m belongs. let d = belongs_direction s.net s.blocks s.lanes s.labels b c m belongs in omega (arith, d, low)) (way_at left b c) (round.sound.belong b c);
+          (λ m belongs. let d = belongs_direction s.net s.blocks s.lanes s.labels b c m belongs in omega (arith, d, low)) (way_at left b c) (round.sound.messages.belong b c);
     }

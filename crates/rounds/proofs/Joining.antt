@@ -8,8 +8,9 @@ use Rattle.block_workers.specs.declared.port.Port.{Port}
 use Rattle.block_workers.specs.Ports.{other, IsNewPort}
 use Rattle.block_workers.specs.Seeing.{others, read_at, AreRising}
 use Rattle.rounds.specs.Joined.{port_to, IsPaired, BordersOn, AreJoined}
-use Rattle.rounds.specs.Joining.{HasPair, AreBegun, AreScanned, flag}
-use Rattle.rounds.proofs.Pushing.{each_more, rising_more, read_push}
+use Rattle.rounds.specs.Joining.{HasPair, AreBegun, AreScanned, ComesBefore, flag, is_linked}
+use Rattle.block_workers.proofs.Reading.{read_here}
+use Rattle.rounds.proofs.Pushing.{rising_more, read_push}
 
 -- ---- rows
 
@@ -62,56 +63,64 @@ begun_none ring n rows lists none =
     record {
       len = ap length none ∙ length-replicate n [];
       rising = λ x. subst (AreRising n) (sym (empty x)) (record { below = λ k lt. absurd (omega (arith, lt)); rising = λ j k less lt. absurd (omega (arith, lt)) });
-      low_here = λ x k lt h. let e = ap length (empty x) in absurd (omega (arith, lt, e));
-      low_above = λ x k lt h. let e = ap length (empty x) in absurd (omega (arith, lt, e));
-      low_beyond = λ x k lt h g. let e = ap length (empty x) in absurd (omega (arith, lt, e));
       fresh = λ x y p is. absurd (no_port x y p is);
       paired = λ x y p is. absurd (no_port x y p is);
       only = λ x y p is. absurd (no_port x y p is);
-      led_before = λ x y h g f e. absurd (omega (arith, h));
-      led_here = λ y h g f e. absurd (omega (arith, h, g));
+      before = λ x y p is. absurd (no_port x y p is);
+      led = λ x y less low at e. elim at [ inl l ↦ absurd (omega (arith, l)) | inr l ↦ absurd (omega (arith, less, l.1)) ];
     }
+
+before_next : (x y b c : ℕ) → ComesBefore x y b c → ComesBefore x y (b + 1) (b + 2)
+before_next x y b c (inl l) = inl (omega (arith, l))
+before_next x y b c (inr l) = inl (omega (arith, l.0))
+
+before_more : (x y b c : ℕ) → ComesBefore x y b c → ComesBefore x y b (c + 1)
+before_more x y b c (inl l) = inl l
+before_more x y b c (inr l) = inr (l.0, omega (arith, l.1))
+
+-- a pair before the first of the next block is one before the last of this one
+before_last : (x y b c n : ℕ) → x < y → y < n → n ≤ c → ComesBefore x y (b + 1) (b + 2) → ComesBefore x y b c
+before_last x y b c n less low all (inr l) = absurd (omega (arith, less, l.0, l.1))
+before_last x y b c n less low all (inl l) = elim (cases_lt x b) [
+  | inl lower ↦ inl (omega (arith, lower))
+  | inr here ↦ inr (omega (arith, less, l, here), omega (arith, less, low, all))
+]
+
+-- a pair before the next one is one before this, or is this
+before_or_here : (x y b c : ℕ) → x < y → ComesBefore x y b (c + 1) → ComesBefore x y b c ⊎ ((x ≡ b) × (y ≡ c))
+before_or_here x y b c less (inl l) = inl (inl l)
+before_or_here x y b c less (inr l) = elim (cases_lt y c) [
+  | inl lower ↦ inl (inr (l.0, omega (arith, less, lower)))
+  | inr here ↦ inr (omega (arith, less, l.0), omega (arith, less, l.1, here))
+]
 
 pub begun_next : (ring n b c : ℕ) (rows : List (List Bool)) (lists : List (List Port)) → n ≤ c → AreBegun ring n b c rows lists → AreBegun ring n (b + 1) (b + 2) rows lists
 begun_next ring n b c rows lists all was = record {
   len = was.len;
   rising = was.rising;
-  low_here = λ x k lt h. omega (arith, was.low_above x k lt (omega (arith, h)));
-  low_above = λ x k lt h. omega (arith, was.low_above x k lt (omega (arith, h)));
-  low_beyond = λ x k lt h g. omega (arith, was.low_above x k lt (omega (arith, h)));
   fresh = was.fresh;
   paired = was.paired;
   only = was.only;
-  led_before = λ x y h g f e. elim (cases_lt x b) [
-    | inl low ↦ was.led_before x y low g f e
-    | inr high ↦
-        let is : b ≡ x = omega (arith, h, high) in
-        subst (λ i. is_some (port_to lists i y) ≡ true) is
-        (was.led_here y (omega (arith, is, g)) (omega (arith, f, all)) f (subst (λ i. flag rows i y || flag rows y i ≡ true) (sym is) e))
-  ];
-  led_here = λ y h g f e. absurd (omega (arith, h, g));
+  before = λ x y p is. before_next x y b c (was.before x y p is);
+  led = λ x y less low at e. was.led x y less low (before_last x y b c n less low all at) e;
 }
 
 unflagged : (a : Bool) → a ≡ false → a ≡ true → ⊥
 unflagged a off on = no_truth (sym off ∙ on)
 
-pub begun_pass : (ring n b c : ℕ) (rows : List (List Bool)) (lists : List (List Port)) → flag rows b c || flag rows c b ≡ false
+pub begun_pass : (ring n b c : ℕ) (rows : List (List Bool)) (lists : List (List Port)) → is_linked rows b c ≡ false
     → AreBegun ring n b c rows lists → AreBegun ring n b (c + 1) rows lists
 begun_pass ring n b c rows lists off was = record {
   len = was.len;
   rising = was.rising;
-  low_here = λ x k lt h. omega (arith, was.low_here x k lt h);
-  low_above = was.low_above;
-  low_beyond = λ x k lt h g. was.low_beyond x k lt h (omega (arith, g));
   fresh = was.fresh;
   paired = was.paired;
   only = was.only;
-  led_before = was.led_before;
-  led_here = λ y h g f e. elim (cases_lt y c) [
-    | inl low ↦ was.led_here y h low f e
-    | inr high ↦
-        let is : y ≡ c = omega (arith, g, high) in
-        absurd (unflagged (flag rows b c || flag rows c b) off (subst (λ i. flag rows b i || flag rows i b ≡ true) is e))
+  before = λ x y p is. before_more x y b c (was.before x y p is);
+  led = λ x y less low at e. elim (before_or_here x y b c less at) [
+    | inl before ↦ was.led x y less low before e
+    | inr here ↦
+        absurd (unflagged (is_linked rows b c) off (subst (λ i. is_linked rows i c ≡ true) here.0 (subst (λ j. is_linked rows x j ≡ true) here.1 e)))
   ];
 }
 
@@ -138,17 +147,33 @@ all_joined ring n b c cells rows lists is all scan was = record {
       let y : ℕ = (border_in (get_or cells x d) j).to in
       let set : flag rows x y ≡ true = (scan.each x d low).set j at below in
       elim (cases_lt x y) [
-        | inl less ↦ was.led_before x y (omega (arith, low, is, all)) less (omega (arith, below, is)) (or_first (flag rows x y) (flag rows y x) set)
+        | inl less ↦ was.led x y less (omega (arith, below, is)) (inl (omega (arith, low, is, all))) (or_first (flag rows x y) (flag rows y x) set)
         | inr more ↦
             let less : y < x = (let apart : y ≡ x → ⊥ = off in omega (arith, more, apart)) in
             mirrored (port_to lists y x) (port_to lists x y) (λ p e. was.paired y x p e)
-            (was.led_before y x (omega (arith, below, is, all)) less (omega (arith, low, is)) (or_second (flag rows y x) (flag rows x y) set))
+            (was.led y x less (omega (arith, low, is)) (inl (omega (arith, below, is, all))) (or_second (flag rows y x) (flag rows x y) set))
       ];
 }
 
 -- ---- one pair more
 
-module _ (ring n b c : ℕ) (rows : List (List Bool)) (old new : List (List Port)) (order : b < c) (below : c < n) (on : flag rows b c || flag rows c b ≡ true) (was : AreBegun ring n b c rows old) (h : HasPair ring b c old new) where
+-- the port at a place of a row
+port_there : (n : ℕ) (ports : List Port) (k : ℕ) (d : Port) → AreRising n ports → k < length ports
+    → read_at None (λ (p : Port). Some p) ports (slice_index (others ports) k) ≡ Some (get_or ports k d)
+port_there n ports k d rows low =
+    read_here None (λ (p : Port). Some p) ports (slice_index (others ports) k) k d (record {
+      place = low;
+      leads = refl;
+      alone = λ j below is. elim (cases_lt j k) [
+        | inl less ↦ absurd (omega (arith, rows.rising j k less low, is))
+        | inr more ↦ elim (cases_lt k j) [
+          | inl less ↦ absurd (omega (arith, rows.rising k j less below, is))
+          | inr least ↦ omega (arith, more, least)
+        ]
+      ];
+    })
+
+module _ (ring n b c : ℕ) (rows : List (List Bool)) (old new : List (List Port)) (order : b < c) (below : c < n) (on : is_linked rows b c ≡ true) (was : AreBegun ring n b c rows old) (h : HasPair ring b c old new) where
   abbrev p : Port
   p = h.first
 
@@ -187,10 +212,20 @@ module _ (ring n b c : ℕ) (rows : List (List Bool)) (old new : List (List Port
   ]
 
   low_first : (k : ℕ) → k < length (get_or old b []) → slice_index (others (get_or old b [])) k < other p
-  low_first k lt = omega (arith, was.low_here b k lt (omega arith), h.of_first.other)
+  low_first k lt =
+      let y = slice_index (others (get_or old b [])) k in
+      elim (was.before b y _ (port_there n (get_or old b []) k p (was.rising b) lt)) [
+        | inl l ↦ omega (arith, l, order, h.of_first.other)
+        | inr l ↦ omega (arith, l.1, h.of_first.other)
+      ]
 
   low_second : (k : ℕ) → k < length (get_or old c []) → slice_index (others (get_or old c [])) k < other q
-  low_second k lt = omega (arith, was.low_beyond c k lt order (omega arith), h.of_second.other)
+  low_second k lt =
+      let y = slice_index (others (get_or old c [])) k in
+      elim (was.before c y _ (port_there n (get_or old c []) k p (was.rising c) lt)) [
+        | inl l ↦ omega (arith, l, order, h.of_second.other)
+        | inr l ↦ absurd (omega (arith, l.1))
+      ]
 
   port_first : (y : ℕ) → port_to new b y ≡ cond (eqb y c) (Some p) (port_to old b y)
   port_first y =
@@ -245,27 +280,6 @@ module _ (ring n b c : ℕ) (rows : List (List Bool)) (old new : List (List Port
       rows_case (λ x l. AreRising n l) (rising_more n (get_or old b []) p (was.rising b) low_first (omega (arith, h.of_first.other, below)))
       (rising_more n (get_or old c []) q (was.rising c) low_second (omega (arith, h.of_second.other, order, below))) (λ x o1 o2. was.rising x)
 
-  new_low_here : (x k : ℕ) → k < length (get_or new x []) → b ≤ x → slice_index (others (get_or new x [])) k < c + 1
-  new_low_here =
-      rows_case (λ x l. (k : ℕ) → k < length l → b ≤ x → slice_index (others l) k < c + 1)
-      (λ k lt g. each_more (λ m. m < c + 1) (get_or old b []) p (λ j low. omega (arith, low_first j low, h.of_first.other)) (omega (arith, h.of_first.other)) k lt)
-      (λ k lt g. each_more (λ m. m < c + 1) (get_or old c []) q (λ j low. omega (arith, low_second j low, h.of_second.other, order)) (omega (arith, h.of_second.other, order)) k lt)
-      (λ x o1 o2 k lt g. omega (arith, was.low_here x k lt g))
-
-  new_low_above : (x k : ℕ) → k < length (get_or new x []) → b < x → slice_index (others (get_or new x [])) k ≤ b
-  new_low_above =
-      rows_case (λ x l. (k : ℕ) → k < length l → b < x → slice_index (others l) k ≤ b)
-      (λ k lt g. absurd (omega (arith, g)))
-      (λ k lt g. each_more (λ m. m ≤ b) (get_or old c []) q (λ j low. omega (arith, low_second j low, h.of_second.other)) (omega (arith, h.of_second.other)) k lt)
-      (λ x o1 o2 k lt g. was.low_above x k lt g)
-
-  new_low_beyond : (x k : ℕ) → k < length (get_or new x []) → b < x → c + 1 ≤ x → slice_index (others (get_or new x [])) k < b
-  new_low_beyond =
-      rows_case (λ x l. (k : ℕ) → k < length l → b < x → c + 1 ≤ x → slice_index (others l) k < b)
-      (λ k lt g f. absurd (omega (arith, g)))
-      (λ k lt g f. absurd (omega (arith, f)))
-      (λ x o1 o2 k lt g f. was.low_beyond x k lt g (omega (arith, f)))
-
   new_fresh : (x y : ℕ) (r : Port) → port_to new x y ≡ Some r → IsNewPort y ring r
   new_fresh =
       ports_case (λ x y o. (r : Port) → o ≡ Some r → IsNewPort y ring r)
@@ -289,32 +303,29 @@ module _ (ring n b c : ℕ) (rows : List (List Bool)) (old new : List (List Port
       (λ r e. ((λ s. absurd (omega (arith, order, s))), below, omega (arith, order, below), or_turned (flag rows b c) (flag rows c b) on))
       (λ x y o1 o2. was.only x y)
 
-  new_led_before : (x y : ℕ) → x < b → x < y → y < n → flag rows x y || flag rows y x ≡ true → is_some (port_to new x y) ≡ true
-  new_led_before =
-      ports_case (λ x y o. x < b → x < y → y < n → flag rows x y || flag rows y x ≡ true → is_some o ≡ true)
-      (λ g f e d. refl) (λ g f e d. refl) (λ x y o1 o2. was.led_before x y)
+  new_before : (x y : ℕ) (r : Port) → port_to new x y ≡ Some r → ComesBefore x y b (c + 1)
+  new_before =
+      ports_case (λ x y o. (r : Port) → o ≡ Some r → ComesBefore x y b (c + 1))
+      (λ r e. inr (omega (arith, order), omega (arith, order)))
+      (λ r e. inr (omega (arith, order), omega (arith, order)))
+      (λ x y o1 o2 r e. before_more x y b c (was.before x y r e))
 
-  new_led_here : (y : ℕ) → b < y → y < c + 1 → y < n → flag rows b y || flag rows y b ≡ true → is_some (port_to new b y) ≡ true
-  new_led_here y more less low e = elim (cases_lt y c) [
-    | inl l ↦
-        let o1 : b ≡ b → y ≡ c → ⊥ = λ s t. absurd (omega (arith, l, t)) in
-        let o2 : b ≡ c → y ≡ b → ⊥ = λ s t. absurd (omega (arith, order, s)) in
-        ap (λ (o : Option Port). is_some o) (miss b y o1 o2) ∙ was.led_here y more l low e
-    | inr g ↦
-        let is : c ≡ y = omega (arith, g, less) in
-        subst (λ i. is_some (port_to new b i) ≡ true) is (ap (λ (o : Option Port). is_some o) hit_first)
-  ]
+  new_led : (x y : ℕ) → x < y → y < n → ComesBefore x y b (c + 1) → is_linked rows x y ≡ true → is_some (port_to new x y) ≡ true
+  new_led =
+      ports_case (λ x y o. x < y → y < n → ComesBefore x y b (c + 1) → is_linked rows x y ≡ true → is_some o ≡ true)
+      (λ less low at e. refl) (λ less low at e. refl)
+      (λ x y o1 o2 less low at e. elim (before_or_here x y b c less at) [
+        | inl before ↦ was.led x y less low before e
+        | inr here ↦ absurd (o1 here.0 here.1)
+      ])
 
   pub begun_more : AreBegun ring n b (c + 1) rows new
   begun_more = record {
     len = new_len;
     rising = new_rising;
-    low_here = new_low_here;
-    low_above = new_low_above;
-    low_beyond = new_low_beyond;
     fresh = new_fresh;
     paired = new_paired;
     only = new_only;
-    led_before = new_led_before;
-    led_here = new_led_here;
+    before = new_before;
+    led = new_led;
   }

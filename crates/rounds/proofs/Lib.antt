@@ -11,6 +11,7 @@ pub mod Seeing
 pub mod Leaving
 pub mod Moving
 pub mod Draining
+pub mod Placing
 pub mod Pairing
 pub mod Taking
 pub mod Popping
@@ -24,3 +25,4 @@ pub mod Fits
 pub mod Counts
 pub mod Rounded
 pub mod Runs
+pub mod ExactBlocks

@@ -54,10 +54,12 @@ module _ (blocks : List CellsView) (ring : ℕ) (old new : List Seat) (some : 0 
         let total : rings.blocks ≡ length w.blocks = count ∙ (many ∙ ap (λ (l : List CellsView). length l) (sym is)) in
         subst (λ (l : List CellsView). AreBackAfter drawn w got l left) (sym blocks_is)
         (seats_back w got ring (ends_of_seats old) old new d laid room (subst (λ l. AreSeated l (ends_of_seats old) old) (sym is) seated)
-        (subst (λ l. AreJoined ring l (ports_of (ends_of_seats old))) (sym is) joined) worked left (subst (λ n. IsSquare n left) total has.square)
-        (λ b low. has.none b (omega (arith, low, total)))
-        (λ b c lb lc apart.
-        sym (sent_is b c) ∙ (has.ways b c (omega (arith, lb, total)) (omega (arith, lc, total)) apart ∙ ap (λ l. l ++ way_at left b c) (taken_is c b))));
+        (subst (λ l. AreJoined ring l (ports_of (ends_of_seats old))) (sym is) joined) worked left (record {
+          square = subst (λ n. IsSquare n left) total has.square;
+          none = λ b low. has.none b (omega (arith, low, total));
+          ways = λ b c lb lc apart.
+              sym (sent_is b c) ∙ (has.ways b c (omega (arith, lb, total)) (omega (arith, lc, total)) apart ∙ ap (λ l. l ++ way_at left b c) (taken_is c b));
+        }));
   }
 
   pub room_kept : (rings : RingsView) → ((b c : ℕ) → ring_room rings b c ≡ room_to after b c) → (b c : ℕ) → ring_room rings b c ≤ ring

@@ -1,10 +1,10 @@
 -- Pairs of blocks joined one after another.
-use Rattle.std.specs.Prelude.{◌≡◌, ◌≢◌, ℕ, ◌<◌, ◌≤◌, Bool, true, false, ◌||◌, List, [], ◌∷◌, ◌++◌, length}
-use Rattle.std.specs.Prelude.{Some, is_some, slice_set, slice_index, slice_index_or}
+use Rattle.std.specs.Prelude.{◌≡◌, ◌≢◌, ℕ, ◌<◌, ◌⊎◌, min, max, Bool, true, false, ◌||◌, List, [], ◌∷◌, ◌++◌, length}
+use Rattle.std.specs.Prelude.{Some, is_some, slice_set, slice_index_or}
 use Rattle.block_net.specs.Views.{CellsView, border_in}
 use Rattle.block_workers.specs.declared.port.Port.{Port}
 use Rattle.block_workers.specs.Ports.{IsNewPort, LeadsTo}
-use Rattle.block_workers.specs.Seeing.{others, AreRising}
+use Rattle.block_workers.specs.Seeing.{AreRising}
 use Rattle.rounds.specs.Joined.{port_to, IsPaired, BordersOn}
 
 -- blocks b and c have a port to one another more, the ends of new rings
@@ -41,23 +41,24 @@ pub record AreScanned (cells : List CellsView) (rows : List (List Bool)) : Type 
   pub each : (b : ℕ) (d : CellsView) → b < length cells
       → IsScanned (length cells) (slice_index_or cells b d) (slice_index_or rows b [])
 
--- of the pairs of blocks, by rising first and then second number, those before (b, c) have ports to
--- one another just where a flag says so
+-- whether a direction leads from the one block to the other, or back
+abbrev pub is_linked : List (List Bool) → ℕ → ℕ → Bool
+is_linked rows x y = flag rows x y || flag rows y x
+
+-- two blocks come before b and c: their pairs are in order of the lower number, then of the upper
+abbrev pub ComesBefore : ℕ → ℕ → ℕ → ℕ → Type 0
+ComesBefore x y b c = (min x y < b) ⊎ ((min x y ≡ b) × (max x y < c))
+
+-- the pairs of blocks before b and c are joined: where a direction leads between two blocks, each
+-- has a port to the other, and there are no other ports
 pub record AreBegun (ring blocks b c : ℕ) (rows : List (List Bool))
     (lists : List (List Port)) : Type 0 where
   pub len : length lists ≡ blocks
   pub rising : (x : ℕ) → AreRising blocks (slice_index_or lists x [])
-  pub low_here : (x k : ℕ) → k < length (slice_index_or lists x []) → b ≤ x
-      → slice_index (others (slice_index_or lists x [])) k < c
-  pub low_above : (x k : ℕ) → k < length (slice_index_or lists x []) → b < x
-      → slice_index (others (slice_index_or lists x [])) k ≤ b
-  pub low_beyond : (x k : ℕ) → k < length (slice_index_or lists x []) → b < x → c ≤ x
-      → slice_index (others (slice_index_or lists x [])) k < b
   pub fresh : (x y : ℕ) (p : Port) → port_to lists x y ≡ Some p → IsNewPort y ring p
   pub paired : (x y : ℕ) (p : Port) → port_to lists x y ≡ Some p → IsPaired p (port_to lists y x)
   pub only : (x y : ℕ) (p : Port) → port_to lists x y ≡ Some p
-      → (x ≢ y) × (x < blocks) × (y < blocks) × (flag rows x y || flag rows y x ≡ true)
-  pub led_before : (x y : ℕ) → x < b → x < y → y < blocks → flag rows x y || flag rows y x ≡ true
+      → (x ≢ y) × (x < blocks) × (y < blocks) × (is_linked rows x y ≡ true)
+  pub before : (x y : ℕ) (p : Port) → port_to lists x y ≡ Some p → ComesBefore x y b c
+  pub led : (x y : ℕ) → x < y → y < blocks → ComesBefore x y b c → is_linked rows x y ≡ true
       → is_some (port_to lists x y) ≡ true
-  pub led_here : (y : ℕ) → b < y → y < c → y < blocks → flag rows b y || flag rows y b ≡ true
-      → is_some (port_to lists b y) ≡ true

@@ -1,18 +1,10 @@
 -- What blocks left in the rings between them.
-use Rattle.std.specs.Prelude.{◌≡◌, ◌≢◌, ℕ, ◌<◌, ◌≤◌, ◌^◌, List, [], ◌++◌, length, drop, All}
+use Rattle.std.specs.Prelude.{◌≡◌, ◌≢◌, ℕ, ◌<◌, ◌≤◌, ◌^◌, List, [], length, drop, All}
 use Rattle.block_events.specs.declared.message.Message.{Message}
 use Rattle.block_events.specs.States.{way_at}
-use Rattle.block_events.specs.Soundness.{IsSquare, direction_of}
+use Rattle.block_events.specs.Soundness.{direction_of}
 use Rattle.block_core.specs.Mails.{room_at}
-
--- what one block put for another is what the other took from it, followed by what is left on the
--- way
-pub record AreLeft (blocks : ℕ) (sent taken : ℕ → ℕ → List Message)
-    (left : List (List (List Message)))
-    : Type 0 where
-  pub square : IsSquare blocks left
-  pub none : (b : ℕ) → b < blocks → way_at left b b ≡ []
-  pub ways : (b c : ℕ) → b < blocks → c < blocks → b ≢ c → sent b c ≡ taken c b ++ way_at left b c
+pub use Rattle.block_cut.specs.Rounds.{AreLeft}
 
 -- what is left from one block to another has room there
 abbrev pub HaveRoomFor : ℕ → (ℕ → ℕ → ℕ) → List (List (List Message)) → Type 0

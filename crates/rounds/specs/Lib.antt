@@ -9,10 +9,14 @@ pub mod Mated
 pub mod Left
 pub mod Links
 pub mod Draining
+pub mod Drawing
 pub mod Pairing
+pub mod PartCounts
 pub mod Seated
+pub mod Sharing
 pub mod Together
 pub mod Short
 pub mod Ended
+pub mod LabelSearches
 pub mod Refusals
 pub mod SolveErrors

@@ -5,19 +5,22 @@
 //! between blocks (`join_all`), the blocks are dealt to workers one after another, as cards, and
 //! collected again in their order, and what is left in the rings goes to the core's ways.
 //!
-//! `solve_parallel` opens a net in blocks and makes such rounds, with exact labels before each.
-//! What they leave goes on to the end on one thread (`block_cut`), so that the answer rests on no
-//! round. `Workers` cuts the nets of moves and of yes-no energies by it.
+//! `solve_parallel` opens a net in blocks and makes such rounds, with exact labels before each,
+//! which in a large net the blocks find side by side (`distances_by_blocks`). What the rounds leave
+//! goes on to the end on one thread (`block_cut`), so that the answer rests on no round. `Workers`
+//! cuts the nets of moves and of yes-no energies by it.
 #![tactic(auto)]
 
 mod back;
 mod blocks;
+mod drawing;
 mod ended;
 mod flags;
 mod fork;
 mod gates;
 mod hands;
 mod join;
+mod label_search;
 pub mod laws;
 mod matching;
 mod pair;
@@ -36,6 +39,7 @@ pub use block_workers::{Job, Ledgers, RoundError, TurnBook};
 pub use fork::ByThreads;
 pub use gates::{Lent, Open};
 pub use join::join_all;
+pub use label_search::distances_by_blocks;
 pub use parallel_error::ParallelError;
 pub use round::run_round;
 pub use solver::{side_parallel, solve_parallel};

@@ -9,12 +9,13 @@ ghost use Rattle.rounds.specs.Ended.{IsEnded};
 ghost use Rattle.rounds.specs.Refusals.{IsParallelRefusal};
 
 use crate::ended::Ended;
+use crate::label_search::LabelSearch;
 use crate::{ParallelError, run_round};
 use block_core::State;
 use block_cut::{push_first, take_in};
 use block_net::ARC_LIMIT;
 use flow_network::{Net, Solved};
-use global_relabel::{Workspace, is_at_rest};
+use global_relabel::is_at_rest;
 use std::alloc::Global;
 use std::sync::Wait;
 use std::thread::Threads;
@@ -71,23 +72,24 @@ fn rounds<R: Threads + Wait + Sync, G: Gate>(
     ensures refused { IfErr result (IsParallelRefusal state.net options.now) }
 {
     let mut state = push_all(state);
-    let mut workspace = Workspace::reserve(alloc, state.net())?;
+    let threads = options.threads as usize;
+    let mut search = LabelSearch::reserve(alloc, &state, threads)?;
     'rounds: for _round in 0..options.rounds {
-        workspace.find(&state);
-        if is_at_rest(&state, workspace.labels.as_slice()) {
+        search.find(rt, &state, threads);
+        if is_at_rest(&state, search.workspace.labels.as_slice()) {
             return Ok(Ended {
                 state,
-                workspace,
+                workspace: search.into_workspace(),
                 is_finished: true,
             });
         }
-        state.raise_to(workspace.labels.as_slice());
+        state.raise_to(search.workspace.labels.as_slice());
         state = run_round(rt, alloc, state, options, gate)?;
         take_in(&mut state);
     }
     Ok(Ended {
         state,
-        workspace,
+        workspace: search.into_workspace(),
         is_finished: false,
     })
 }

@@ -1,8 +1,10 @@
-ghost use Rattle.std.specs.Prelude.{◌≡◌, IsTrue};
+ghost use Rattle.std.specs.Prelude.{◌≡◌, ◌<◌, IsTrue};
 ghost use denote.Param.Send.{IsSync};
 ghost use Rattle.flow_network.specs.Cut.{Network};
 ghost use Rattle.worker_options.specs.declared.options.Options.{Options as OptionsOf};
 ghost use Rattle.worker_options.specs.Ranges.{AreInRange};
+ghost use Rattle.rounds.specs.PartCounts.{IsPartCount};
+ghost use Rattle.rounds.specs.Sharing.{IsNoMoreThan};
 ghost use Rattle.rounds.specs.Refusals.{IsParallelRefusal};
 ghost use Rattle.rounds.specs.SolveErrors.{MayFailToSolve, of_parallel};
 
@@ -18,11 +20,29 @@ use worker_options::{Gate, Options};
 
 /// The fewest sites that several threads close in by parts: fewer take less time on one thread than
 /// the start of the others.
-const SHARED_SITES: usize = 1 << 16;
+const SHARED_SITES: usize = 1 << 14;
+
+/// How many parts of a move a thread has, where there are more than two. What is left open near
+/// their borders grows with their number; fewer leave threads idle at the end, since parts take
+/// unequal time. Of two threads each has one part: there the borders outweigh the rest.
+const THREAD_PARTS: usize = 2;
 
 /// The fewest nodes of a net that workers share: they take longer to share fewer than one thread
 /// takes to cut them.
 const SHARED_NODES: usize = 1 << 12;
+
+/// The fewest nodes a block of a net that workers share.
+const BLOCK_NODES: usize = 1 << 8;
+
+/// Of so many arcs of a net that workers share at most one leads from block to block: with more
+/// they pass excess to and fro.
+const CROSSED_SHARE: usize = 8;
+
+/// How many nodes of a net there are at least for each turn that is drawn in a round.
+const TURN_NODES: usize = 1 << 6;
+
+/// How many nodes of a net there are at least for each round, of which there is one in any net.
+const ROUND_NODES: usize = 1 << 13;
 
 /// By workers that run side by side over the blocks of a net. It refuses where memory runs out,
 /// where the system does not start a worker, and where a number of the options is out of its range.
@@ -36,19 +56,58 @@ pub struct Workers<'a, R, G> {
     pub gate: &'a G,
 }
 
-/// Whether a net of so many nodes is cut by one thread. Options out of their ranges are left to the
-/// workers, who refuse them.
-fn is_small(nodes: usize, options: &Options) -> bool
+/// Whether a net of so many nodes is small, or its blocks are.
+fn is_small(nodes: usize, blocks: usize) -> bool {
+    nodes < SHARED_NODES || nodes / BLOCK_NODES < blocks
+}
+
+/// Whether many arcs of a net lead from one block to another, where it is split into so many.
+fn is_crossed(net: &Net, blocks: usize) -> bool {
+    let size = net.nodes().div_ceil(blocks.max(1)).max(1);
+    let mut between = 0usize;
+    for arc in net.arcs() {
+        if arc.from as usize / size != arc.to as usize / size {
+            between += 1;
+        }
+    }
+    between > net.arcs().len() / CROSSED_SHARE
+}
+
+/// Whether a net is cut by one thread: there is one alone, the net or its blocks are small, or too
+/// many arcs lead between blocks. Options out of their ranges are left to the workers, who refuse
+/// them.
+fn is_alone(net: &Net, options: &Options) -> bool
     ensures { IsTrue result → AreInRange options.now }
 {
-    nodes < SHARED_NODES && options.check().is_ok()
+    if options.check().is_err() {
+        return false;
+    }
+    let blocks = options.blocks as usize;
+    options.threads < 2 || is_small(net.nodes(), blocks) || is_crossed(net, blocks)
+}
+
+/// The options by which workers share a net of so many nodes: few nodes are not worth many rounds,
+/// nor many turns in a round. Options out of their ranges stay as they are.
+fn options_for(nodes: usize, options: &Options) -> Options
+    ensures { IsNoMoreThan options.now result }
+{
+    if options.check().is_err() {
+        return *options;
+    }
+    let turns = nodes / TURN_NODES;
+    let rounds = (nodes / ROUND_NODES).max(1);
+    Options {
+        turns: (options.turns as usize).min(turns) as u32,
+        rounds: (options.rounds as usize).min(rounds) as u32,
+        ..*options
+    }
 }
 
 /// The refusal of a cut, as a way to cut nets has it.
 fn refusal_of(error: ParallelError) -> SolveError
     ensures told { result ≡ of_parallel error }
-    ensures may { (net : Network) (options : OptionsOf) → IsParallelRefusal net options error →
-        MayFailToSolve options result }
+    ensures may { (net : Network) (whole options : OptionsOf) → IsNoMoreThan whole options →
+        IsParallelRefusal net options error → MayFailToSolve whole result }
 {
     match error {
         ParallelError::OutOfMemory => SolveError::OutOfMemory,
@@ -69,36 +128,47 @@ impl<'a, R: Threads + Wait + Sync> How for Workers<'a, R, &'a (dyn Gate + Sync)>
         Alone.strip_sites()
     }
 
-    /// As many parts as threads. One thread closes in fewer sites than these before others have
-    /// started.
-    fn parts(&self, sites: usize) -> usize {
-        if sites < SHARED_SITES {
+    /// Two parts a thread, of two threads one, and one part in all where there is one thread or
+    /// where there are few sites: one thread closes these in before others have started.
+    fn parts(&self, sites: usize) -> usize
+        ensures some { 0 < result }
+        ensures count { IsPartCount self.now.options sites result }
+    {
+        if sites < SHARED_SITES || self.options.threads < 2 {
             return 1;
         }
-        (self.options.threads as usize).max(1)
+        if self.options.threads == 2 {
+            return 2;
+        }
+        THREAD_PARTS * self.options.threads as usize
     }
 
     fn fork(&self) -> ByThreads<'a, R> {
-        ByThreads { rt: self.rt }
+        ByThreads {
+            rt: self.rt,
+            threads: self.options.threads as usize,
+        }
     }
 
     fn solve(&self, alloc: Global, net: &Net) -> Result<Solved, SolveError> {
-        if is_small(net.nodes(), &self.options) {
+        if is_alone(net, &self.options) {
             return Alone.solve(alloc, net);
         }
         let gate = Lent { gate: *self.gate };
-        match solve_parallel(self.rt, alloc, net, &self.options, &gate) {
+        let options = options_for(net.nodes(), &self.options);
+        match solve_parallel(self.rt, alloc, net, &options, &gate) {
             Ok(solved) => Ok(solved),
             Err(error) => Err(refusal_of(error)),
         }
     }
 
     fn side(&self, alloc: Global, net: Net) -> Result<Vec<bool>, SolveError> {
-        if is_small(net.nodes(), &self.options) {
+        if is_alone(&net, &self.options) {
             return Alone.side(alloc, net);
         }
         let gate = Lent { gate: *self.gate };
-        match side_parallel(self.rt, alloc, net, &self.options, &gate) {
+        let options = options_for(net.nodes(), &self.options);
+        match side_parallel(self.rt, alloc, net, &options, &gate) {
             Ok(side) => Ok(side),
             Err(error) => Err(refusal_of(error)),
         }
