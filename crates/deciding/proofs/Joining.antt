@@ -1,5 +1,5 @@
 -- Choices of decisions that passed the test, put together.
-use Rattle.std.proofs.Common.{◌≡◌, ◌≢◌, ℕ, Bool, true, false, List, [], ◌∷◌, ◌++◌, ℤ, pos, ◌≤ℤ◌, ◌<ℤ◌, refl, sym, ap, ◌∙◌, inl, inr, arith}
+use Rattle.std.proofs.Common.{◌≡◌, ◌≢◌, ℕ, Bool, true, false, List, ◌∷◌, ℤ, pos, ◌≤ℤ◌, ◌<ℤ◌, refl, sym, ap, ◌∙◌, inl, inr, arith}
 use Rattle.std.proofs.lemmas.Int.{ints}
 use Rattle.std.proofs.lemmas.Bool.{cases_eq}
 use Rattle.labellings.specs.declared.change.Move.{Move}
@@ -8,11 +8,11 @@ use Rattle.labellings.specs.Moves.{IsAllowed}
 use Rattle.move_energy.specs.declared.choice.Choice.{Choice}
 use Rattle.move_energy.specs.declared.choice.Choice.TheVariants.{Open, Zero, One}
 use Rattle.move_energy.specs.Choices.{bit_of, choice_at}
-use Rattle.deciding.specs.Decisions.{Decision, set_bit, with_decisions, rise, OnesWithin, IsSubmodular, Passes, HavePassed}
+use Rattle.deciding.specs.Decisions.{with_decisions, rise, Passes}
 use Rattle.deciding.specs.MoveValues.{move_value}
 use Rattle.deciding.specs.Working.{decided_or}
 use Rattle.deciding.specs.Parts.{ArePassedChoices}
-use Rattle.deciding.proofs.Putting.{set_at, set_other, cases_put, le_le}
+use Rattle.deciding.proofs.Putting.{set_at, set_other}
 use Rattle.deciding.proofs.Rises.{rise_over, move_falls}
 
 -- ---- choices

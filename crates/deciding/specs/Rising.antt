@@ -1,8 +1,9 @@
 -- The table of a move's rises: by how much a pair's cost rises where one of its ends turns, by the
 -- labels of both.
-use Rattle.std.specs.Prelude.{◌≡◌, ℕ, ◌+◌, ◌*◌, ◌<◌, ◌≤◌, Bool, true, false, cond, length, slice_index_or, ℤ, pos, unsigned_abs}
+use Rattle.std.specs.Prelude.{◌≡◌, ◌==◌, ℕ, ◌+◌, ◌*◌, ◌<◌, ◌≤◌, Bool, true, false, cond, List, length, slice_index_or, ℤ, pos, unsigned_abs}
+use Rattle.label_field.specs.declared.pair.Pair.{Pair}
 use Rattle.labellings.specs.declared.change.Move.{Move}
-use Rattle.labellings.specs.Energies.{Instance}
+use Rattle.labellings.specs.Energies.{Instance, labelling}
 use Rattle.labellings.specs.Moves.{label_after}
 use Rattle.cost_store.specs.Limits.{pair_cost_limit}
 use Rattle.deciding.specs.declared.table.EndRises.{EndRises}
@@ -23,6 +24,14 @@ abbrev pub rises_at : RiseTable → Bool → ℕ → ℕ → EndRises
 rises_at table first own other =
     slice_index_or table.entries.items (entry_place first own other)
     (record { low = pos 0; high = pos 0 })
+
+-- the rise that the table tells of a pair where its end at a site turns, while the other end has
+-- its value of these
+abbrev pub told_rise : RiseTable → List ℕ → ℕ → Pair → ℕ → (ℕ → Bool) → ℤ
+told_rise table at site pair other x =
+    cond (x other)
+    (rises_at table (pair.first == site) (labelling at site) (labelling at other)).high
+    (rises_at table (pair.first == site) (labelling at site) (labelling at other)).low
 
 -- by how much the cost of a pair of this weight rises where such an end turns, while the
 -- neighbour's value is this bit

@@ -1,5 +1,5 @@
 -- What is kept while sites are decided.
-use Rattle.std.specs.Prelude.{◌≡◌, ◌≢◌, ◌⊎◌, ℕ, ◌+◌, ◌-◌, ◌*◌, ◌<◌, ◌≤◌, Bool, true, false, List, [], ◌∷◌, ◌++◌, length, replicate, slice_index_or, unsigned_abs, ℤ, pos, ◌+ℤ◌, ◌-ℤ◌, ◌≤ℤ◌, ◌<ℤ◌, Result, Ok, Err}
+use Rattle.std.specs.Prelude.{◌≡◌, ◌≢◌, ◌⊎◌, ℕ, ◌+◌, ◌-◌, ◌*◌, ◌<◌, ◌≤◌, Bool, true, false, List, [], ◌∷◌, ◌++◌, length, replicate, slice_index_or, slice_set, unsigned_abs, ◌^◌, ℤ, pos, ◌+ℤ◌, ◌-ℤ◌, ◌≤ℤ◌, ◌<ℤ◌, Result, Ok, Err}
 use Rattle.std.specs.List.{All, Contains, sum_by}
 use Rattle.sums.specs.Sums.{sum_below, count_if}
 use Rattle.move_energy.specs.declared.by_site.Neighbours.{Neighbours}
@@ -14,6 +14,7 @@ use Rattle.move_energy.specs.declared.choice.Choice.TheVariants.{Open}
 use Rattle.move_energy.specs.BySite.{degree, neighbours_start, pair_beside}
 use Rattle.move_energy.specs.Choices.{bit_of, choice_at, is_open, AreAllOpen}
 use Rattle.move_energy.specs.Limits.{surplus_limit}
+use Rattle.cost_store.specs.Limits.{site_cost_limit, pair_cost_limit}
 use Rattle.deciding.specs.Limits.{bound_limit}
 use Rattle.deciding.specs.Decisions.{Decision, set_bit, with_decisions, rise, HavePassed}
 use Rattle.deciding.specs.MoveValues.{move_value, pair_rise}
@@ -35,6 +36,10 @@ HasNoneBefore choices ends site =
     → place < neighbours_start ends (site + 1) → u < site
     → choice_at choices u ≡ Open → AvoidsSite u (pair_beside ends site place)
 
+-- the most that the energy rises or falls by where a site turns
+abbrev pub rise_limit : Neighbours → ℕ → ℕ
+rise_limit ends site = site_cost_limit + pair_cost_limit * degree ends site
+
 -- the bound of a site
 abbrev pub bound_at : List ℤ → ℕ → ℤ
 bound_at bounds u = slice_index_or bounds u (pos 0)
@@ -48,6 +53,22 @@ open_ends ends n choices =
 -- at most a surplus
 abbrev pub budget_of : ℕ → ℕ
 budget_of n = bound_limit - surplus_limit * n
+
+-- a site has two bounds
+abbrev pub HasBounds : ℕ → Bounds → Type 0
+HasBounds site b = (site < length b.least.items) × (site < length b.greatest.items)
+
+-- by so much a bound may rise or fall
+abbrev pub HasRoomFor : ℤ → ℤ → Type 0
+HasRoomFor bound by = unsigned_abs bound + unsigned_abs by < 2 ^ 62
+
+-- to the two bounds of a site this is added
+pub record RaisesBounds (site : ℕ) (low high : ℤ) (old new : Bounds) : Type 0 where
+  pub least : new.least.items
+      ≡ slice_set old.least.items site (bound_at old.least.items site +ℤ low)
+  pub greatest : new.greatest.items
+      ≡ slice_set old.greatest.items site (bound_at old.greatest.items site +ℤ high)
+  pub same : (new.choices ≡ old.choices) × (new.waiting ≡ old.waiting)
 
 -- the bounds of a site tell that it has this value
 abbrev pub TellsValue : Bounds → ℕ → Bool → Type 0
@@ -93,6 +114,10 @@ pub record AreUnsummed (n : ℕ) (b : Bounds) : Type 0 where
   pub least : length b.least.items ≡ 0
   pub greatest : length b.greatest.items ≡ 0
   pub none : length b.waiting.items ≡ 0
+
+-- the first n sites were summed
+abbrev pub HasSummed : ℕ → Bounds → Type 0
+HasSummed n b = (length b.least.items ≡ n) × (length b.greatest.items ≡ n)
 
 -- no bound is larger
 abbrev pub IsWithinRange : ℕ → Bounds → Type 0
@@ -180,21 +205,28 @@ pub record IsMarked (site : ℕ) (value : Bool) (old new : Bounds) : Type 0 wher
   pub greatest : new.greatest ≡ old.greatest
   pub waiting : new.waiting ≡ old.waiting
 
--- a pair of this site is seen with the site's value: the bounds of each other open site below k
--- change as the pair's rise does
+-- by how much a pair's rise at site u changes where another site gets this value
+abbrev pub pair_change : Instance → Move → (ℕ → ℕ) → ℕ → ℕ → Bool → Pair → (ℕ → Bool) → ℤ
+pair_change m move f u site value pair x =
+    pair_rise m move f u (set_bit x site value) pair -ℤ pair_rise m move f u x pair
+
+-- the bounds of each open site below k, but for this one, change as the pair's rise does where this
+-- site gets its value instead of the one that the bounds took for it
+abbrev pub FollowsPair : Instance → Move → (ℕ → ℕ) → ℕ → ℕ → Bool → Pair → Bool → List Choice
+    → List ℤ → List ℤ → Type 0
+FollowsPair m move f k site value pair assumed choices old new =
+    (x : ℕ → Bool) (u : ℕ) → x site ≡ assumed → u < k → u ≢ site → choice_at choices u ≡ Open
+    → bound_at new u ≡ bound_at old u +ℤ pair_change m move f u site value pair x
+
+-- a pair of this site is seen with the site's value: the least bounds took 1 for it, the greatest
+-- ones 0
 pub record SeesPair (m : Instance) (move : Move) (f : ℕ → ℕ) (k site : ℕ)
     (value : Bool) (pair : Pair)
     (old new : Bounds) : Type 0 where
-  pub least : (x : ℕ → Bool) (u : ℕ) → x site ≡ true → u < k → u ≢ site
-      → choice_at old.choices.items u ≡ Open
-      → bound_at new.least.items u
-      ≡ bound_at old.least.items u
-      +ℤ (pair_rise m move f u (set_bit x site value) pair -ℤ pair_rise m move f u x pair)
-  pub greatest : (x : ℕ → Bool) (u : ℕ) → x site ≡ false → u < k → u ≢ site
-      → choice_at old.choices.items u ≡ Open
-      → bound_at new.greatest.items u
-      ≡ bound_at old.greatest.items u
-      +ℤ (pair_rise m move f u (set_bit x site value) pair -ℤ pair_rise m move f u x pair)
+  pub least : FollowsPair m move f k site value pair true
+      old.choices.items old.least.items new.least.items
+  pub greatest : FollowsPair m move f k site value pair false
+      old.choices.items old.greatest.items new.greatest.items
 
 -- the other costs of a site whose neighbour is now 1, or now 0
 abbrev pub least_shift : Bool → ℤ → ℤ

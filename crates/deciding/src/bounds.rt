@@ -1,6 +1,7 @@
 //! What is known of each site while sites are decided.
 ghost use Rattle.std.specs.Prelude.{◌≡◌, ◌↔◌, ◌+◌, ◌<◌, ◌^◌, ℕ, ℤ, pos, ◌+ℤ◌, ◌≤ℤ◌, ◌<ℤ◌, ◌⊎◌, ◌++◌, ◌∷◌, [], IsTrue, length, slice_set, unsigned_abs, OnOk};
 ghost use Rattle.deciding.specs.Working.{bound_at, CanDecide, CallsUp, AreOfNoSites};
+ghost use Rattle.deciding.specs.Working.{HasBounds, HasRoomFor, RaisesBounds};
 
 use move_energy::Choice;
 use std::alloc::{AllocError, Global};
@@ -24,7 +25,7 @@ pub struct Bounds {
 /// Adds to a number of a list.
 fn add_at(numbers: &mut Vec<i64>, place: usize, by: i64)
     requires place { place < length numbers.old.items }
-    requires room { unsigned_abs (bound_at numbers.old.items place) + unsigned_abs by < 2 ^ 62 }
+    requires room { HasRoomFor (bound_at numbers.old.items place) by }
     ensures { numbers.new.items
         ≡ slice_set numbers.old.items place (bound_at numbers.old.items place +ℤ by) }
 {
@@ -46,19 +47,10 @@ impl Bounds {
 
     /// Adds to the two bounds of a site.
     pub(crate) fn raise(&mut self, site: usize, least: i64, greatest: i64)
-        requires site { (site < length self.old.least.items)
-            × (site < length self.old.greatest.items) }
-        requires least { unsigned_abs (bound_at self.old.least.items site)
-            + unsigned_abs least < 2 ^ 62 }
-        requires greatest { unsigned_abs (bound_at self.old.greatest.items site)
-            + unsigned_abs greatest
-            < 2 ^ 62 }
-        ensures least { self.new.least.items ≡ slice_set self.old.least.items site
-            (bound_at self.old.least.items site +ℤ least) }
-        ensures greatest { self.new.greatest.items ≡ slice_set self.old.greatest.items site
-            (bound_at self.old.greatest.items site +ℤ greatest) }
-        ensures same { (self.new.choices ≡ self.old.choices)
-            × (self.new.waiting ≡ self.old.waiting) }
+        requires site { HasBounds site self.old }
+        requires least { HasRoomFor (bound_at self.old.least.items site) least }
+        requires greatest { HasRoomFor (bound_at self.old.greatest.items site) greatest }
+        ensures { RaisesBounds site least greatest self.old self.new }
     {
         add_at(&mut self.least, site, least);
         add_at(&mut self.greatest, site, greatest);
@@ -67,7 +59,7 @@ impl Bounds {
     /// Whether the bounds of a site tell its value: 0 where turning never lowers the energy, and 1
     /// where it always does.
     pub(crate) fn can_decide(&self, site: usize) -> bool
-        requires { (site < length self.now.least.items) × (site < length self.now.greatest.items) }
+        requires { HasBounds site self.now }
         ensures { IsTrue result ↔ CanDecide self.now site }
     {
         self.least[site] >= 0 || self.greatest[site] < 0
@@ -75,7 +67,7 @@ impl Bounds {
 
     /// Lets a site wait if its bounds tell its value.
     pub(crate) fn call_up(&mut self, site: u32) -> Result<(), AllocError>
-        requires { (site < length self.old.least.items) × (site < length self.old.greatest.items) }
+        requires { HasBounds site self.old }
         ensures same { (self.new.choices ≡ self.old.choices) × (self.new.least ≡ self.old.least)
             × (self.new.greatest ≡ self.old.greatest) }
         ensures calls { OnOk result (CallsUp site self.old self.new) }

@@ -1,12 +1,11 @@
 //! The sites that a move has left to look at, listed where they are few.
-ghost use Rattle.std.specs.Prelude.{◌≡◌, ◌↔◌, ◌==◌, ◌||◌, ◌<◌, ◌≤◌, ◌++◌, ◌∷◌, [], ℕ, cond, not};
+ghost use Rattle.std.specs.Prelude.{◌≡◌, ◌↔◌, ◌<◌, ◌≤◌, ◌++◌, ◌∷◌, [], ℕ, cond};
 ghost use Rattle.std.specs.Prelude.{false, length, IsTrue, OnOk, OnErr};
-ghost use Rattle.move_energy.specs.BySite.{IsListing};
 ghost use Rattle.labellings.specs.Energies.{labelling};
-ghost use Rattle.labellings.specs.Moves.{label_after};
 ghost use Rattle.label_field.specs.Limits.{site_limit};
-ghost use Rattle.move_energy.specs.Choices.{bit_of, open_count, is_open, open_at, AreOpenSites};
-ghost use Rattle.deciding.specs.Listed.{changes, AreListed, AreListsEmpty};
+ghost use Rattle.move_energy.specs.Choices.{open_count, is_open};
+ghost use Rattle.deciding.specs.Listed.{can_become_other, changes};
+ghost use Rattle.deciding.specs.Listed.{AreListed, AreListedBelow, AreListsEmpty};
 
 use labellings::Move;
 use move_energy::Choice;
@@ -46,8 +45,7 @@ fn count_open(choices: &[Choice]) -> usize
 
 /// Whether the label of a site can still become another.
 fn can_change(choice: Choice, change: Move, label: u32) -> bool
-    ensures { result ≡ (is_open choice
-        || not (label_after change label (bit_of choice false) == label)) }
+    ensures { result ≡ can_become_other change label choice }
 {
     choice.is_open() || change.label(label, choice.bit(false)) != label
 }
@@ -100,10 +98,8 @@ impl Lists {
     ) -> Result<(), AllocError>
         ensures opened { OnOk result (self.new.opened.items ≡
             self.old.opened.items ++ cond (is_open choice) (site ∷ []) []) }
-        ensures changing { OnOk result
-            (self.new.changing.items ≡ self.old.changing.items ++ cond (is_open
-            choice || not (label_after change label (bit_of choice false) == label))
-            (site ∷ []) []) }
+        ensures changing { OnOk result (self.new.changing.items ≡ self.old.changing.items
+            ++ cond (can_become_other change label choice) (site ∷ []) []) }
         ensures same { (self.new.count ≡ self.old.count) × (self.new.listed ≡ self.old.listed) }
     {
         add_chosen(&mut self.opened, site, choice.is_open())?;
@@ -121,12 +117,9 @@ impl Lists {
     ) -> Result<(), AllocError>
         requires sites { (length choices.now ≡ length at.now) × (length at.now ≤ site_limit) }
         requires block { (from ≤ to) × (to ≤ length at.now) }
-        requires opened { IsListing (open_at choices.now) from self.old.opened.items }
-        requires changing { IsListing (changes change (labelling at.now) choices.now) from
-            self.old.changing.items }
-        ensures opened { OnOk result (IsListing (open_at choices.now) to self.new.opened.items) }
-        ensures changing { OnOk result (IsListing (changes change (labelling at.now) choices.now) to
-            self.new.changing.items) }
+        requires lists { AreListedBelow from change (labelling at.now) choices.now self.old }
+        ensures lists { OnOk result
+            (AreListedBelow to change (labelling at.now) choices.now self.new) }
         ensures same { (self.new.count ≡ self.old.count) × (self.new.listed ≡ self.old.listed) }
     {
         if !has_change(at, change, choices, from, to) {
@@ -142,9 +135,8 @@ impl Lists {
     /// blocks of sites are passed over at once.
     fn list(&mut self, at: &[u8], change: Move, choices: &[Choice]) -> Result<(), AllocError>
         requires sites { (length choices.now ≡ length at.now) × (length at.now ≤ site_limit) }
-        ensures opened { OnOk result (AreOpenSites choices.now self.new.opened.items) }
-        ensures changing { OnOk result (IsListing (changes change (labelling at.now) choices.now)
-            (length choices.now) self.new.changing.items) }
+        ensures lists { OnOk result (AreListedBelow (length choices.now) change
+            (labelling at.now) choices.now self.new) }
         ensures same { (self.new.count ≡ self.old.count) × (self.new.listed ≡ self.old.listed) }
     {
         self.opened.clear();

@@ -10,13 +10,13 @@ ghost use Rattle.labellings.specs.Moves.{label_after};
 ghost use Rattle.cost_store.specs.Limits.{site_cost_limit, pair_cost_limit};
 ghost use Rattle.cost_store.specs.Posed.{IsPosed, WhereMeant};
 ghost use Rattle.deciding.specs.Decisions.{rise};
-ghost use Rattle.deciding.specs.Finding.{IsPosedMove, WhereFound};
+ghost use Rattle.deciding.specs.Finding.{IsPosedMove, WhereFound, IsPairOfSite, ArePairRises};
 ghost use Rattle.deciding.specs.MoveValues.{move_value, pair_rise};
 ghost use Rattle.move_energy.specs.declared.choice.Choice.TheVariants.{Open};
 ghost use Rattle.move_energy.specs.Choices.{bit_of, choice_at};
-ghost use Rattle.deciding.specs.Rising.{rises_at, table_labels};
+ghost use Rattle.deciding.specs.Rising.{table_labels, told_rise};
 ghost use Rattle.deciding.specs.Working.{AreEnds, AreTurned, AvoidsSite, HasNoneBefore};
-ghost use Rattle.deciding.specs.Working.{end_rise as end_rise_of, decided_or};
+ghost use Rattle.deciding.specs.Working.{end_rise as end_rise_of, decided_or, rise_limit};
 
 use crate::costs::data_rise;
 use crate::finding::MoveToFind;
@@ -121,18 +121,8 @@ fn asked_rises<F: Fn(u32, u32) -> i64 + Sync, V: Fn(u32, u32) -> i64 + Sync>(
     turn: Turn,
     pair: Pair,
 ) -> Rises
-    requires posed { IsPosedMove F.Fn V.Fn step.now }
-    requires choices { length choices.now ≡ length step.now.at.now }
-    requires pair { IsPair (length step.now.at.now) pair }
-    requires end { (pair.first ≡ site) ⊎ (pair.second ≡ site) }
-    requires turn { AreTurned step.now.change (labelling step.now.at.now site)
-        turn.stays turn.turns }
-    ensures least { WhereFound F.Fn V.Fn step.now (λ m move f. result.least
-        ≡ pair_rise m move f site (decided_or choices.now true) pair) }
-    ensures greatest { WhereFound F.Fn V.Fn step.now (λ m move f. result.greatest
-        ≡ pair_rise m move f site (decided_or choices.now false) pair) }
-    ensures range { (unsigned_abs result.least ≤ pair_cost_limit)
-        × (unsigned_abs result.greatest ≤ pair_cost_limit) }
+    requires pair { IsPairOfSite F.Fn V.Fn step.now choices.now site turn pair }
+    ensures { ArePairRises F.Fn V.Fn step.now choices.now site pair result }
 {
     let first = pair.first == site;
     let other = other_end(pair, site);
@@ -190,17 +180,9 @@ pub(crate) fn table_rises(
     requires few { All (λ label. label < table_labels) at.now }
     requires size { length table.now.entries.items ≡ 8192 }
     ensures least { (other : ℕ) → AreEnds pair site other
-        → result.least ≡ cond (decided_or choices.now true other)
-        (rises_at table.now (pair.first == site) (labelling at.now site)
-        (labelling at.now other)).high
-        (rises_at table.now (pair.first == site) (labelling at.now site)
-        (labelling at.now other)).low }
-    ensures greatest { (other : ℕ) → AreEnds pair site other
-        → result.greatest ≡ cond (decided_or choices.now false other)
-        (rises_at table.now (pair.first == site) (labelling at.now site)
-        (labelling at.now other)).high
-        (rises_at table.now (pair.first == site) (labelling at.now site)
-        (labelling at.now other)).low }
+        → result.least ≡ told_rise table.now at.now site pair other (decided_or choices.now true) }
+    ensures greatest { (other : ℕ) → AreEnds pair site other → result.greatest
+        ≡ told_rise table.now at.now site pair other (decided_or choices.now false) }
 {
     let first = pair.first == site;
     let other = other_end(pair, site);
@@ -218,18 +200,8 @@ fn pair_rises<F: Fn(u32, u32) -> i64 + Sync, V: Fn(u32, u32) -> i64 + Sync>(
     turn: Turn,
     pair: Pair,
 ) -> Rises
-    requires posed { IsPosedMove F.Fn V.Fn step.now }
-    requires choices { length choices.now ≡ length step.now.at.now }
-    requires pair { IsPair (length step.now.at.now) pair }
-    requires end { (pair.first ≡ site) ⊎ (pair.second ≡ site) }
-    requires turn { AreTurned step.now.change (labelling step.now.at.now site)
-        turn.stays turn.turns }
-    ensures least { WhereFound F.Fn V.Fn step.now (λ m move f. result.least
-        ≡ pair_rise m move f site (decided_or choices.now true) pair) }
-    ensures greatest { WhereFound F.Fn V.Fn step.now (λ m move f. result.greatest
-        ≡ pair_rise m move f site (decided_or choices.now false) pair) }
-    ensures range { (unsigned_abs result.least ≤ pair_cost_limit)
-        × (unsigned_abs result.greatest ≤ pair_cost_limit) }
+    requires pair { IsPairOfSite F.Fn V.Fn step.now choices.now site turn pair }
+    ensures { ArePairRises F.Fn V.Fn step.now choices.now site pair result }
 {
     if !step.table.covers(pair.weight) {
         return asked_rises(step, choices, site, turn, pair);
@@ -271,10 +243,8 @@ pub(crate) fn site_rises<F: Fn(u32, u32) -> i64 + Sync, V: Fn(u32, u32) -> i64 +
         ≡ rise (move_value m move f) site (decided_or choices.now true)) }
     ensures greatest { WhereFound F.Fn V.Fn step.now (λ m move f. result.greatest
         ≡ rise (move_value m move f) site (decided_or choices.now false)) }
-    ensures range { (unsigned_abs result.least
-        ≤ site_cost_limit + pair_cost_limit * degree step.now.ends.now site)
-        × (unsigned_abs result.greatest
-        ≤ site_cost_limit + pair_cost_limit * degree step.now.ends.now site) }
+    ensures range { (unsigned_abs result.least ≤ rise_limit step.now.ends.now site)
+        × (unsigned_abs result.greatest ≤ rise_limit step.now.ends.now site) }
     ensures alone { result.beside ≡ false → HasNoneBefore choices.now step.now.ends.now site }
 {
     let ends = step.ends;

@@ -16,9 +16,8 @@ use label_field::Pair;
 #[inline]
 pub fn told_surplus(table: &RiseTable, at: &[u8], pair: Pair) -> i64
     requires covered { CoversPair table.now at.now pair }
-    ensures value { (m : Instance) (move : Move) (f : ℕ → ℕ)
-        → IsTableFrom table.now at.now m move f →
-        result ≡ surplus_of (pair_table m move f pair) }
+    ensures value { (m : Instance) (move : Move) (f : ℕ → ℕ) → IsTableFrom table.now at.now m move f
+        → result ≡ surplus_of (pair_table m move f pair) }
     ensures range { unsigned_abs result ≤ surplus_limit }
 {
     table_surplus(table, at, pair)

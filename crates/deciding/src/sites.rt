@@ -3,14 +3,13 @@ ghost use Rattle.std.specs.Prelude.{◌≡◌, ◌<◌, ◌≤◌, ℕ, [], All,
 ghost use Rattle.move_energy.specs.BySite.{AreBySite};
 ghost use Rattle.move_energy.specs.Choices.{choice_at, AreAllOpen};
 ghost use Rattle.move_energy.specs.Problems.{IsPrepareRefusal};
-ghost use Rattle.move_energy.specs.Weights.{AreWeights};
 ghost use Rattle.labellings.specs.Energies.{labelling};
 ghost use Rattle.cost_store.specs.Posed.{IsPosed, IsAsked, WhereMeant};
-ghost use Rattle.deciding.specs.Decided.{IsDecidedMove, KnowsSites};
+ghost use Rattle.deciding.specs.Decided.{IsDecidedMove};
+ghost use Rattle.deciding.specs.Finding.{IsAskedBySite, KnowsMove};
 ghost use Rattle.deciding.specs.Listed.{AreListsEmpty};
 ghost use Rattle.deciding.specs.declared.finding.RiseNumbers.{RiseNumbers};
 ghost use Rattle.deciding.specs.Parts.{AreReadable, AreRisesOf, ArePassedChoices, AreNumbersOf};
-ghost use Rattle.deciding.specs.Rising.{IsTableOf};
 ghost use Rattle.deciding.specs.Working.{AreOfNoSites};
 
 use crate::finding::MoveToFind;
@@ -88,19 +87,11 @@ impl Deciding {
         at: &[u8],
         change: Move,
     ) -> Result<(), BuildError>
-        requires asked { IsAsked problem.now at.now change }
-        requires posed { IsPosed F.Fn V.Fn problem.now }
-        requires by_site { AreBySite problem.now.pairs self.old.ends }
+        requires asked { IsAskedBySite F.Fn V.Fn problem.now at.now change self.old.ends }
         ensures kept { self.new.ends ≡ self.old.ends }
-        ensures known { OnOk result
-            (KnowsSites problem.now.data_cost.labels change at.now self.new) }
-        ensures weights { WhereMeant F.Fn V.Fn problem.now (λ m. OnOk result (AreWeights m change
-            (labelling at.now) (choice_at self.new.bounds.choices.items)
-            self.new.bounds.greatest.items)) }
+        ensures known { OnOk result (KnowsMove F.Fn V.Fn problem.now at.now change self.new) }
         ensures decided { WhereMeant F.Fn V.Fn problem.now (λ m. IsDecidedMove m change at.now
             self.new.bounds.choices.items result) }
-        ensures rises { WhereMeant F.Fn V.Fn problem.now (λ m.
-            OnOk result (IsTableOf m change self.new.table)) }
         ensures refused { OnErr result (self.new.lists.listed ≡ false) }
     {
         self.lists.listed = false;
@@ -129,9 +120,7 @@ impl Deciding {
         at: &[u8],
         change: Move,
     ) -> Result<bool, BuildError>
-        requires asked { IsAsked problem.now at.now change }
-        requires posed { IsPosed F.Fn V.Fn problem.now }
-        requires by_site { AreBySite problem.now.pairs self.old.ends }
+        requires asked { IsAskedBySite F.Fn V.Fn problem.now at.now change self.old.ends }
         ensures kept { self.new.ends ≡ self.old.ends }
         ensures listed { self.new.lists.listed ≡ false }
         ensures opened { IfOk result (λ read. IsTrue read →

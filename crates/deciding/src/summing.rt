@@ -8,8 +8,9 @@ ghost use Rattle.cost_store.specs.Limits.{site_cost_limit, pair_cost_limit};
 ghost use Rattle.labellings.specs.Energies.{labelling};
 ghost use Rattle.move_energy.specs.declared.choice.Choice.TheVariants.{Open, One};
 ghost use Rattle.move_energy.specs.Choices.{choice_at, Changes};
-ghost use Rattle.deciding.specs.Finding.{IsPosedMove, WhereFound, IsInBudget, ends_left};
-ghost use Rattle.deciding.specs.Working.{summed_count, CanDecide, AreOfSites, IsSummed};
+ghost use Rattle.deciding.specs.Finding.{IsPosedMove, WhereFound, IsInBudget, SumsSite};
+ghost use Rattle.deciding.specs.Working.{summed_count, CanDecide, AreOfSites, AreOfNoSites, HasBounds};
+ghost use Rattle.deciding.specs.Working.{HasSummed};
 ghost use Rattle.deciding.specs.Working.{IsWithinRange, IsAnswered, AddsBounds, PassesClosed};
 ghost use Rattle.deciding.specs.Working.{AreUndecided, AreUnsummed, AreWaiting, ArePartlyDecided};
 ghost use Rattle.deciding.specs.Working.{budget_of, greatest_total};
@@ -73,9 +74,7 @@ fn fill_up(numbers: &mut Vec<i64>, count: usize) -> Result<(), AllocError>
 impl Bounds {
     /// Makes room for so many sites, and forgets what was known.
     fn clear(&mut self, sites: usize) -> Result<(), AllocError>
-        ensures empty { OnOk result
-            ((length self.new.choices.items ≡ 0) × (length self.new.least.items ≡ 0)
-            × (length self.new.greatest.items ≡ 0) × (length self.new.waiting.items ≡ 0)) }
+        ensures empty { OnOk result (AreOfNoSites self.new) }
     {
         self.choices.clear();
         self.least.clear();
@@ -100,8 +99,7 @@ impl Bounds {
     /// next, or how many there are.
     fn pass_closed(&mut self, from: usize) -> Result<usize, AllocError>
         requires from { from ≤ length self.old.choices.items }
-        requires summed { (length self.old.least.items ≡ from)
-            × (length self.old.greatest.items ≡ from) }
+        requires summed { HasSummed from self.old }
         ensures { IfOk result (λ to. PassesClosed from to self.old self.new) }
     {
         let next = next_open(&self.choices, from);
@@ -123,8 +121,7 @@ impl Bounds {
     /// Decides the site that was summed last if its bounds tell its value and no open site before
     /// it is beside it: then none has to be told. Else it waits, if they tell it.
     fn answer(&mut self, site: u32, beside: bool) -> Result<(), AllocError>
-        requires bounds { (site < length self.old.least.items)
-            × (site < length self.old.greatest.items) }
+        requires bounds { HasBounds site self.old }
         requires choice { site < length self.old.choices.items }
         ensures { OnOk result (IsAnswered site beside self.old self.new) }
     {
@@ -151,18 +148,7 @@ impl Bounds {
         requires opened { choice_at self.old.choices.items site ≡ Open }
         requires budget { IsInBudget step.now self.old }
         requires waiting { AreWaiting site self.old }
-        ensures left { OnOk result (ends_left step.now self.new ≤ ends_left step.now self.old) }
-        ensures summed { OnOk result (summed_count self.new ≡ site + 1) }
-        ensures sized { OnOk result (IsSummed (length step.now.at.now) self.new) }
-        ensures range { OnOk result
-            (IsWithinRange (budget_of (ends_left step.now self.old)) self.new) }
-        ensures total { OnOk result
-            (greatest_total self.new ≤ greatest_total self.old + site_cost_limit
-            + pair_cost_limit * degree step.now.ends.now site) }
-        ensures waiting { OnOk result (AreWaiting (site + 1) self.new) }
-        ensures decided { OnOk result (WhereFound F.Fn V.Fn step.now (λ m move f.
-            ArePartlyDecided m move f site self.old
-            → ArePartlyDecided m move f (site + 1) self.new)) }
+        ensures { OnOk result (SumsSite F.Fn V.Fn step.now site self.old self.new) }
     {
         let rises = site_rises(step, &self.choices, site);
         self.add_bounds(rises.least, rises.greatest)?;

@@ -7,7 +7,10 @@ use Rattle.labellings.specs.Moves.{IsRegularPair}
 use Rattle.move_energy.specs.declared.choice.Choice.{Choice}
 use Rattle.move_energy.specs.declared.listed_pairs.Adds.{Adds}
 use Rattle.move_energy.specs.declared.listed_pairs.Adds.TheVariants.{Costs, Savings}
-use Rattle.move_energy.specs.Choices.{made_by}
+use Rattle.move_energy.specs.declared.by_site.Neighbours.{Neighbours}
+use Rattle.move_energy.specs.declared.open_moves.NumberedMove.{NumberedMove}
+use Rattle.move_energy.specs.BySite.{met_at}
+use Rattle.move_energy.specs.Choices.{made_by, open_at}
 use Rattle.move_energy.specs.Problems.{IsFitPair}
 use Rattle.move_energy.specs.Weights.{unsaved_surplus}
 
@@ -21,3 +24,8 @@ added_by_pair Savings m move f choice variable x = unsaved_surplus m move f choi
 abbrev pub IsRightFor : Adds → Instance → Move → (ℕ → ℕ) → (ℕ → Choice) → Pair → Type 0
 IsRightFor Costs m move f choice = IsFitPair m move f choice
 IsRightFor Savings m move f choice = IsRegularPair m move f
+
+-- how many pairs of an open site are counted at it
+abbrev pub open_met : {F V : Type 0} → NumberedMove F V → Neighbours → ℕ → ℕ
+open_met {F} {V} step ends site =
+    met_at ends (open_at step.variables.now.choices.items) (λ pair. 1) site

@@ -3,15 +3,14 @@ ghost use Rattle.std.specs.Prelude.{◌≡◌, ◌≢◌, ◌+◌, ◌<◌, ◌�
 ghost use Rattle.sums.specs.Sums.{count_if};
 ghost use Rattle.label_field.specs.Limits.{site_limit, pair_limit, label_limit};
 ghost use Rattle.labellings.specs.declared.change.Move.TheVariants.{Expand};
-ghost use Rattle.labellings.specs.Energies.{labelling, is_used};
 ghost use Rattle.pseudo_bool.specs.Limits.{term_limit};
-ghost use Rattle.compile_cut.specs.Limits.{form_nodes};
 ghost use Rattle.compile_cut.specs.Quadratics.{IsQuadraticBounded};
 ghost use Rattle.cost_store.specs.Promises.{IsCost};
 ghost use Rattle.move_energy.specs.Choices.{open_count, AreAllOpen, IsNumbering};
 ghost use Rattle.cost_store.specs.Limits.{label_cost_limit};
 ghost use Rattle.move_energy.specs.Limits.{label_terms};
-ghost use Rattle.move_energy.specs.LabelCosts.{uses, costs_below, AddsHidden, GrowsBy};
+ghost use Rattle.move_energy.specs.LabelCosts.{costs_below, AddsHidden, GrowsBy};
+ghost use Rattle.move_energy.specs.Expansions.{has_label, takes_label, IsOpenExpansion, HasRoomForLabel};
 
 use crate::Variables;
 use crate::nodes::{list_each, list_having};
@@ -19,33 +18,36 @@ use compile_cut::Quadratic;
 use cost_store::mark_used;
 use std::alloc::{AllocError, Global};
 
+/// An expansion of which nothing is decided: the variables of its sites, the labels that it begins
+/// with, and the label that sites take.
+#[derive(Clone, Copy)]
+pub(crate) struct Expansion<'a> {
+    pub variables: &'a Variables,
+    pub at: &'a [u8],
+    pub alpha: u32,
+}
+
 /// Adds what the label of the expansion costs by itself: it is paid if any site takes it, where
 /// none has it before.
 fn add_own(
     form: &mut Quadratic,
     nodes: &mut Vec<u32>,
-    variables: &Variables,
-    at: &[u8],
-    alpha: u32,
+    expansion: &Expansion,
     used: bool,
     cost: u64,
 ) -> Result<(), AllocError>
-    requires used { used ≡ is_used (length at.now) (labelling at.now) alpha }
-    requires opened { AreAllOpen (Expand alpha) at.now variables.now.choices.items }
-    requires numbering { IsNumbering variables.now.choices.items variables.now.of_sites.items }
-    requires few { length at.now ≤ site_limit }
+    requires used { used ≡ has_label expansion.now expansion.now.alpha }
+    requires opened { IsOpenExpansion expansion.now }
     requires cost { cost ≤ label_cost_limit }
-    requires nodes { open_count variables.now.choices.items ≤ vec_len form.old.weights }
-    requires room { vec_len form.old.weights < form_nodes }
-    requires bounded { IsQuadraticBounded term_limit form.old }
+    requires form { HasRoomForLabel expansion.now form.old }
     ensures wider { OnOk result (GrowsBy 1 label_terms form.old form.new) }
     ensures adds { OnOk result (AddsHidden form.old form.new
-        (λ x. count_if (uses alpha at.now variables.now.choices.items alpha x) cost)) }
+        (λ x. count_if (takes_label expansion.now expansion.now.alpha x) cost)) }
 {
     if used {
         return Ok(());
     }
-    list_each(nodes, variables)?;
+    list_each(nodes, expansion.variables)?;
     form.add_if_any(nodes, cost)
 }
 
@@ -54,30 +56,24 @@ fn add_own(
 fn add_other(
     form: &mut Quadratic,
     nodes: &mut Vec<u32>,
-    variables: &Variables,
-    at: &[u8],
-    alpha: u32,
+    expansion: &Expansion,
     label: u32,
     used: bool,
     cost: u64,
 ) -> Result<(), AllocError>
-    requires other { label ≢ alpha }
-    requires used { used ≡ is_used (length at.now) (labelling at.now) label }
-    requires opened { AreAllOpen (Expand alpha) at.now variables.now.choices.items }
-    requires numbering { IsNumbering variables.now.choices.items variables.now.of_sites.items }
-    requires few { length at.now ≤ site_limit }
+    requires other { label ≢ expansion.now.alpha }
+    requires used { used ≡ has_label expansion.now label }
+    requires opened { IsOpenExpansion expansion.now }
     requires cost { cost ≤ label_cost_limit }
-    requires nodes { open_count variables.now.choices.items ≤ vec_len form.old.weights }
-    requires room { vec_len form.old.weights < form_nodes }
-    requires bounded { IsQuadraticBounded term_limit form.old }
+    requires form { HasRoomForLabel expansion.now form.old }
     ensures wider { OnOk result (GrowsBy 1 label_terms form.old form.new) }
     ensures adds { OnOk result (AddsHidden form.old form.new
-        (λ x. count_if (uses alpha at.now variables.now.choices.items label x) cost)) }
+        (λ x. count_if (takes_label expansion.now label x) cost)) }
 {
     if !used {
         return Ok(());
     }
-    list_having(nodes, variables, at, label)?;
+    list_having(nodes, expansion.variables, expansion.at, label)?;
     form.add_unless_all(nodes, cost)
 }
 
@@ -85,32 +81,26 @@ fn add_other(
 fn add_label(
     form: &mut Quadratic,
     nodes: &mut Vec<u32>,
-    variables: &Variables,
-    at: &[u8],
-    alpha: u32,
+    expansion: &Expansion,
     label: u32,
     used: bool,
     cost: u64,
 ) -> Result<(), AllocError>
-    requires used { used ≡ is_used (length at.now) (labelling at.now) label }
-    requires opened { AreAllOpen (Expand alpha) at.now variables.now.choices.items }
-    requires numbering { IsNumbering variables.now.choices.items variables.now.of_sites.items }
-    requires few { length at.now ≤ site_limit }
+    requires used { used ≡ has_label expansion.now label }
+    requires opened { IsOpenExpansion expansion.now }
     requires cost { cost ≤ label_cost_limit }
-    requires nodes { open_count variables.now.choices.items ≤ vec_len form.old.weights }
-    requires room { vec_len form.old.weights < form_nodes }
-    requires bounded { IsQuadraticBounded term_limit form.old }
+    requires form { HasRoomForLabel expansion.now form.old }
     ensures wider { OnOk result (GrowsBy 1 label_terms form.old form.new) }
     ensures adds { OnOk result (AddsHidden form.old form.new
-        (λ x. count_if (uses alpha at.now variables.now.choices.items label x) cost)) }
+        (λ x. count_if (takes_label expansion.now label x) cost)) }
 {
     if cost == 0 {
         return Ok(());
     }
-    if label == alpha {
-        return add_own(form, nodes, variables, at, alpha, used, cost);
+    if label == expansion.alpha {
+        return add_own(form, nodes, expansion, used, cost);
     }
-    add_other(form, nodes, variables, at, alpha, label, used, cost)
+    add_other(form, nodes, expansion, label, used, cost)
 }
 
 /// Adds what the labels cost by themselves to the form of an expansion of which nothing is decided,
@@ -139,20 +129,16 @@ pub fn add_label_costs(
         (costs_below (length costs.now) alpha at.now variables.now.choices.items costs.now)) }
 {
     let marks = mark_used(at);
+    let expansion = Expansion {
+        variables,
+        at,
+        alpha,
+    };
     let mut nodes = Vec::new(alloc);
     for label in 0..costs.len() {
         let cost = costs[label].unsigned_abs();
         let used = marks[label];
-        add_label(
-            form,
-            &mut nodes,
-            variables,
-            at,
-            alpha,
-            label as u32,
-            used,
-            cost,
-        )?;
+        add_label(form, &mut nodes, &expansion, label as u32, used, cost)?;
     }
     Ok(())
 }

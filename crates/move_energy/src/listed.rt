@@ -1,20 +1,20 @@
 //! The yes-no energy of a move of which few sites are open, added up from the open sites and their
 //! pairs.
-ghost use Rattle.std.specs.Prelude.{◌≡◌, ◌<◌, ◌≤◌, All, length, vec_len, OnOk, sum_by};
+ghost use Rattle.std.specs.Prelude.{◌≡◌, ◌<◌, ◌≤◌, All, length, OnOk, sum_by};
 ghost use Rattle.label_field.specs.Limits.{site_limit};
-ghost use Rattle.move_energy.specs.BySite.{AreBySite};
 ghost use Rattle.labellings.specs.Energies.{labelling};
 ghost use Rattle.pseudo_bool.specs.Limits.{term_limit};
-ghost use Rattle.compile_cut.specs.Quadratics.{IsQuadraticBounded};
-ghost use Rattle.cost_store.specs.Posed.{IsPosed, IsAsked, WhereMeant};
-ghost use Rattle.move_energy.specs.Choices.{choice_at, open_rank, open_count, made_by, IsNumbering, AreOpenSites};
+ghost use Rattle.cost_store.specs.Posed.{WhereMeant};
+ghost use Rattle.move_energy.specs.Choices.{choice_at, made_by};
 ghost use Rattle.move_energy.specs.Built.{AddsCost, IsLonger};
+ghost use Rattle.move_energy.specs.OpenMoves.{IsValuedMove, IsNumberedMove, WhereNumbered};
+ghost use Rattle.move_energy.specs.OpenMoves.{HasOpenNodes, IsFormOfOpen, AreSitesListed};
 ghost use Rattle.move_energy.specs.Problems.{IsFitPair, Stands};
 
+use crate::MoveEnergy;
 use crate::building::add_site;
 use crate::listed_pairs::{Adds, add_listed_pairs};
-use crate::variables::Variables;
-use crate::{MoveEnergy, Neighbours};
+use crate::open_moves::{NumberedMove, OpenSites};
 use compile_cut::Quadratic;
 use cost_store::Problem;
 use labellings::Move;
@@ -22,30 +22,22 @@ use std::alloc::{AllocError, Global};
 
 /// Adds what each listed site costs.
 fn add_listed_sites<F: Fn(u32, u32) -> i64 + Sync, V: Fn(u32, u32) -> i64 + Sync>(
-    problem: &Problem<F, V>,
+    step: &NumberedMove<F, V>,
     form: &mut Quadratic,
-    at: &[u8],
-    change: Move,
-    variables: &Variables,
     opened: &[u32],
 )
-    requires posed { IsPosed F.Fn V.Fn problem.now }
-    requires asked { IsAsked problem.now at.now change }
-    requires choices { length variables.now.choices.items ≡ length at.now }
-    requires numbering { IsNumbering variables.now.choices.items variables.now.of_sites.items }
-    requires variables { vec_len form.old.weights ≡ open_count variables.now.choices.items }
-    requires bounded { IsQuadraticBounded 0 form.old }
-    requires listed { All (λ site. site < length at.now) opened.now }
+    requires step { IsNumberedMove F.Fn V.Fn step.now }
+    requires form { HasOpenNodes 0 step.now.variables.now.choices.items form.old }
+    requires listed { All (λ site. site < length step.now.at.now) opened.now }
     requires few { length opened.now ≤ site_limit }
     ensures longer { IsLonger (length opened.now) form.old form.new }
-    ensures adds { WhereMeant F.Fn V.Fn problem.now (λ m. AddsCost form.old form.new (λ x. sum_by
-        (λ p. m.data_cost p (made_by change (labelling at.now)
-        (choice_at variables.now.choices.items) (open_rank variables.now.choices.items)
-        x p)) opened.now)) }
+    ensures adds { WhereNumbered F.Fn V.Fn step.now (λ m move f choice variable.
+        AddsCost form.old form.new (λ x.
+        sum_by (λ p. m.data_cost p (made_by move f choice variable x p)) opened.now)) }
 {
     for index in 0..opened.len() {
-        let end = variables.end(at, opened[index]);
-        add_site(problem, form, change, opened[index], end);
+        let end = step.variables.end(step.at, opened[index]);
+        add_site(step.problem, form, step.change, opened[index], end);
     }
 }
 
@@ -60,42 +52,32 @@ impl MoveEnergy {
         &mut self,
         alloc: Global,
         problem: &Problem<F, V>,
-        ends: &Neighbours,
-        opened: &[u32],
+        sites: &OpenSites,
         at: &[u8],
         change: Move,
     ) -> Result<(), AllocError>
-        requires asked { IsAsked problem.now at.now change }
-        requires choices { length self.old.variables.choices.items ≡ length at.now }
-        requires posed { IsPosed F.Fn V.Fn problem.now }
-        requires by_site { AreBySite problem.now.pairs ends.now }
-        requires listed { AreOpenSites self.old.variables.choices.items opened.now }
+        requires valued { IsValuedMove F.Fn V.Fn problem.now at.now change
+            self.old.variables.choices.items }
+        requires sites { AreSitesListed problem.now.pairs self.old.variables.choices.items
+            sites.now }
         requires fit { WhereMeant F.Fn V.Fn problem.now
             (λ m. All (IsFitPair m change (labelling at.now)
             (choice_at self.old.variables.choices.items)) m.pairs) }
         ensures kept { self.new.variables.choices.items ≡ self.old.variables.choices.items }
-        ensures bounded { OnOk result (IsQuadraticBounded term_limit self.new.form) }
-        ensures few { OnOk result (vec_len self.new.form.weights ≤ site_limit) }
-        ensures numbering { OnOk result (IsNumbering self.new.variables.choices.items
-            self.new.variables.of_sites.items) }
-        ensures variables { OnOk result (vec_len self.new.form.weights ≡ open_count
-            self.new.variables.choices.items) }
+        ensures form { OnOk result (IsFormOfOpen term_limit self.new) }
         ensures built { WhereMeant F.Fn V.Fn problem.now
             (λ m. OnOk result (Stands m change at.now self.new)) }
     {
-        let count = self.variables.number_listed(opened)?;
+        let count = self.variables.number_listed(sites.opened)?;
         let form = Quadratic::zero(alloc, count)?;
         self.form = form;
-        add_listed_sites(problem, &mut self.form, at, change, &self.variables, opened);
-        add_listed_pairs(
+        let step = NumberedMove {
             problem,
-            ends,
-            &mut self.form,
             at,
             change,
-            &self.variables,
-            opened,
-            Adds::Costs,
-        )
+            variables: &self.variables,
+        };
+        add_listed_sites(&step, &mut self.form, sites.opened);
+        add_listed_pairs(&step, sites, &mut self.form, Adds::Costs)
     }
 }

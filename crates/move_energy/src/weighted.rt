@@ -5,22 +5,25 @@ ghost use Rattle.std.specs.Prelude.{◌≡◌, ◌<◌, ◌≤◌, ◌+◌, ◌-
 ghost use Rattle.sums.specs.Sums.{count_if};
 ghost use Rattle.label_field.specs.Limits.{site_limit, pair_limit};
 ghost use Rattle.label_field.specs.PairLists.{IsPair};
-ghost use Rattle.labellings.specs.Energies.{labelling};
 ghost use Rattle.labellings.specs.Moves.{IsRegularPair, IsAllowed};
 ghost use Rattle.pseudo_bool.specs.Energies.{IsValue};
 ghost use Rattle.pseudo_bool.specs.Limits.{term_limit};
 ghost use Rattle.regular.specs.Regularity.{IsRegularTable};
 ghost use Rattle.compile_cut.specs.Quadratics.{IsQuadraticBounded};
-ghost use Rattle.compile_cut.specs.Weights.{weights_size};
-ghost use Rattle.cost_store.specs.Posed.{IsPosed, IsAsked, WhereMeant};
-ghost use Rattle.move_energy.specs.Choices.{choice_at, open_rank, open_count, IsNumbering};
+ghost use Rattle.cost_store.specs.Posed.{WhereMeant};
+ghost use Rattle.move_energy.specs.Choices.{choice_at};
 ghost use Rattle.move_energy.specs.Built.{AddsCost, IsLonger};
+ghost use Rattle.move_energy.specs.OpenMoves.{IsValuedMove, IsNumberedMove, WhereNumbered};
+ghost use Rattle.move_energy.specs.OpenMoves.{HasOpenNodes, IsFormOfOpen, IsAllowedFrom};
+ghost use Rattle.move_energy.specs.OpenMoves.{AreWeightsOf};
 ghost use Rattle.move_energy.specs.Problems.{Stands};
-ghost use Rattle.move_energy.specs.Limits.{surplus_limit, weights_limit};
-ghost use Rattle.move_energy.specs.Weights.{AreWeights, IsOfWeights, are_open, open_weights as weights_of, pair_surplus, unsaved_surplus, weight_at};
+ghost use Rattle.move_energy.specs.Limits.{surplus_limit};
+ghost use Rattle.move_energy.specs.Weights.{IsOfWeights, are_open, open_weights as weights_of};
+ghost use Rattle.move_energy.specs.Weights.{pair_surplus, unsaved_surplus};
 
 use crate::MoveEnergy;
 use crate::costs::{surplus, term};
+use crate::open_moves::NumberedMove;
 use crate::variables::Variables;
 use compile_cut::Quadratic;
 use cost_store::Problem;
@@ -74,27 +77,22 @@ fn are_both_open(variables: &Variables, pair: Pair) -> bool
 /// The surplus of a pair of two open sites, and 0 of any other, which is not asked for its costs.
 #[inline]
 fn open_surplus<F: Fn(u32, u32) -> i64 + Sync, V: Fn(u32, u32) -> i64 + Sync>(
-    problem: &Problem<F, V>,
-    at: &[u8],
-    change: Move,
-    variables: &Variables,
+    step: &NumberedMove<F, V>,
     pair: Pair,
 ) -> i64
-    requires posed { IsPosed F.Fn V.Fn problem.now }
-    requires pair { IsPair (length at.now) pair }
-    requires asked { IsAsked problem.now at.now change }
-    requires choices { length variables.now.choices.items ≡ length at.now }
-    ensures value { WhereMeant F.Fn V.Fn problem.now
-        (λ m. IsRegularPair m change (labelling at.now) pair →
-        result ≡ pos (count_if (are_open (choice_at variables.now.choices.items) pair)
-        (pair_surplus m change (labelling at.now) pair))) }
+    requires step { IsNumberedMove F.Fn V.Fn step.now }
+    requires pair { IsPair (length step.now.at.now) pair }
+    ensures value { WhereNumbered F.Fn V.Fn step.now (λ m move f choice variable.
+        IsRegularPair m move f pair
+        → result ≡ pos (count_if (are_open choice pair) (pair_surplus m move f pair))) }
     ensures range { unsigned_abs result ≤ surplus_limit }
-    ensures open { pos 0 <ℤ result → are_open (choice_at variables.now.choices.items) pair ≡ true }
+    ensures open { pos 0 <ℤ result
+        → are_open (choice_at step.now.variables.now.choices.items) pair ≡ true }
 {
-    if !are_both_open(variables, pair) {
+    if !are_both_open(step.variables, pair) {
         return 0;
     }
-    let table = term(problem, at, change, pair);
+    let table = term(step.problem, step.at, step.change, pair);
     surplus(&table)
 }
 
@@ -126,60 +124,43 @@ fn add_saving(form: &mut Quadratic, first: u32, second: u32, surplus: i64) -> Re
 /// Adds what a pair of two open sites saves where both are at 1, and nothing for any other pair.
 #[inline]
 pub(crate) fn add_surplus<F: Fn(u32, u32) -> i64 + Sync, V: Fn(u32, u32) -> i64 + Sync>(
-    problem: &Problem<F, V>,
+    step: &NumberedMove<F, V>,
     form: &mut Quadratic,
-    at: &[u8],
-    change: Move,
-    variables: &Variables,
     pair: Pair,
 ) -> Result<(), AllocError>
-    requires posed { IsPosed F.Fn V.Fn problem.now }
-    requires pair { IsPair (length at.now) pair }
-    requires asked { IsAsked problem.now at.now change }
-    requires choices { length variables.now.choices.items ≡ length at.now }
-    requires numbering { IsNumbering variables.now.choices.items variables.now.of_sites.items }
-    requires variables { vec_len form.old.weights ≡ open_count variables.now.choices.items }
-    requires bounded { IsQuadraticBounded term_limit form.old }
+    requires step { IsNumberedMove F.Fn V.Fn step.now }
+    requires pair { IsPair (length step.now.at.now) pair }
+    requires form { HasOpenNodes term_limit step.now.variables.now.choices.items form.old }
     ensures longer { OnOk result (IsLonger 1 form.old form.new) }
-    ensures adds { OnOk result
-        (WhereMeant F.Fn V.Fn problem.now (λ m. IsRegularPair m change (labelling at.now)
-        pair → AddsCost form.old form.new (λ x. unsaved_surplus m change (labelling at.now)
-        (choice_at variables.now.choices.items) (open_rank variables.now.choices.items) x pair))) }
+    ensures adds { OnOk result (WhereNumbered F.Fn V.Fn step.now (λ m move f choice variable.
+        IsRegularPair m move f pair
+        → AddsCost form.old form.new (λ x. unsaved_surplus m move f choice variable x pair))) }
 {
-    let surplus = open_surplus(problem, at, change, variables, pair);
+    let surplus = open_surplus(step, pair);
     if surplus <= 0 {
         return Ok(());
     }
-    let first = variables.of_sites[pair.first as usize];
-    let second = variables.of_sites[pair.second as usize];
+    let first = step.variables.of_sites[pair.first as usize];
+    let second = step.variables.of_sites[pair.second as usize];
     add_saving(form, first, second, surplus)
 }
 
 /// Adds what each pair of two open sites saves.
 fn add_surpluses<F: Fn(u32, u32) -> i64 + Sync, V: Fn(u32, u32) -> i64 + Sync>(
-    problem: &Problem<F, V>,
+    step: &NumberedMove<F, V>,
     form: &mut Quadratic,
-    at: &[u8],
-    change: Move,
-    variables: &Variables,
 ) -> Result<(), AllocError>
-    requires posed { IsPosed F.Fn V.Fn problem.now }
-    requires asked { IsAsked problem.now at.now change }
-    requires choices { length variables.now.choices.items ≡ length at.now }
-    requires numbering { IsNumbering variables.now.choices.items variables.now.of_sites.items }
-    requires variables { vec_len form.old.weights ≡ open_count variables.now.choices.items }
-    requires bounded { IsQuadraticBounded site_limit form.old }
+    requires step { IsNumberedMove F.Fn V.Fn step.now }
+    requires form { HasOpenNodes site_limit step.now.variables.now.choices.items form.old }
     ensures nodes { OnOk result (vec_len form.new.weights ≡ vec_len form.old.weights) }
     ensures small { OnOk result (IsQuadraticBounded (site_limit + pair_limit) form.new) }
-    ensures adds { OnOk result
-        (WhereMeant F.Fn V.Fn problem.now (λ m. IsAllowed m change (labelling at.now) →
-        AddsCost form.old form.new (λ x. sum_by (unsaved_surplus m change (labelling at.now)
-        (choice_at variables.now.choices.items)
-        (open_rank variables.now.choices.items) x) m.pairs))) }
+    ensures adds { OnOk result (WhereNumbered F.Fn V.Fn step.now (λ m move f choice variable.
+        IsAllowed m move f → AddsCost form.old form.new
+        (λ x. sum_by (unsaved_surplus m move f choice variable x) m.pairs))) }
 {
-    for index in 0..problem.pairs.len() {
-        let pair = problem.pairs.get(index);
-        add_surplus(problem, form, at, change, variables, pair)?;
+    for index in 0..step.problem.pairs.len() {
+        let pair = step.problem.pairs.get(index);
+        add_surplus(step, form, pair)?;
     }
     Ok(())
 }
@@ -197,29 +178,25 @@ impl MoveEnergy {
         at: &[u8],
         change: Move,
     ) -> Result<(), AllocError>
-        requires asked { IsAsked problem.now at.now change }
-        requires choices { length self.old.variables.choices.items ≡ length at.now }
-        requires posed { IsPosed F.Fn V.Fn problem.now }
-        requires count { length weights.now ≡ length at.now }
-        requires size { weights_size weights.now ≤ weights_limit }
-        requires weights { WhereMeant F.Fn V.Fn problem.now
-            (λ m. AreWeights m change (labelling at.now)
-            (choice_at self.old.variables.choices.items) weights.now) }
-        requires allowed { WhereMeant F.Fn V.Fn problem.now
-            (λ m. IsAllowed m change (labelling at.now)) }
+        requires valued { IsValuedMove F.Fn V.Fn problem.now at.now change
+            self.old.variables.choices.items }
+        requires weights { AreWeightsOf F.Fn V.Fn problem.now at.now change
+            self.old.variables.choices.items weights.now }
+        requires allowed { IsAllowedFrom F.Fn V.Fn problem.now at.now change }
         ensures kept { self.new.variables.choices.items ≡ self.old.variables.choices.items }
-        ensures small { OnOk result (IsQuadraticBounded (site_limit + pair_limit) self.new.form) }
-        ensures few { OnOk result (vec_len self.new.form.weights ≤ site_limit) }
-        ensures numbering { OnOk result (IsNumbering self.new.variables.choices.items
-            self.new.variables.of_sites.items) }
-        ensures variables { OnOk result (vec_len self.new.form.weights ≡ open_count
-            self.new.variables.choices.items) }
+        ensures form { OnOk result (IsFormOfOpen (site_limit + pair_limit) self.new) }
         ensures built { WhereMeant F.Fn V.Fn problem.now
             (λ m. OnOk result (Stands m change at.now self.new)) }
     {
         let count = self.variables.number()?;
         let form = open_weights(alloc, &self.variables, count, weights)?;
         self.form = form;
-        add_surpluses(problem, &mut self.form, at, change, &self.variables)
+        let step = NumberedMove {
+            problem,
+            at,
+            change,
+            variables: &self.variables,
+        };
+        add_surpluses(&step, &mut self.form)
     }
 }

@@ -9,13 +9,15 @@ use Rattle.labellings.specs.declared.change.Move.{Move}
 use Rattle.labellings.specs.Energies.{Instance, labelling, energy, plain_energy}
 use Rattle.labellings.specs.Moves.{IsAllowed, label_after, labelling_made}
 use Rattle.pseudo_bool.specs.Energies.{assignment}
-use Rattle.compile_cut.specs.Quadratics.{quadratic_value}
+use Rattle.label_field.specs.Limits.{site_limit}
+use Rattle.pseudo_bool.specs.Limits.{term_limit}
+use Rattle.compile_cut.specs.Quadratics.{quadratic_value, IsQuadraticBounded}
 use Rattle.compile_cut.specs.Weights.{weights_size}
 use Rattle.move_energy.specs.declared.choice.Choice.{Choice}
 use Rattle.move_energy.specs.declared.building.MoveEnergy.{MoveEnergy}
 use Rattle.move_energy.specs.declared.error.BuildError.{BuildError}
 use Rattle.move_energy.specs.Choices.{bit_of, choice_at, value_of, AreOpenSites}
-use Rattle.move_energy.specs.Problems.{IsPrepareRefusal}
+use Rattle.move_energy.specs.Problems.{IsPrepareRefusal, Stands}
 use Rattle.move_energy.specs.Limits.{weights_limit}
 use Rattle.move_energy.specs.Weights.{AreWeights}
 use Rattle.sums.specs.Sums.{count_if}
@@ -26,6 +28,7 @@ use Rattle.move_energy.specs.BySite.{AreBySite, IsListing, met_at}
 use Rattle.deciding.specs.Listed.{AreListed, changes}
 use Rattle.deciding.specs.Decisions.{IsSmallestLeast}
 use Rattle.deciding.specs.MoveValues.{move_value}
+use Rattle.deciding.specs.Rising.{IsRiseTable, IsTableOf}
 use Rattle.moves.specs.declared.workspace.Workspace.{Workspace}
 
 -- the pairs by their sites, once they were grouped
@@ -71,6 +74,46 @@ KnowsWeights m move f space =
     AreWeights m move (labelling f) (choice_at space.built.variables.choices.items)
     space.deciding.bounds.greatest.items
 
+-- the move is asked of a posed problem, and the pairs are by their sites, once they were grouped
+pub record IsReadyMove {F V : Type 0} (f : Closure F) (v : Closure V) (problem : Problem F V)
+    (at : List ℕ) (move : Move) (space : Workspace) : Type 0 where
+  pub posed : IsPosed f v problem
+  pub asked : IsAsked problem at move
+  pub by_site : IsGroupedFor problem.pairs space
+
+-- the sites of the move are decided: the workspace has a choice for each, the lists of those that
+-- are open, their weights, and the table of the move's rises
+pub record IsWeighedMove {F V : Type 0} (f : Closure F) (v : Closure V) (problem : Problem F V)
+    (at : List ℕ) (move : Move) (space : Workspace) : Type 0 where
+  pub posed : IsPosed f v problem
+  pub asked : IsAsked problem at move
+  pub count : length space.built.variables.choices.items ≡ length at
+  pub near : HasListsOfMove problem.pairs move at space
+  pub sized : AreWeightsSized (length at) space
+  pub weights : WhereMeant f v problem (λ m. KnowsWeights m move at space)
+  pub labels : IsRiseTable problem.data_cost.labels space.deciding.table
+  pub rises : WhereMeant f v problem (λ m. IsTableOf m move space.deciding.table)
+
+-- the form of the workspace stands for what is open of the move, and is of a size that can be cut
+pub record IsOpenForm {F V : Type 0} (f : Closure F) (v : Closure V) (problem : Problem F V)
+    (at : List ℕ) (move : Move) (space : Workspace) : Type 0 where
+  pub bounded : IsQuadraticBounded term_limit space.built.form
+  pub few : vec_len space.built.form.weights ≤ site_limit
+  pub stands : WhereMeant f v problem (λ m. Stands m move at space.built)
+
+-- each site keeps its choice
+abbrev pub KeepsChoices : Workspace → Workspace → Type 0
+KeepsChoices old new = new.built.variables.choices.items ≡ old.built.variables.choices.items
+
+-- what is left of the move can be cut: it is listed where a move is to look at the listed sites
+-- alone, there is a choice for each site, and the form is in its limits
+pub record IsReadyToCut (pairs : PairList) (at : List ℕ) (move : Move) (nodes : ℕ)
+    (space : Workspace) : Type 0 where
+  pub near : IsRestWhereListed pairs move at space
+  pub choices : length space.built.variables.choices.items ≡ length at
+  pub bounded : IsQuadraticBounded term_limit space.built.form
+  pub few : vec_len space.built.form.weights ≤ nodes
+
 -- the value of each site's variable, once its choice is settled
 abbrev pub site_values : List Choice → ℕ → Bool
 site_values choices p = bit_of (choice_at choices p) false
@@ -106,13 +149,6 @@ TellsChange changed f g = (IsTrue changed → g ≢ f) × (IsFalse changed → g
 -- as many sites and labels as before
 abbrev pub KeepsSizes : LabelField → LabelField → Type 0
 KeepsSizes old new = (new.labels ≡ old.labels) × (length new.at ≡ length old.at)
-
--- the move is asked of a posed problem, and there is a choice for each site
-pub record IsValuedMove {F V : Type 0} (f : Closure F) (v : Closure V) (problem : Problem F V)
-    (at : List ℕ) (move : Move) (choices : List Choice) : Type 0 where
-  pub posed : IsPosed f v problem
-  pub asked : IsAsked problem at move
-  pub count : length choices ≡ length at
 
 -- the sum of a value over the pairs that are counted at a site, where its label changes
 abbrev pub moved_met : Neighbours → (ℕ → Bool) → (Pair → ℕ) → ℕ → ℕ
@@ -162,12 +198,6 @@ MakesPlain m move f made = (bits : List Bool)
 abbrev pub IsBuiltPlain : Instance → Move → List ℕ → MoveEnergy → Result Unit BuildError → Type 0
 IsBuiltPlain m move f made (Ok done) = IsAllowed m move (labelling f) × MakesPlain m move f made
 IsBuiltPlain m move f made (Err e) = IsPrepareRefusal m move (labelling f) e
-
--- the move from these labels is allowed
-abbrev pub IsAllowedFrom : {F V : Type 0} → Closure F → Closure V → Problem F V → List ℕ → Move
-    → Type 0
-IsAllowedFrom {F} {V} f v problem at move =
-    WhereMeant f v problem (λ m. IsAllowed m move (labelling at))
 
 -- what was grouped and decided stays as it is
 abbrev pub KeepsDecided : Workspace → Workspace → Type 0

@@ -29,6 +29,9 @@ use std::alloc::{AllocError, Global};
 /// A later expansion looks near the changes where less than one in so many sites changed.
 const CHANGED_SHARE: usize = 32;
 
+/// So it does where a move has parts: then a whole move takes less time.
+const CHANGED_SHARE_OF_PARTS: usize = 64;
+
 /// The most stages of an expansion: where none of so many is closed, the expansion is made whole.
 const STAGE_LIMIT: u32 = 64;
 
@@ -36,9 +39,21 @@ const STAGE_LIMIT: u32 = 64;
 /// is made whole.
 const OPENED_SHARE: usize = 2;
 
-/// Whether few sites that have not the label changed since a move.
-fn are_few(stamps: &[u32], since: u32, at: &[u8], alpha: u32) -> bool
-    requires { length stamps.now ≡ length at.now }
+/// Where less than one in so many sites changed, a move in so many parts looks near the changes.
+fn share_of(parts: usize) -> usize
+    ensures { 0 < result }
+{
+    if parts > 1 {
+        CHANGED_SHARE_OF_PARTS
+    } else {
+        CHANGED_SHARE
+    }
+}
+
+/// Whether less than one in so many sites changed since a move and has not the label.
+fn are_few(stamps: &[u32], since: u32, at: &[u8], alpha: u32, share: usize) -> bool
+    requires some { 0 < share }
+    requires count { length stamps.now ≡ length at.now }
 {
     let mut changed = 0usize;
     for site in 0..stamps.len() {
@@ -46,7 +61,7 @@ fn are_few(stamps: &[u32], since: u32, at: &[u8], alpha: u32) -> bool
             changed += 1;
         }
     }
-    changed < stamps.len().div_ceil(CHANGED_SHARE)
+    changed < stamps.len().div_ceil(share)
 }
 
 /// Whether an expansion looks near the changes alone: its label was expanded before and few sites
@@ -56,6 +71,7 @@ fn can_look<F: Fn(u32, u32) -> i64 + Sync, V: Fn(u32, u32) -> i64 + Sync>(
     labelling: &Labelling,
     alpha: u32,
     changes: &Changes,
+    parts: usize,
 ) -> bool
     ensures metric { IsTrue result → IsTrue problem.now.smooth_cost.by_metric }
     ensures free { IsTrue result → AreFree (costs_in problem.now.label_costs) }
@@ -69,7 +85,13 @@ fn can_look<F: Fn(u32, u32) -> i64 + Sync, V: Fn(u32, u32) -> i64 + Sync>(
         && since > 0
         && alpha < labelling.labels()
         && changes.stamps.len() == labelling.sites() as usize
-        && are_few(&changes.stamps, since, labelling.as_slice(), alpha)
+        && are_few(
+            &changes.stamps,
+            since,
+            labelling.as_slice(),
+            alpha,
+            share_of(parts),
+        )
 }
 
 /// Makes the first stage ready.
@@ -201,7 +223,8 @@ pub(crate) fn make_later<F: Fn(u32, u32) -> i64 + Sync, V: Fn(u32, u32) -> i64 +
     ensures refused { IfErr result
         (IsMoveRefusal (H.refuses how.now) labelling.old.labels (Expand alpha)) }
 {
-    if !how.decides_first() || !can_look(problem, labelling, alpha, changes) {
+    let parts = how.parts(labelling.sites() as usize);
+    if !how.decides_first() || !can_look(problem, labelling, alpha, changes, parts) {
         return Ok(None);
     }
     if !look(

@@ -9,7 +9,8 @@ ghost use Rattle.labellings.specs.Energies.{pair_cost as cost_of_pair};
 ghost use Rattle.cost_store.specs.Limits.{pair_cost_limit, data_energy_limit, smooth_energy_limit};
 ghost use Rattle.cost_store.specs.Posed.{IsPosed, WhereMeant, IsAsked};
 ghost use Rattle.moves.specs.Building.{moves_site, moved_met, HasChanges, AreChangesListed};
-ghost use Rattle.moves.specs.Building.{IsValuedMove, LowersEnergy, changed_here, rise_by};
+ghost use Rattle.moves.specs.Building.{LowersEnergy, changed_here, rise_by};
+ghost use Rattle.move_energy.specs.OpenMoves.{IsValuedMove};
 
 use crate::lowering::{is_negative, lowers_all, made_label, pair_rise, site_rise};
 use crate::workspace::Workspace;

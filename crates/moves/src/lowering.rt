@@ -7,7 +7,8 @@ ghost use Rattle.labellings.specs.Energies.{pair_cost as cost_of_pair};
 ghost use Rattle.labellings.specs.Moves.{labelling_made};
 ghost use Rattle.cost_store.specs.Limits.{site_cost_limit, pair_cost_limit, data_energy_limit, smooth_energy_limit};
 ghost use Rattle.cost_store.specs.Posed.{IsPosed, WhereMeant, IsAsked};
-ghost use Rattle.moves.specs.Building.{site_values, IsValuedMove, LowersEnergy, rise_by};
+ghost use Rattle.moves.specs.Building.{site_values, LowersEnergy, rise_by};
+ghost use Rattle.move_energy.specs.OpenMoves.{IsValuedMove};
 
 use crate::taking::value_of;
 use cost_store::Problem;

@@ -10,18 +10,19 @@ ghost use Rattle.move_energy.specs.declared.choice.Choice.TheVariants.{Zero};
 ghost use Rattle.move_energy.specs.Choices.{choice_at, value_of, open_count, IsNumbering};
 ghost use Rattle.move_energy.specs.Choices.{AreOpenSites};
 ghost use Rattle.stages.specs.Looking.{is_marked, IsClosedIn, AreTaking};
-ghost use Rattle.moves.specs.Building.{IsAllowedFrom, IsValuedMove, KeepsDecided};
+ghost use Rattle.move_energy.specs.OpenMoves.{IsAllowedFrom, IsValuedMove, AreSitesListed};
+ghost use Rattle.moves.specs.Building.{KeepsDecided};
 ghost use Rattle.moves.specs.Problems.{IsCutRefusal};
 ghost use Rattle.moves.specs.Stages.{IsStageLeast, IsStageReady, AreStageZeros, EndsMove};
 
-use crate::one_move::cut_small;
+use crate::one_move::{cut_small, least_nodes};
 use crate::workspace::Workspace;
 use crate::{How, MoveError};
 use compile_cut::Quadratic;
 use cost_store::Problem;
 use label_field::Pairs;
 use labellings::Move;
-use move_energy::{MoveEnergy, Neighbours};
+use move_energy::{MoveEnergy, OpenSites};
 use std::alloc::{AllocError, Global};
 use std::mem::replace;
 
@@ -33,18 +34,11 @@ pub(crate) enum Standing {
     Open,
 }
 
-/// The sites that a stage looks at: those that are open, listed, and the neighbours of all sites.
-#[derive(Clone, Copy)]
-struct StageSites<'a> {
-    ends: &'a Neighbours,
-    opened: &'a [u32],
-}
-
 /// The cut of a partly fixed move, over the listed open sites: a bit for each.
 fn cut_stage<F: Fn(u32, u32) -> i64 + Sync, V: Fn(u32, u32) -> i64 + Sync, H: How>(
     problem: &Problem<F, V>,
     built: &mut MoveEnergy,
-    sites: &StageSites,
+    sites: &OpenSites,
     at: &[u8],
     change: Move,
     how: &H,
@@ -53,8 +47,7 @@ fn cut_stage<F: Fn(u32, u32) -> i64 + Sync, V: Fn(u32, u32) -> i64 + Sync, H: Ho
     requires ready { H.ready how.now }
     requires valued { IsValuedMove F.Fn V.Fn problem.now at.now change
         built.old.variables.choices.items }
-    requires by_site { AreBySite problem.now.pairs sites.now.ends.now }
-    requires opened { AreOpenSites built.old.variables.choices.items sites.now.opened.now }
+    requires sites { AreSitesListed problem.now.pairs built.old.variables.choices.items sites.now }
     requires allowed { IsAllowedFrom F.Fn V.Fn problem.now at.now change }
     ensures kept { built.new.variables.choices.items ≡ built.old.variables.choices.items }
     ensures numbering { OnOk result (IsNumbering built.new.variables.choices.items
@@ -66,9 +59,10 @@ fn cut_stage<F: Fn(u32, u32) -> i64 + Sync, V: Fn(u32, u32) -> i64 + Sync, H: Ho
     ensures refused { IfErr result (IsCutRefusal (H.refuses how.now)) }
 {
     let alloc = *built.form.weights.allocator();
-    built.build_listed(alloc, problem, sites.ends, sites.opened, at, change)?;
+    built.build_listed(alloc, problem, sites, at, change)?;
     let form = replace(&mut built.form, Quadratic::new(alloc));
-    cut_small(alloc, form, how.strip_sites(), how, cutting)
+    let small = least_nodes(how.parts(usize::MAX), at.len(), true).max(how.strip_sites());
+    cut_small(alloc, form, small, how, cutting)
 }
 
 /// What is done with what a cut showed: where the sites that take the label are not closed in, more
@@ -138,7 +132,7 @@ pub(crate) fn make_stage<F: Fn(u32, u32) -> i64 + Sync, V: Fn(u32, u32) -> i64 +
         AreStageZeros m alpha at.now space.old → AreStageZeros m alpha at.now space.new)) }
     ensures refused { IfErr result (IsCutRefusal (H.refuses how.now)) }
 {
-    let sites = StageSites {
+    let sites = OpenSites {
         ends: &space.deciding.ends,
         opened: &space.stage.opened,
     };

@@ -14,7 +14,9 @@ ghost use Rattle.deciding.specs.MoveValues.{move_value};
 ghost use Rattle.deciding.specs.Rising.{IsRiseTable, IsTableOf};
 ghost use Rattle.closing_in.specs.Agreeing.{Agree};
 ghost use Rattle.moves.specs.Building.{IsGroupedFor, HasListsOfMove, IsNearWhereListed, IsRestWhereListed};
-ghost use Rattle.moves.specs.Building.{AreWeightsSized, KnowsWeights, IsBuiltPlain, IsBuiltMove};
+ghost use Rattle.moves.specs.Building.{IsReadyMove, IsWeighedMove, IsOpenForm, KeepsChoices, KeepsDecided};
+ghost use Rattle.moves.specs.Building.{IsReadyToCut, IsBuiltPlain, IsBuiltMove};
+ghost use Rattle.move_energy.specs.OpenMoves.{IsValuedMove, IsAllowedFrom};
 ghost use Rattle.cost_store.specs.LabelCosts.{costs_of, AreCosts};
 ghost use Rattle.moves.specs.LabelCosts.{IsFreeFor};
 ghost use Rattle.labellings.specs.declared.change.Move.TheVariants.{Expand};
@@ -24,7 +26,7 @@ use cost_store::{Problem, costs_of, has_cost};
 use deciding::{Bounds, Deciding, Lists, MoveToFind, RiseNumbers};
 use label_field::Pairs;
 use labellings::Move;
-use move_energy::{BuildError, MoveEnergy, Neighbours, add_label_costs};
+use move_energy::{BuildError, MoveEnergy, Neighbours, OpenSites, add_label_costs};
 use solvers::How;
 use stages::Stage;
 use std::alloc::{AllocError, Global};
@@ -74,10 +76,11 @@ pub fn give_numbers_back(alloc: Global, listed: bool, of_sites: &mut Vec<u32>) {
 
 /// The workspace of a run: what decides the sites of its moves, once the pairs were grouped by
 /// their sites, the energy of its moves, the strips in which they are closed in, where its later
-/// expansions look, and the lists of its cuts.
+/// expansions look, and the lists of its cuts. And whether the way to cut had a net of the run.
 #[derive(Drop)]
 pub struct Workspace {
     pub grouped: bool,
+    pub shared: bool,
     pub deciding: Deciding,
     pub built: MoveEnergy,
     pub strips: Strips,
@@ -92,6 +95,7 @@ impl Workspace {
     {
         Workspace {
             grouped: false,
+            shared: false,
             deciding: Deciding::empty(alloc),
             built: MoveEnergy::new(alloc),
             strips: Strips::new(alloc),
@@ -142,21 +146,12 @@ fn decide<F: Fn(u32, u32) -> i64 + Sync, V: Fn(u32, u32) -> i64 + Sync>(
     at: &[u8],
     change: Move,
 ) -> Result<(), BuildError>
-    requires asked { IsAsked problem.now at.now change }
-    requires posed { IsPosed F.Fn V.Fn problem.now }
-    requires by_site { IsGroupedFor problem.now.pairs space.old }
+    requires asked { IsReadyMove F.Fn V.Fn problem.now at.now change space.old }
     ensures by_site { IsGroupedFor problem.now.pairs space.new }
-    ensures near { OnOk result (HasListsOfMove problem.now.pairs change at.now space.new) }
-    ensures choices { OnOk result (length space.new.built.variables.choices.items ≡ length at.now) }
-    ensures sized { OnOk result (AreWeightsSized (length at.now) space.new) }
-    ensures weights { WhereMeant F.Fn V.Fn problem.now (λ m.
-        OnOk result (KnowsWeights m change at.now space.new)) }
+    ensures weighed { OnOk result
+        (IsWeighedMove F.Fn V.Fn problem.now at.now change space.new) }
     ensures decided { WhereMeant F.Fn V.Fn problem.now (λ m. IsDecidedMove m change at.now
         space.new.built.variables.choices.items result) }
-    ensures table { OnOk result
-        (IsRiseTable problem.now.data_cost.labels space.new.deciding.table) }
-    ensures rises { OnOk result (WhereMeant F.Fn V.Fn problem.now (λ m.
-        IsTableOf m change space.new.deciding.table)) }
 {
     space.group(alloc, &problem.pairs)?;
     space.deciding.decide(problem, at, change)?;
@@ -176,34 +171,21 @@ fn build_near<F: Fn(u32, u32) -> i64 + Sync, V: Fn(u32, u32) -> i64 + Sync>(
     at: &[u8],
     change: Move,
 ) -> Result<(), AllocError>
-    requires asked { IsAsked problem.now at.now change }
-    requires posed { IsPosed F.Fn V.Fn problem.now }
-    requires choices { length space.old.built.variables.choices.items ≡ length at.now }
-    requires near { HasListsOfMove problem.now.pairs change at.now space.old }
+    requires weighed { IsWeighedMove F.Fn V.Fn problem.now at.now change space.old }
     requires listed { IsTrue space.old.deciding.lists.listed }
-    requires sized { AreWeightsSized (length at.now) space.old }
-    requires weights { WhereMeant F.Fn V.Fn problem.now
-        (λ m. KnowsWeights m change at.now space.old) }
-    requires allowed { WhereMeant F.Fn V.Fn problem.now
-        (λ m. IsAllowed m change (labelling at.now)) }
-    ensures same { (space.new.grouped ≡ space.old.grouped)
-        × (space.new.deciding ≡ space.old.deciding) }
-    ensures kept { space.new.built.variables.choices.items
-        ≡ space.old.built.variables.choices.items }
-    ensures bounded { OnOk result (IsQuadraticBounded term_limit space.new.built.form) }
-    ensures few { OnOk result (vec_len space.new.built.form.weights ≤ site_limit) }
-    ensures stands { WhereMeant F.Fn V.Fn problem.now
-        (λ m. OnOk result (Stands m change at.now space.new.built)) }
+    requires allowed { IsAllowedFrom F.Fn V.Fn problem.now at.now change }
+    ensures same { KeepsDecided space.old space.new }
+    ensures kept { KeepsChoices space.old space.new }
+    ensures form { OnOk result (IsOpenForm F.Fn V.Fn problem.now at.now change space.new) }
 {
-    space.built.build_weighted_listed(
-        alloc,
-        problem,
-        &space.deciding.ends,
-        &space.deciding.lists.opened,
-        &space.deciding.bounds.greatest,
-        at,
-        change,
-    )
+    let sites = OpenSites {
+        ends: &space.deciding.ends,
+        opened: &space.deciding.lists.opened,
+    };
+    let weights = &space.deciding.bounds.greatest;
+    space
+        .built
+        .build_weighted_listed(alloc, problem, &sites, weights, at, change)
 }
 
 /// The energy of a move from the weights of its open sites, for which all sites and pairs are
@@ -215,24 +197,13 @@ fn build_all<F: Fn(u32, u32) -> i64 + Sync, V: Fn(u32, u32) -> i64 + Sync>(
     at: &[u8],
     change: Move,
 ) -> Result<(), AllocError>
-    requires asked { IsAsked problem.now at.now change }
-    requires posed { IsPosed F.Fn V.Fn problem.now }
-    requires choices { length space.old.built.variables.choices.items ≡ length at.now }
-    requires by_site { IsGroupedFor problem.now.pairs space.old }
+    requires weighed { IsWeighedMove F.Fn V.Fn problem.now at.now change space.old }
     requires far { space.old.deciding.lists.listed ≡ false }
-    requires sized { AreWeightsSized (length at.now) space.old }
-    requires weights { WhereMeant F.Fn V.Fn problem.now
-        (λ m. KnowsWeights m change at.now space.old) }
-    requires allowed { WhereMeant F.Fn V.Fn problem.now
-        (λ m. IsAllowed m change (labelling at.now)) }
+    requires allowed { IsAllowedFrom F.Fn V.Fn problem.now at.now change }
     ensures by_site { IsGroupedFor problem.now.pairs space.new }
     ensures far { space.new.deciding.lists.listed ≡ false }
-    ensures kept { space.new.built.variables.choices.items
-        ≡ space.old.built.variables.choices.items }
-    ensures bounded { OnOk result (IsQuadraticBounded term_limit space.new.built.form) }
-    ensures few { OnOk result (vec_len space.new.built.form.weights ≤ site_limit) }
-    ensures stands { WhereMeant F.Fn V.Fn problem.now
-        (λ m. OnOk result (Stands m change at.now space.new.built)) }
+    ensures kept { KeepsChoices space.old space.new }
+    ensures form { OnOk result (IsOpenForm F.Fn V.Fn problem.now at.now change space.new) }
 {
     give_groups_back(alloc, &mut space.grouped, &mut space.deciding);
     let weights = &space.deciding.bounds.greatest;
@@ -251,24 +222,12 @@ fn build_open<F: Fn(u32, u32) -> i64 + Sync, V: Fn(u32, u32) -> i64 + Sync>(
     at: &[u8],
     change: Move,
 ) -> Result<(), AllocError>
-    requires asked { IsAsked problem.now at.now change }
-    requires posed { IsPosed F.Fn V.Fn problem.now }
-    requires choices { length space.old.built.variables.choices.items ≡ length at.now }
-    requires by_site { IsGroupedFor problem.now.pairs space.old }
-    requires near { HasListsOfMove problem.now.pairs change at.now space.old }
-    requires sized { AreWeightsSized (length at.now) space.old }
-    requires weights { WhereMeant F.Fn V.Fn problem.now
-        (λ m. KnowsWeights m change at.now space.old) }
-    requires allowed { WhereMeant F.Fn V.Fn problem.now
-        (λ m. IsAllowed m change (labelling at.now)) }
+    requires weighed { IsWeighedMove F.Fn V.Fn problem.now at.now change space.old }
+    requires allowed { IsAllowedFrom F.Fn V.Fn problem.now at.now change }
     ensures by_site { IsGroupedFor problem.now.pairs space.new }
     ensures near { IsNearWhereListed problem.now.pairs change at.now space.new }
-    ensures kept { space.new.built.variables.choices.items
-        ≡ space.old.built.variables.choices.items }
-    ensures bounded { OnOk result (IsQuadraticBounded term_limit space.new.built.form) }
-    ensures few { OnOk result (vec_len space.new.built.form.weights ≤ site_limit) }
-    ensures stands { WhereMeant F.Fn V.Fn problem.now
-        (λ m. OnOk result (Stands m change at.now space.new.built)) }
+    ensures kept { KeepsChoices space.old space.new }
+    ensures form { OnOk result (IsOpenForm F.Fn V.Fn problem.now at.now change space.new) }
 {
     if space.deciding.lists.listed {
         build_near(alloc, problem, space, at, change)
@@ -286,26 +245,13 @@ fn build_strips<F: Fn(u32, u32) -> i64 + Sync, V: Fn(u32, u32) -> i64 + Sync>(
     change: Move,
     size: usize,
 ) -> Result<(), AllocError>
-    requires asked { IsAsked problem.now at.now change }
-    requires posed { IsPosed F.Fn V.Fn problem.now }
     requires some { 0 < size }
-    requires choices { length space.old.built.variables.choices.items ≡ length at.now }
-    requires near { HasListsOfMove problem.now.pairs change at.now space.old }
-    requires table { IsRiseTable problem.now.data_cost.labels space.old.deciding.table }
-    requires rises { WhereMeant F.Fn V.Fn problem.now (λ m.
-        IsTableOf m change space.old.deciding.table) }
-    requires sized { AreWeightsSized (length at.now) space.old }
-    requires weights { WhereMeant F.Fn V.Fn problem.now
-        (λ m. KnowsWeights m change at.now space.old) }
-    requires allowed { WhereMeant F.Fn V.Fn problem.now
-        (λ m. IsAllowed m change (labelling at.now)) }
+    requires weighed { IsWeighedMove F.Fn V.Fn problem.now at.now change space.old }
+    requires allowed { IsAllowedFrom F.Fn V.Fn problem.now at.now change }
     ensures by_site { IsGroupedFor problem.now.pairs space.new }
     ensures near { OnOk result (IsRestWhereListed problem.now.pairs change at.now space.new) }
     ensures choices { OnOk result (length space.new.built.variables.choices.items ≡ length at.now) }
-    ensures bounded { OnOk result (IsQuadraticBounded term_limit space.new.built.form) }
-    ensures few { OnOk result (vec_len space.new.built.form.weights ≤ site_limit) }
-    ensures stands { WhereMeant F.Fn V.Fn problem.now
-        (λ m. OnOk result (Stands m change at.now space.new.built)) }
+    ensures form { OnOk result (IsOpenForm F.Fn V.Fn problem.now at.now change space.new) }
     ensures agree { WhereMeant F.Fn V.Fn problem.now (λ m.
         Agree m.sites (move_value m change (labelling at.now))
         (choice_at space.old.built.variables.choices.items) →
@@ -405,27 +351,20 @@ fn build_rest<F: Fn(u32, u32) -> i64 + Sync, V: Fn(u32, u32) -> i64 + Sync>(
     at: &[u8],
     change: Move,
 ) -> Result<(), AllocError>
-    requires asked { IsAsked problem.now at.now change }
-    requires posed { IsPosed F.Fn V.Fn problem.now }
-    requires choices { length space.old.built.variables.choices.items ≡ length at.now }
+    requires valued { IsValuedMove F.Fn V.Fn problem.now at.now change
+        space.old.built.variables.choices.items }
     requires near { HasListsOfMove problem.now.pairs change at.now space.old }
-    requires allowed { WhereMeant F.Fn V.Fn problem.now
-        (λ m. IsAllowed m change (labelling at.now)) }
-    ensures same { (space.new.grouped ≡ space.old.grouped)
-        × (space.new.deciding ≡ space.old.deciding) }
-    ensures kept { space.new.built.variables.choices.items
-        ≡ space.old.built.variables.choices.items }
-    ensures bounded { OnOk result (IsQuadraticBounded term_limit space.new.built.form) }
-    ensures few { OnOk result (vec_len space.new.built.form.weights ≤ site_limit) }
-    ensures stands { WhereMeant F.Fn V.Fn problem.now
-        (λ m. OnOk result (Stands m change at.now space.new.built)) }
+    requires allowed { IsAllowedFrom F.Fn V.Fn problem.now at.now change }
+    ensures same { KeepsDecided space.old space.new }
+    ensures kept { KeepsChoices space.old space.new }
+    ensures form { OnOk result (IsOpenForm F.Fn V.Fn problem.now at.now change space.new) }
 {
-    let ends = &space.deciding.ends;
-    let lists = &space.deciding.lists;
-    if lists.listed {
-        return space
-            .built
-            .build_listed(alloc, problem, ends, &lists.opened, at, change);
+    if space.deciding.lists.listed {
+        let sites = OpenSites {
+            ends: &space.deciding.ends,
+            opened: &space.deciding.lists.opened,
+        };
+        return space.built.build_listed(alloc, problem, &sites, at, change);
     }
     match space.built.build(alloc, problem, at, change) {
         Ok(()) => Ok(()),
@@ -444,14 +383,10 @@ fn build_decided<F: Fn(u32, u32) -> i64 + Sync, V: Fn(u32, u32) -> i64 + Sync, H
     how: &H,
 ) -> Result<(), BuildError>
     requires ready { H.ready how.now }
-    requires asked { IsAsked problem.now at.now change }
-    requires posed { IsPosed F.Fn V.Fn problem.now }
-    requires by_site { IsGroupedFor problem.now.pairs space.old }
+    requires asked { IsReadyMove F.Fn V.Fn problem.now at.now change space.old }
     ensures by_site { IsGroupedFor problem.now.pairs space.new }
-    ensures near { OnOk result (IsRestWhereListed problem.now.pairs change at.now space.new) }
-    ensures choices { OnOk result (length space.new.built.variables.choices.items ≡ length at.now) }
-    ensures bounded { OnOk result (IsQuadraticBounded term_limit space.new.built.form) }
-    ensures few { OnOk result (vec_len space.new.built.form.weights ≤ site_limit) }
+    ensures left { OnOk result
+        (IsReadyToCut problem.now.pairs at.now change site_limit space.new) }
     ensures built { WhereMeant F.Fn V.Fn problem.now
         (λ m. IsBuiltPlain m change at.now space.new.built result) }
 {
@@ -477,14 +412,10 @@ fn build_whole<F: Fn(u32, u32) -> i64 + Sync, V: Fn(u32, u32) -> i64 + Sync>(
     at: &[u8],
     change: Move,
 ) -> Result<(), BuildError>
-    requires asked { IsAsked problem.now at.now change }
-    requires posed { IsPosed F.Fn V.Fn problem.now }
-    requires by_site { IsGroupedFor problem.now.pairs space.old }
+    requires asked { IsReadyMove F.Fn V.Fn problem.now at.now change space.old }
     ensures by_site { IsGroupedFor problem.now.pairs space.new }
-    ensures near { OnOk result (IsRestWhereListed problem.now.pairs change at.now space.new) }
-    ensures choices { OnOk result (length space.new.built.variables.choices.items ≡ length at.now) }
-    ensures bounded { OnOk result (IsQuadraticBounded term_limit space.new.built.form) }
-    ensures few { OnOk result (vec_len space.new.built.form.weights ≤ site_limit) }
+    ensures left { OnOk result
+        (IsReadyToCut problem.now.pairs at.now change site_limit space.new) }
     ensures built { WhereMeant F.Fn V.Fn problem.now
         (λ m. IsBuiltPlain m change at.now space.new.built result) }
 {
@@ -502,14 +433,10 @@ fn build_plain<F: Fn(u32, u32) -> i64 + Sync, V: Fn(u32, u32) -> i64 + Sync, H: 
     how: &H,
 ) -> Result<(), BuildError>
     requires ready { H.ready how.now }
-    requires asked { IsAsked problem.now at.now change }
-    requires posed { IsPosed F.Fn V.Fn problem.now }
-    requires by_site { IsGroupedFor problem.now.pairs space.old }
+    requires asked { IsReadyMove F.Fn V.Fn problem.now at.now change space.old }
     ensures by_site { IsGroupedFor problem.now.pairs space.new }
-    ensures near { OnOk result (IsRestWhereListed problem.now.pairs change at.now space.new) }
-    ensures choices { OnOk result (length space.new.built.variables.choices.items ≡ length at.now) }
-    ensures bounded { OnOk result (IsQuadraticBounded term_limit space.new.built.form) }
-    ensures few { OnOk result (vec_len space.new.built.form.weights ≤ site_limit) }
+    ensures left { OnOk result
+        (IsReadyToCut problem.now.pairs at.now change site_limit space.new) }
     ensures built { WhereMeant F.Fn V.Fn problem.now
         (λ m. IsBuiltPlain m change at.now space.new.built result) }
 {
@@ -530,17 +457,12 @@ fn build_costed<F: Fn(u32, u32) -> i64 + Sync, V: Fn(u32, u32) -> i64 + Sync>(
     alpha: u32,
     costs: &[i64],
 ) -> Result<(), BuildError>
-    requires asked { IsAsked problem.now at.now (Expand alpha) }
-    requires posed { IsPosed F.Fn V.Fn problem.now }
+    requires asked { IsReadyMove F.Fn V.Fn problem.now at.now (Expand alpha) space.old }
     requires label_costs { AreCosts problem.now.data_cost.labels costs.now }
     requires few { problem.now.data_cost.labels ≤ label_limit }
-    requires by_site { IsGroupedFor problem.now.pairs space.old }
     ensures by_site { IsGroupedFor problem.now.pairs space.new }
-    ensures near { OnOk result
-        (IsRestWhereListed problem.now.pairs (Expand alpha) at.now space.new) }
-    ensures choices { OnOk result (length space.new.built.variables.choices.items ≡ length at.now) }
-    ensures bounded { OnOk result (IsQuadraticBounded term_limit space.new.built.form) }
-    ensures few { OnOk result (vec_len space.new.built.form.weights ≤ site_limit + label_limit) }
+    ensures left { OnOk result (IsReadyToCut problem.now.pairs at.now (Expand alpha)
+        (site_limit + label_limit) space.new) }
     ensures built { WhereMeant F.Fn V.Fn problem.now (λ m. AreCostsOf m costs.now →
         IsBuiltMove m (Expand alpha) at.now space.new.built result) }
 {
@@ -570,16 +492,12 @@ pub(crate) fn build_move<F: Fn(u32, u32) -> i64 + Sync, V: Fn(u32, u32) -> i64 +
     how: &H,
 ) -> Result<(), BuildError>
     requires ready { H.ready how.now }
-    requires asked { IsAsked problem.now at.now change }
-    requires posed { IsPosed F.Fn V.Fn problem.now }
+    requires asked { IsReadyMove F.Fn V.Fn problem.now at.now change space.old }
     requires few { problem.now.data_cost.labels ≤ label_limit }
     requires free { IsFreeFor change (costs_of problem.now.label_costs) }
-    requires by_site { IsGroupedFor problem.now.pairs space.old }
     ensures by_site { IsGroupedFor problem.now.pairs space.new }
-    ensures near { OnOk result (IsRestWhereListed problem.now.pairs change at.now space.new) }
-    ensures choices { OnOk result (length space.new.built.variables.choices.items ≡ length at.now) }
-    ensures bounded { OnOk result (IsQuadraticBounded term_limit space.new.built.form) }
-    ensures few { OnOk result (vec_len space.new.built.form.weights ≤ site_limit + label_limit) }
+    ensures left { OnOk result (IsReadyToCut problem.now.pairs at.now change
+        (site_limit + label_limit) space.new) }
     ensures built { WhereMeant F.Fn V.Fn problem.now
         (λ m. IsBuiltMove m change at.now space.new.built result) }
 {

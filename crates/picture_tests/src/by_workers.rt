@@ -75,12 +75,23 @@ impl Write for Kept {
 /// A picture of 64 by 64 samples, 3 in each fourth column and else 0.
 pub fn stripes(alloc: Global) -> Result<Vec<u8>, AllocError> {
     let mut picture = Vec::from_slice(alloc, b"P5\n64 64\n3\n")?;
-    for _ in 0..64 {
-        for _ in 0..16 {
-            picture.extend_from_slice(&[0, 3, 0, 0])?;
-        }
-    }
+    push_stripes(&mut picture, 1_024)?;
     Ok(picture)
+}
+
+/// The same of 64 by 128 samples.
+fn tall_stripes(alloc: Global) -> Result<Vec<u8>, AllocError> {
+    let mut picture = Vec::from_slice(alloc, b"P5\n64 128\n3\n")?;
+    push_stripes(&mut picture, 2_048)?;
+    Ok(picture)
+}
+
+/// Adds so many times four samples, of which one is 3.
+fn push_stripes(picture: &mut Vec<u8>, stripes: usize) -> Result<(), AllocError> {
+    for _ in 0..stripes {
+        picture.extend_from_slice(&[0, 3, 0, 0])?;
+    }
+    Ok(())
 }
 
 /// Whether workers restore the picture to itself, and tell this energy, all of it of pairs.
@@ -114,8 +125,28 @@ pub fn is_kept<R: Threads + Wait + Sync + Abort>(
         && writer.bytes.as_slice() == picture
 }
 
-/// How often a gate that always gives this answer is asked, where the picture is restored to
-/// itself.
+/// How often a gate that always gives this answer is asked, where a picture is restored to itself
+/// and has this energy.
+fn calls_for<R: Threads + Wait + Sync + Abort>(
+    rt: &R,
+    alloc: Global,
+    picture: &[u8],
+    energy: i64,
+    options: Options,
+    answer: bool,
+) -> Option<u32> {
+    let counter = Counter {
+        calls: AtomicU32::new(0),
+        answer,
+    };
+    if is_kept(rt, alloc, picture, energy, options, &counter) {
+        Some(counter.calls.load(Ordering::SeqCst))
+    } else {
+        None
+    }
+}
+
+/// The same of the picture of 64 by 64 samples. In each row each of 16 stripes costs 2.
 fn gate_calls<R: Threads + Wait + Sync + Abort>(
     rt: &R,
     alloc: Global,
@@ -123,15 +154,7 @@ fn gate_calls<R: Threads + Wait + Sync + Abort>(
     answer: bool,
 ) -> Result<Option<u32>, AllocError> {
     let picture = stripes(alloc)?;
-    let counter = Counter {
-        calls: AtomicU32::new(0),
-        answer,
-    };
-    if is_kept(rt, alloc, picture.as_slice(), 2_048, options, &counter) {
-        Ok(Some(counter.calls.load(Ordering::SeqCst)))
-    } else {
-        Ok(None)
-    }
+    Ok(calls_for(rt, alloc, picture.as_slice(), 2_048, options, answer))
 }
 
 #[test]
@@ -164,17 +187,23 @@ fn pictures_are_alike(rt: HostRuntime) -> Result<(), Fail> {
     Ok(())
 }
 
+/// In so many blocks a picture of 64 by 64 samples has too few nodes a block to be shared. One of
+/// 64 by 128 has just enough for 32 blocks: each has its first turn.
 #[test]
 fn many_blocks_are_alike(rt: HostRuntime) -> Result<(), Fail> {
-    let calls = gate_calls(
-        &rt,
-        rt.alloc(),
-        Options {
-            blocks: 256,
-            ..SHORT
-        },
-        true,
-    )?;
-    assert!(rt; calls.is_some());
+    let alloc = rt.alloc();
+    let most = Options {
+        blocks: 256,
+        ..SHORT
+    };
+    let many = Options {
+        blocks: 32,
+        ..SHORT
+    };
+    assert!(rt; gate_calls(&rt, alloc, most, true)? == Some(0));
+    assert!(rt; gate_calls(&rt, alloc, many, true)? == Some(0));
+    let picture = tall_stripes(alloc)?;
+    let calls = calls_for(&rt, alloc, picture.as_slice(), 4_096, many, true);
+    assert!(rt; matches!(calls, Some(calls) if calls >= 32));
     Ok(())
 }

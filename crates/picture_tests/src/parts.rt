@@ -2,11 +2,14 @@
 use crate::by_workers::{TWO, is_kept};
 use rounds::Open;
 use std::alloc::{AllocError, Global};
+use std::process::Abort;
+use std::rt::Files;
+use std::sync::Wait;
+use std::sync::atomic::{AtomicBool, Ordering};
 use std::test::Fail;
+use std::thread::Threads;
+use std::{fs, thread};
 use worker_options::Options;
-
-/// By so many threads the picture is restored: each has one part of its sites.
-const THREADS: &[u32] = &[2, 3];
 
 /// A picture of 256 by 256 samples, 3 in each fourth column and else 0.
 fn wide_stripes(alloc: Global) -> Result<Vec<u8>, AllocError> {
@@ -17,18 +20,85 @@ fn wide_stripes(alloc: Global) -> Result<Vec<u8>, AllocError> {
     Ok(picture)
 }
 
-// In each of 256 rows each of 64 stripes costs 2, its two borders, and would cost 3 if it were
-// black.
+/// Whether so many threads restore the picture to itself. In each of 256 rows each of 64 stripes
+/// costs 2, its two borders, and would cost 3 if it were black. There are no rounds: so only the
+/// parts of moves start threads.
+fn is_kept_by<R: Threads + Wait + Sync + Abort + AllocGlobal>(
+    rt: &R,
+    picture: &[u8],
+    threads: u32,
+) -> bool {
+    let options = Options {
+        threads,
+        rounds: 0,
+        ..TWO
+    };
+    is_kept(rt, rt.alloc(), picture, 32_768, options, &Open)
+}
+
+/// How many threads the process has, as the system tells it: 0 where it does not.
+fn threads_now<R: Files + AllocGlobal>(rt: &R) -> u32 {
+    let Ok(status) = fs::read_to_string(rt, "/proc/self/status") else {
+        return 0;
+    };
+    for line in status.lines() {
+        if let Some(number) = line.strip_prefix("Threads:") {
+            return number.trim().parse::<u32>().unwrap_or(0);
+        }
+    }
+    0
+}
+
+/// How often the number of threads is looked at.
+const LOOKS: u32 = 100_000_000;
+
+/// How many threads the process had at most, from now until all is done.
+fn most_threads<R: Files + AllocGlobal>(rt: &R, done: &AtomicBool) -> u32 {
+    let mut most = 0;
+    for _ in 0..LOOKS {
+        most = most.max(threads_now(rt));
+        if done.load(Ordering::SeqCst) {
+            return most;
+        }
+    }
+    most
+}
+
+/// Whether so many threads restore the picture to itself, and how many there were meanwhile, beside
+/// the one that looks.
+fn count_threads<R: Threads + Wait + Sync + Files + Abort + AllocGlobal>(
+    rt: &R,
+    picture: &[u8],
+    threads: u32,
+) -> (bool, u32) {
+    let done = AtomicBool::new(false);
+    let (is_right, most) = thread::join(
+        rt,
+        || {
+            let is_right = is_kept_by(rt, picture, threads);
+            done.store(true, Ordering::SeqCst);
+            is_right
+        },
+        || most_threads(rt, &done),
+    );
+    (is_right, most.saturating_sub(1))
+}
+
+/// By so many threads the picture is restored.
+const THREADS: &[u32] = &[1, 2, 3];
+
+/// One thread closes in each move alone. Two and three close in its parts side by side, and no
+/// further one does.
 #[test]
 fn parts_keep_the_picture(rt: HostRuntime) -> Result<(), Fail> {
     let picture = wide_stripes(rt.alloc())?;
     for threads in THREADS {
-        let options = Options {
-            threads: *threads,
-            ..TWO
-        };
-        let is_right = is_kept(&rt, rt.alloc(), picture.as_slice(), 32_768, options, &Open);
+        let (is_right, most) = count_threads(&rt, picture.as_slice(), *threads);
         assert!(rt; is_right, "{threads}");
+        assert!(rt;
+            (most > 1) == (*threads > 1) && most <= *threads,
+            "{threads}: {most}"
+        );
     }
     Ok(())
 }

@@ -1,19 +1,22 @@
 -- What parts tell, taken over one after another.
-use Rattle.std.proofs.Common.{◌≡◌, ◌⊎◌, ℕ, zero, suc, ◌+◌, ◌-◌, ◌*◌, ◌<◌, ◌≤◌, Bool, List, length, Result, Ok, Err, ℤ, refl, sym, ap, ◌∙◌, inl, inr, subst, arith}
+use Rattle.std.proofs.Common.{◌≡◌, ◌⊎◌, ℕ, zero, suc, ◌+◌, ◌-◌, ◌*◌, ◌/◌, ◌%◌, ◌<◌, ◌≤◌, ◌≢◌, Bool, List, length, Result, Ok, Err, ℤ, refl, sym, ap, ◌∙◌, inl, inr, subst, arith}
 use Rattle.std.specs.Prelude.{slice_index_or, IfOk}
 use Rattle.std.specs.Global.{Vec}
+use Rattle.std.specs.Result.{IsOk}
 use Rattle.std.proofs.lemmas.Bool.{cases_lt}
+use Rattle.std.proofs.lemmas.Nat.{div-add-mod'}
+use Rattle.std.proofs.Math.Nat.{div-lt_iff_lt-mul, eq-zero-or-pos, mod-lt, mul_comm}
 use Rattle.labellings.specs.declared.change.Move.{Move}
-use Rattle.label_field.specs.PairLists.{PairList}
 use Rattle.labellings.specs.Energies.{Instance, IsInstance, labelling}
 use Rattle.labellings.specs.Moves.{IsAllowed}
 use Rattle.move_energy.specs.declared.choice.Choice.{Choice}
 use Rattle.move_energy.specs.declared.choice.Choice.TheVariants.{Open, Zero, One}
 use Rattle.move_energy.specs.Choices.{choice_at}
 use Rattle.deciding.specs.declared.finding.RiseNumbers.{RiseNumbers}
+use Rattle.deciding.specs.Decisions.{Passes}
 use Rattle.deciding.specs.MoveValues.{move_value}
 use Rattle.deciding.specs.Parts.{AreRisesOf, ArePassedChoices}
-use Rattle.strips.specs.Parts.{ArePartCodes, IsPartAnswer, OfParts, FillsPart, IsPartJoined, known_or, coded_at, part_start}
+use Rattle.strips.specs.Parts.{ArePartCodes, IsPartAnswer, OfParts, FillsPart, IsPartJoined, DecidesTold, known_or, coded_at, part_start}
 use Rattle.deciding.proofs.Putting.{passed_forced}
 use Rattle.deciding.proofs.Rises.{move_falls}
 use Rattle.closing_in.specs.Agreeing.{Agree}
@@ -127,3 +130,53 @@ pub passed_agree : (m : Instance) (move : Move) (f : ℕ → ℕ) (choice : ℕ 
 passed_agree m move f choice pairs allowed passed =
     forced_agree m.sites (move_value m move f) passed.decisions choice
     (passed_forced (move_value m move f) passed.decisions (move_falls m move f pairs allowed) passed.passed) passed.shown
+
+-- ---- each site has its part
+
+-- the part of a site, and its place there
+part_place : (n size count p : ℕ) → n ≤ size * count → p < n
+    → (i : ℕ) × (i < count) × (k : ℕ) × (k < part_start n size (i + 1) - part_start n size i) × (part_start n size i + k ≡ p)
+part_place n size count p cover l =
+    let some : 0 < size = elim (eq-zero-or-pos size) [
+      | inl none ↦ absurd (omega (arith, ap (λ q. q * count) none, cover, l))
+      | inr more ↦ more
+    ] in
+    let whole = div-add-mod' p size in
+    let less = mod-lt p some in
+    let next = one_more size (p / size) in
+    let fits : p / size < count = (div-lt_iff_lt-mul some).1 (omega (arith, cover, l, mul_comm size count)) in
+    (p / size, fits, p % size, omega (arith, whole, less, next, l), omega (arith, whole, less, next, l))
+
+stays_told : (c t : Choice) → t ≢ Open → known_or c t ≢ Open
+stays_told Open t told = told
+stays_told Zero t told = λ is. cc is
+stays_told One t told = λ is. cc is
+
+told_here : {E : Type 0} (r : Result (Vec ℕ) E) (P Q : List ℕ → Type 0) (X : Type 0) → IsOk r → IfOk r (λ v. P v.items) → IfOk r (λ v. Q v.items)
+    → ((codes : List ℕ) → P codes → Q codes → X) → X
+told_here (Ok v) P Q X ok p q f = f v.items p q
+told_here (Err e) P Q X ok p q f = absurd (cc ok)
+
+-- what each part tells of its sites is told of all
+pub all_told : {E : Type 0} (numbers : RiseNumbers) (before old new : List Choice) (size count : ℕ) (parts : List (Result (Vec ℕ) E)) (default : Result (Vec ℕ) E)
+    → old ≡ before → length before ≡ length numbers.at.now → length parts ≡ count → length before ≤ size * count
+    → OfParts (IsPartAnswer numbers before size) parts
+    → ((i : ℕ) (part : _) → i < length parts → IsOk (slice_index_or parts i part))
+    → OfParts (IsPartJoined size old new) parts → DecidesTold numbers before new
+all_told {E} numbers before old new size count parts default same long all cover closed whole joined m move p b told ds l test =
+    let at = part_place (length before) size count p cover (omega (arith, l, long)) in
+    let i = at.0 in
+    let here : i < length parts = omega (arith, at.1, all) in
+    let k = at.2 in
+    let from : part_start (length old) size i ≡ part_start (length before) size i = ap (λ (cs : List Choice). part_start (length cs) size i) same in
+    let start : part_start (length numbers.at.now) size i ≡ part_start (length before) size i = ap (λ n. part_start n size i) (sym long) in
+    let end : part_start (length numbers.at.now) size (i + 1) ≡ part_start (length before) size (i + 1) = ap (λ n. part_start n size (i + 1)) (sym long) in
+    told_here (slice_index_or parts i default) (IsPartAnswer numbers before size i) (IsPartJoined size old new i) (choice_at new p ≢ Open)
+    (whole i default here) (closed i default here) (joined i default here) (λ codes part takes.
+    let inside : k < part_start (length numbers.at.now) size (i + 1) - part_start (length numbers.at.now) size i = omega (arith, at.3, start, end) in
+    let is : part_start (length numbers.at.now) size i + k ≡ p = omega (arith, at.4, start) in
+    let P : ℕ → Type 0 = λ q. Passes (move_value m move (labelling numbers.at.now)) ds.decisions q b in
+    let code : coded_at codes k ≢ Open = part.tried m move k b told ds inside (subst P (sym is) test) in
+    let stands : choice_at new p ≡ known_or (choice_at old (part_start (length old) size i + k)) (coded_at codes k) =
+    ap (choice_at new) (sym at.4 ∙ ap (λ q. q + k) (sym from)) ∙ takes k (omega (arith, part.count, inside)) in
+    λ shut. stays_told (choice_at old (part_start (length old) size i + k)) (coded_at codes k) code (sym stands ∙ shut))

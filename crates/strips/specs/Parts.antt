@@ -62,6 +62,15 @@ OfParts P parts =
     (i : ℕ) (part : _) → i < length parts
     → IfOk (slice_index_or parts i part) (λ codes. P i codes.items)
 
+-- each site whose value could be told by what was known before is decided
+abbrev pub DecidesTold : RiseNumbers → List Choice → List Choice → Type 0
+DecidesTold numbers before now = (m : Instance) (move : Move) (p : ℕ) (b : Bool)
+    → AreRisesOf m move numbers
+    → (ds : ArePassedChoices m move (labelling numbers.at.now) (choice_at before))
+    → p < length numbers.at.now
+    → Passes (move_value m move (labelling numbers.at.now)) ds.decisions p b
+    → choice_at now p ≢ Open
+
 -- the codes of part i fill its range
 abbrev pub FillsPart : ℕ → ℕ → ℕ → List ℕ → Type 0
 FillsPart n size i codes = length codes ≡ part_start n size (i + 1) - part_start n size i

@@ -11,7 +11,7 @@ ghost use Rattle.move_energy.specs.Limits.{weights_limit};
 ghost use Rattle.deciding.specs.MoveValues.{move_value};
 ghost use Rattle.deciding.specs.Parts.{AreReadable, ArePassedChoices, WhereRead, site_weight};
 ghost use Rattle.closing_in.specs.Agreeing.{Agree};
-ghost use Rattle.strips.specs.Parts.{IsPartClosed, IsPartAnswer, OfParts};
+ghost use Rattle.strips.specs.Parts.{IsPartClosed, IsPartAnswer, OfParts, DecidesTold};
 ghost use Rattle.strips.specs.Views.{KeepsChosen, strip_view};
 
 use crate::closing::Strips;
@@ -138,9 +138,10 @@ fn close_each<K: Fork>(
 }
 
 /// Decides and closes in the sites of a move by so many parts, side by side, in strips of so many
-/// open sites. Only what lies near the borders of the parts stays open, and what no strip of a part
-/// can tell. The choices agree with the least assignment with the fewest ones, whatever the number
-/// of parts. It refuses only where memory runs out.
+/// open sites. Each site that can be told by what is known at first is decided. Only what lies near
+/// the borders of the parts stays open, and what no strip of a part can tell. The choices agree
+/// with the least assignment with the fewest ones, whatever the number of parts. It refuses only
+/// where memory runs out.
 pub fn close_parts<K: Fork>(
     fork: &K,
     numbers: &RiseNumbers,
@@ -157,6 +158,7 @@ pub fn close_parts<K: Fork>(
     ensures agree { WhereRead numbers.now (λ m move f. IsInstance m →
         ArePassedChoices m move f (choice_at known.old.items) →
         OnOk result (Agree m.sites (move_value m move f) (choice_at known.new.items))) }
+    ensures told { OnOk result (DecidesTold numbers.now known.old.items known.new.items) }
 {
     let sites = known.len().div_ceil(count);
     let alloc = *known.allocator();

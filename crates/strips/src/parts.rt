@@ -1,5 +1,7 @@
 //! What parts of the sites tell, as codes, and how it is put together.
 ghost use Rattle.std.specs.Prelude.{◌≡◌, ◌⊎◌, ◌+◌, ◌-◌, ◌<◌, ◌≤◌, ℕ, ℤ, Bool, length, IfOk, OnOk};
+ghost use Rattle.std.specs.Prelude.{slice_index_or};
+ghost use Rattle.std.specs.Result.{IsOk};
 ghost use Rattle.label_field.specs.Limits.{site_limit};
 ghost use Rattle.move_energy.specs.Choices.{choice_at};
 ghost use Rattle.closing_in.specs.Agreeing.{Agree};
@@ -93,6 +95,8 @@ pub(crate) fn join_parts(
     requires few { length choices.old ≤ site_limit }
     requires filled { OfParts (FillsPart (length choices.old) size) parts.now }
     ensures count { length choices.new ≡ length choices.old }
+    ensures whole { OnOk result ((i : ℕ) (part : _) → i < length parts.now →
+        IsOk (slice_index_or parts.now i part)) }
     ensures joined { OnOk result (OfParts (IsPartJoined size choices.old choices.new) parts.now) }
     ensures agree { (n : ℕ) (E : (ℕ → Bool) → ℤ) → Agree n E (choice_at choices.old) →
         OfParts (λ i. ArePartCodes n E (start_of (length choices.old) size i)

@@ -1,6 +1,7 @@
-use Rattle.std.proofs.Common.{◌≡◌, ◌<◌, ◌≤◌, ◌+◌, ◌-◌, ◌∙◌, pos, ◌-ℤ◌, w64, to_z, true, false, ap, sym, subst, inl, inr, arith}
+use Rattle.std.proofs.Common.{rules, ℕ, ◌≡◌, ◌<◌, ◌≤◌, ◌+◌, ◌-◌, ◌∙◌, pos, ◌-ℤ◌, w64, to_z, true, false, ap, sym, subst, inl, inr, arith}
 use Rattle.std.proofs.lemmas.Bool.{cases_eq}
 use Rattle.label_field.specs.declared.pair.Pair.{Pair}
+use Rattle.label_field.specs.PairLists.{IsPair}
 use Rattle.move_energy.specs.BySite.{degree, neighbours_start, pair_beside}
 use Rattle.labellings.specs.Energies.{labelling}
 use Rattle.labellings.specs.Moves.{label_after}
@@ -23,8 +24,16 @@ pair_beside-pair-requires-clause-place g c =
     let end = start_read a.step.now.problem.now.pairs a.step.now.ends.now (a.site + 1) _ c.requires.posed.by_site (omega (arith, inside)) c.index-place-end.ensures in
     (omega (arith, start, c.loop-place.auto.place), omega (arith, end, c.loop-place-test.true))
 
-pub pair_rises-rises-requires-clause-end : goal.pair_rises-rises-requires-clause-end
-pair_rises-rises-requires-clause-end g c = λ κs lives. c.pair_beside-pair.ensures.end
+pub pair_rises-rises-requires-clause-pair : goal.pair_rises-rises-requires-clause-pair
+pair_rises-rises-requires-clause-pair g c = λ κs lives.
+    let P : ℕ → Type 0 = λ n. IsPair n c.pair_beside-pair.result in
+    record {
+      posed = c.requires.posed;
+      choices_len = c.requires.choices;
+      pair_is = subst P (sym c.requires.posed.asked.sites) c.pair_beside-pair.ensures.pair;
+      end = c.pair_beside-pair.ensures.end;
+      turned = search rules;
+    }
 
 pub loop-place-init : goal.loop-place-init
 loop-place-init g c =

@@ -7,11 +7,11 @@ use Rattle.move_energy.proofs.label_costs.add_label.Goals as goal
 
 pub returns-then-cost-eq0-clause-adds : goal.returns-then-cost-eq0-clause-adds
 returns-then-cost-eq0-clause-adds c =
-    adds_fixed c.args.form.now (λ x. count_if (uses c.args.alpha c.args.at.now c.args.variables.now.choices.items c.args.label x) c.args.cost) 0
-    (λ x. none_paid (uses c.args.alpha c.args.at.now c.args.variables.now.choices.items c.args.label x) c.args.cost c.if-cost-eq0.true)
+    adds_fixed c.args.form.now (λ x. count_if (uses c.args.expansion.now.alpha c.args.expansion.now.at.now c.args.expansion.now.variables.now.choices.items c.args.label x) c.args.cost) 0
+    (λ x. none_paid (uses c.args.expansion.now.alpha c.args.expansion.now.at.now c.args.expansion.now.variables.now.choices.items c.args.label x) c.args.cost c.if-cost-eq0.true)
 
-pub returns-then-label-alpha-clause-adds : goal.returns-then-label-alpha-clause-adds
-returns-then-label-alpha-clause-adds c =
+pub returns-then-label-expansion-clause-adds : goal.returns-then-label-expansion-clause-adds
+returns-then-label-expansion-clause-adds c =
     on_ok_weaker c.add_own.result (λ adds.
-    let P : ℕ → Type 0 = λ label. AddsHidden c.args.form.now c.add_own.new.form (λ x. count_if (uses c.args.alpha c.args.at.now c.args.variables.now.choices.items label x) c.args.cost) in
-    subst P (sym c.if-label-alpha.true) adds) c.add_own.ensures.adds
+    let P : ℕ → Type 0 = λ label. AddsHidden c.args.form.now c.add_own.new.form (λ x. count_if (uses c.args.expansion.now.alpha c.args.expansion.now.at.now c.args.expansion.now.variables.now.choices.items label x) c.args.cost) in
+    subst P (sym c.if-label-expansion.true) adds) c.add_own.ensures.adds

@@ -16,15 +16,15 @@ loop-label-init c = record {
   adds = adds_fixed c.args.form.now (costs_below 0 c.args.alpha c.args.at.now c.args.variables.now.choices.items c.args.costs.now) 0 (λ x. Rattle.std.proofs.Common.refl);
 }
 
-pub add_label-requires-clause-room : goal.add_label-requires-clause-room
-add_label-requires-clause-room c =
+pub add_label-requires-clause-form : goal.add_label-requires-clause-form
+add_label-requires-clause-form c =
     let choices = c.args.variables.now.choices.items in
-    omega (arith, c.loop-label.invariant.wider.nodes, c.requires.nodes, rank_most choices (length choices), c.requires.opened.count, c.requires.few.0, c.requires.few.1)
-
-pub add_label-requires-clause-bounded : goal.add_label-requires-clause-bounded
-add_label-requires-clause-bounded c =
     let few : 5242880 + 10486 * c.loop-label.label ≤ 8388608 = omega (arith, c.loop-label-test.true, c.requires.few.1) in
-    bounded-weaker (5242880 + 10486 * c.loop-label.label) 8388608 c.loop-label.form few (c.loop-label.invariant.wider.bounded 5242880 c.requires.bounded)
+    record {
+      nodes = omega (arith, c.loop-label.invariant.adds.nodes, c.requires.nodes);
+      room = omega (arith, c.loop-label.invariant.wider.nodes, c.requires.nodes, rank_most choices (length choices), c.requires.opened.count, c.requires.few.0, c.requires.few.1);
+      bounded = bounded-weaker (5242880 + 10486 * c.loop-label.label) 8388608 c.loop-label.form few (c.loop-label.invariant.wider.bounded 5242880 c.requires.bounded);
+    }
 
 pub returns-clause-bounded : goal.returns-clause-bounded
 returns-clause-bounded c =

@@ -8,6 +8,6 @@ use Rattle.move_energy.proofs.listed.add_listed_sites.Given as goal
 abbrev pub invariant-loop-index : goal.invariant-loop-index
 invariant-loop-index g l = record {
   longer : IsLonger l.index l.fn.form l.form;
-  adds : (m : Instance) → IsMeant g.F.Fn g.V.Fn l.problem m →
-      AddsCost l.fn.form l.form (λ x. sum_by (λ p. m.data_cost p (made_by l.change (labelling l.at) (choice_at l.variables.choices.items) (open_rank l.variables.choices.items) x p)) (take l.index l.opened));
+  adds : (m : Instance) → IsMeant g.F.Fn g.V.Fn l.step.problem.now m →
+      AddsCost l.fn.form l.form (λ x. sum_by (λ p. m.data_cost p (made_by l.step.change (labelling l.step.at.now) (choice_at l.step.variables.now.choices.items) (open_rank l.step.variables.now.choices.items) x p)) (take l.index l.opened));
 }

@@ -9,9 +9,9 @@ use Rattle.move_energy.proofs.listed_pairs.add_listed_pairs.Given as goal
 
 abbrev pub invariant-loop-index : goal.invariant-loop-index
 invariant-loop-index g l = record {
-  longer : IsLonger (sum_by (met_at l.ends (open_at l.variables.choices.items) (λ pair. 1)) (take l.index l.opened)) l.fn.form l.form;
-  adds : (m : Instance) → IsMeant g.F.Fn g.V.Fn l.problem m →
-      All (IsRightFor l.adds m l.change (labelling l.at) (choice_at l.variables.choices.items)) l.problem.pairs.list →
-      AddsCost l.fn.form l.form (λ x. sum_by (met_at l.ends (open_at l.variables.choices.items)
-      (added_by_pair l.adds m l.change (labelling l.at) (choice_at l.variables.choices.items) (open_rank l.variables.choices.items) x)) (take l.index l.opened));
+  longer : IsLonger (sum_by (met_at l.sites.ends.now (open_at l.step.variables.now.choices.items) (λ pair. 1)) (take l.index l.sites.opened.now)) l.fn.form l.form;
+  adds : (m : Instance) → IsMeant g.F.Fn g.V.Fn l.step.problem.now m →
+      All (IsRightFor l.adds m l.step.change (labelling l.step.at.now) (choice_at l.step.variables.now.choices.items)) l.step.problem.now.pairs.list →
+      AddsCost l.fn.form l.form (λ x. sum_by (met_at l.sites.ends.now (open_at l.step.variables.now.choices.items)
+      (added_by_pair l.adds m l.step.change (labelling l.step.at.now) (choice_at l.step.variables.now.choices.items) (open_rank l.step.variables.now.choices.items) x)) (take l.index l.sites.opened.now));
 }

@@ -17,25 +17,11 @@ pub loop-index-preserved : goal.loop-index-preserved
 loop-index-preserved g c = record {
   longer = longer_more c.loop-index.index c.args.form.now c.loop-index.form c.add_surplus.new.form c.loop-index.invariant.longer c.in_ok-add_surplus.ensures.longer;
   adds = λ m answers allowed.
-      savings_more m c.args.change (labelling c.args.at.now) (choice_at c.args.variables.now.choices.items) (open_rank c.args.variables.now.choices.items)
-      c.args.form.now c.loop-index.form c.add_surplus.new.form c.loop-index.index c.args.problem.now.pairs.list c.get-pair.result answers.pairs_are
+      savings_more m c.args.step.now.change (labelling c.args.step.now.at.now) (choice_at c.args.step.now.variables.now.choices.items) (open_rank c.args.step.now.variables.now.choices.items)
+      c.args.form.now c.loop-index.form c.add_surplus.new.form c.loop-index.index c.args.step.now.problem.now.pairs.list c.get-pair.result answers.pairs_are
       (omega (arith, c.loop-index-test.true, c.len-index-end.ensures.value)) c.get-pair.ensures.value allowed
       (c.loop-index.invariant.adds m answers allowed) (c.in_ok-add_surplus.ensures.adds m answers);
 }
-
-pub add_surplus-requires-clause-choices : goal.add_surplus-requires-clause-choices
-add_surplus-requires-clause-choices g c = λ κs lives. c.requires.choices
-
-pub add_surplus-requires-clause-numbering : goal.add_surplus-requires-clause-numbering
-add_surplus-requires-clause-numbering g c = λ κs lives. c.requires.numbering
-
-pub add_surplus-requires-clause-variables : goal.add_surplus-requires-clause-variables
-add_surplus-requires-clause-variables g c = λ κs lives. c.loop-index.invariant.longer.nodes ∙ c.requires.variables
-
-pub add_surplus-requires-clause-bounded : goal.add_surplus-requires-clause-bounded
-add_surplus-requires-clause-bounded g c = λ κs lives.
-    let few : 1048576 + c.loop-index.index ≤ 8388608 = omega (arith, c.loop-index-test.true, c.len-index-end.ensures.value, c.len-index-end.ensures.limit) in
-    bounded-weaker (1048576 + c.loop-index.index) 8388608 c.loop-index.form few (c.loop-index.invariant.longer.bounded 1048576 c.requires.bounded)
 
 pub returns-clause-nodes : goal.returns-clause-nodes
 returns-clause-nodes g c = c.loop-index.invariant.longer.nodes
@@ -43,10 +29,21 @@ returns-clause-nodes g c = c.loop-index.invariant.longer.nodes
 pub returns-clause-small : goal.returns-clause-small
 returns-clause-small g c =
     let few : 1048576 + c.loop-index.index ≤ 5242880 = omega (arith, c.loop-index.auto, c.len-index-end.ensures.value, c.len-index-end.ensures.limit) in
-    bounded-weaker (1048576 + c.loop-index.index) 5242880 c.loop-index.form few (c.loop-index.invariant.longer.bounded 1048576 c.requires.bounded)
+    bounded-weaker (1048576 + c.loop-index.index) 5242880 c.loop-index.form few (c.loop-index.invariant.longer.bounded 1048576 c.requires.form.bounded)
 
 pub returns-clause-adds : goal.returns-clause-adds
 returns-clause-adds g c = λ m answers allowed.
-    savings_all m c.args.change (labelling c.args.at.now) (choice_at c.args.variables.now.choices.items) (open_rank c.args.variables.now.choices.items)
-    c.args.form.now c.loop-index.form c.loop-index.index c.args.problem.now.pairs.list answers.pairs_are
+    savings_all m c.args.step.now.change (labelling c.args.step.now.at.now) (choice_at c.args.step.now.variables.now.choices.items) (open_rank c.args.step.now.variables.now.choices.items)
+    c.args.form.now c.loop-index.form c.loop-index.index c.args.step.now.problem.now.pairs.list answers.pairs_are
     (omega (arith, c.loop-index-test.false, c.len-index-end.ensures.value)) (c.loop-index.invariant.adds m answers allowed)
+
+pub add_surplus-requires-clause-step : goal.add_surplus-requires-clause-step
+add_surplus-requires-clause-step g c = λ κs lives. c.requires.step
+
+pub add_surplus-requires-clause-form : goal.add_surplus-requires-clause-form
+add_surplus-requires-clause-form g c = λ κs lives.
+    let few : 1048576 + c.loop-index.index ≤ 8388608 = omega (arith, c.loop-index-test.true, c.len-index-end.ensures.value, c.len-index-end.ensures.limit) in
+    record {
+      variables = c.loop-index.invariant.longer.nodes ∙ c.requires.form.variables;
+      bounded = bounded-weaker (1048576 + c.loop-index.index) 8388608 c.loop-index.form few (c.loop-index.invariant.longer.bounded 1048576 c.requires.form.bounded);
+    }

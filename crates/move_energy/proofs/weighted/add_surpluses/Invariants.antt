@@ -10,7 +10,7 @@ use Rattle.move_energy.proofs.weighted.add_surpluses.Given as goal
 abbrev pub invariant-loop-index : goal.invariant-loop-index
 invariant-loop-index g l = record {
   longer : IsLonger l.index l.fn.form l.form;
-  adds : (m : Instance) → IsMeant g.F.Fn g.V.Fn l.problem m → IsAllowed m l.change (labelling l.at) →
-      AddsCost l.fn.form l.form (λ x. sum_by (unsaved_surplus m l.change (labelling l.at) (choice_at l.variables.choices.items) (open_rank l.variables.choices.items) x)
+  adds : (m : Instance) → IsMeant g.F.Fn g.V.Fn l.step.problem.now m → IsAllowed m l.step.change (labelling l.step.at.now) →
+      AddsCost l.fn.form l.form (λ x. sum_by (unsaved_surplus m l.step.change (labelling l.step.at.now) (choice_at l.step.variables.now.choices.items) (open_rank l.step.variables.now.choices.items) x)
       (take l.index m.pairs));
 }

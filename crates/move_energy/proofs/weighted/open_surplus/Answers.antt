@@ -9,7 +9,7 @@ returns-then-not-are_both_open-clause-value g c = λ m answers regular. surplus_
 
 pub returns-clause-value : goal.returns-clause-value
 returns-clause-value g c = λ m answers regular. surplus_passed c.surplus.result c.surplus.ensures.range ∙
-    surplus_counted m c.args.change (labelling c.args.at.now) c.args.pair _ _ (sym c.are_both_open.ensures ∙ c.if-not-are_both_open.false) regular
+    surplus_counted m c.args.step.now.change (labelling c.args.step.now.at.now) c.args.pair _ _ (sym c.are_both_open.ensures ∙ c.if-not-are_both_open.false) regular
     (c.surplus.ensures.value ∙ ap surplus_of (c.term-table.ensures.table m answers))
 
 pub returns-clause-open : goal.returns-clause-open

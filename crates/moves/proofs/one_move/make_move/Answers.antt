@@ -48,7 +48,7 @@ returns-clause-moved g c = λ m meant.
     let least = ready.1 c.in_ok-bits.bits.items (subst Q c.replace-form.ensures.value c.in_ok-bits.ensures.least) in
     let settled = rw (c.deref.ensures.value) at c.settle.ensures.settled in
     let values = settled_least m c.args.change (labelling c.args.labelling.now.at) _ _ c.in_ok-bits.bits.items pairs
-    (c.in-Ok.ensures.choices ∙ ap (λ (xs : List ℕ). length xs) c.as_slice.ensures.value ∙ c.requires.fits.sites ∙ sym meant.sites_are) settled least in
+    (c.in-Ok.ensures.left.choices ∙ ap (λ (xs : List ℕ). length xs) c.as_slice.ensures.value ∙ c.requires.fits.sites ∙ sym meant.sites_are) settled least in
     let best = c.take_best.ensures.best m meant values in
     (here, ready.0, best.0, best.1, taken_free m c.args.change c.args.problem.now.label_costs meant.costs_are (c.is_taken.ensures.taken c.if-not-is_taken.false))
 
@@ -77,9 +77,6 @@ returns-then-not-is_below-clause-unchanged g c = refl
 pub returns-then-not-is_below-clause-refused : goal.returns-then-not-is_below-clause-refused
 returns-then-not-is_below-clause-refused g c = search rules
 
-pub build_move-requires-clause-by_site : goal.build_move-requires-clause-by_site
-build_move-requires-clause-by_site g c = λ κs lives. c.requires.by_site
-
 pub returns-in-Err-PairNotRegular-clause-by_site : goal.returns-in-Err-PairNotRegular-clause-by_site
 returns-in-Err-PairNotRegular-clause-by_site g c = c.in-Err-PairNotRegular.ensures.by_site
 
@@ -107,12 +104,12 @@ returns-in-Err-OutOfMemory-clause-refused g c = tt
 pub cut_small-requires-clause-bounded : goal.cut_small-requires-clause-bounded
 cut_small-requires-clause-bounded g c =
     let P : Quadratic → Type 0 = λ q. IsQuadraticBounded 8388608 q in
-    subst P (sym c.replace-form.ensures.value) c.in-Ok.ensures.bounded
+    subst P (sym c.replace-form.ensures.value) c.in-Ok.ensures.left.bounded
 
 pub cut_small-requires-clause-few : goal.cut_small-requires-clause-few
 cut_small-requires-clause-few g c =
     let P : Quadratic → Type 0 = λ q. vec_len q.weights ≤ 1048576 + 256 in
-    subst P (sym c.replace-form.ensures.value) c.in-Ok.ensures.few
+    subst P (sym c.replace-form.ensures.value) c.in-Ok.ensures.left.few
 
 pub returns-in_err-bits-clause-by_site : goal.returns-in_err-bits-clause-by_site
 returns-in_err-bits-clause-by_site g c = c.in-Ok.ensures.by_site
@@ -137,15 +134,15 @@ take_best-requires-clause-below g c = λ κs lives.
 
 pub take_best-requires-clause-choices : goal.take_best-requires-clause-choices
 take_best-requires-clause-choices g c = λ κs lives.
-    c.settle.ensures.settled.count ∙ c.in-Ok.ensures.choices ∙ ap (λ (xs : List ℕ). length xs) c.as_slice.ensures.value
+    c.settle.ensures.settled.count ∙ c.in-Ok.ensures.left.choices ∙ ap (λ (xs : List ℕ). length xs) c.as_slice.ensures.value
 
 pub take_best-requires-clause-changes : goal.take_best-requires-clause-changes
 take_best-requires-clause-changes g c = λ κs lives listed.
     let same = c.settle.ensures.same in
     let yes = subst (λ (d : Deciding). IsTrue d.lists.listed) same.1 listed in
-    let near = rw (c.as_slice.ensures.value) at (c.in-Ok.ensures.near yes) in
+    let near = rw (c.as_slice.ensures.value) at (c.in-Ok.ensures.left.near yes) in
     near_changes c.args.problem.now.pairs c.args.change c.args.labelling.now.at _ c.settle.new.self _
-    (c.in-Ok.ensures.choices ∙ ap (λ (xs : List ℕ). length xs) c.as_slice.ensures.value) near same.1 c.settle.ensures.settled
+    (c.in-Ok.ensures.left.choices ∙ ap (λ (xs : List ℕ). length xs) c.as_slice.ensures.value) near same.1 c.settle.ensures.settled
 
 pub returns-clause-by_site : goal.returns-clause-by_site
 returns-clause-by_site g c = λ grouped.
@@ -154,7 +151,7 @@ returns-clause-by_site g c = λ grouped.
     subst E (sym same.1) (c.in-Ok.ensures.by_site (sym same.0 ∙ grouped))
 
 pub settle-requires : goal.settle-requires
-settle-requires g c = λ listed. (c.in-Ok.ensures.near listed).opened
+settle-requires g c = λ listed. (c.in-Ok.ensures.left.near listed).opened
 
 pub returns-clause-sizes : goal.returns-clause-sizes
 returns-clause-sizes g c = c.take_best.ensures.sizes
@@ -203,9 +200,13 @@ build_move-requires-clause-asked g c = λ κs lives.
     let B : ℕ → List ℕ → Type 0 = λ k xs. All (λ label. label < k) xs in
     let C : ℕ → Type 0 = λ k. B k c.as_slice.result.now in
     record {
-      sites = ap (λ (xs : List ℕ). length xs) c.as_slice.ensures.value ∙ c.requires.fits.sites;
-      labels = subst C c.requires.fits.labels c.as_slice.ensures.below;
-      move_of = subst P (c.labels.ensures.value ∙ c.requires.fits.labels) (c.is_below.ensures.0 c.if-not-is_below.false);
+      posed = c.requires.posed;
+      asked = record {
+        sites = ap (λ (xs : List ℕ). length xs) c.as_slice.ensures.value ∙ c.requires.fits.sites;
+        labels = subst C c.requires.fits.labels c.as_slice.ensures.below;
+        move_of = subst P (c.labels.ensures.value ∙ c.requires.fits.labels) (c.is_below.ensures.0 c.if-not-is_below.false);
+      };
+      by_site = c.requires.by_site;
     }
 
 pub returns-clause-taken : goal.returns-clause-taken

@@ -28,7 +28,7 @@ build_open-requires-clause-allowed g c = λ κs lives m meant. (c.in_ok-decide.e
 pub returns-clause-built : goal.returns-clause-built
 returns-clause-built g c = λ m meant.
     let decided = c.in_ok-decide.ensures.decided m meant in
-    let pairs = pairs_meant _ _ _ m c.requires.posed meant in
+    let pairs = pairs_meant _ _ _ m c.requires.asked.posed meant in
     let move = c.args.change in
     let f = labelling c.args.at.now in
     let P : List Choice → Type 0 = λ choices. Agree m.sites (move_value m move f) (choice_at choices) in
@@ -37,41 +37,23 @@ returns-clause-built g c = λ m meant.
     subst P (sym c.in_ok-build_open.ensures.kept) (decided_agree m move f (choice_at c.decide.new.space.built.variables.choices.items) pairs decided.0 decided.1) in (
       decided.0,
       λ bits least. agreed_least m move f (choice_at made.variables.choices.items) made.form (open_rank made.variables.choices.items) (assignment bits) pairs decided.0 agree
-          (c.in_ok-build_open.ensures.stands m meant) least,
+          (c.in_ok-build_open.ensures.form.stands m meant) least,
     )
-
-pub returns-clause-near : goal.returns-clause-near
-returns-clause-near g c = λ listed.
-    let same = c.in_ok-build_open.ensures.kept in
-    near_rest c.args.problem.now.pairs c.args.change c.args.at.now c.build_open.new.space
-    (ap (λ (xs : List Choice). length xs) same ∙ c.in_ok-decide.ensures.choices) (c.in_ok-build_open.ensures.near listed) listed
 
 pub build_strips-requires-clause-allowed : goal.build_strips-requires-clause-allowed
 build_strips-requires-clause-allowed g c = λ κs lives m meant. (c.in_ok-decide.ensures.decided m meant).0
 
-pub build_strips-requires-clause-weights : goal.build_strips-requires-clause-weights
-build_strips-requires-clause-weights g c = λ κs lives m meant. c.in_ok-decide.ensures.weights m meant
-
-pub build_strips-requires-clause-table : goal.build_strips-requires-clause-table
-build_strips-requires-clause-table g c = λ κs lives. c.in_ok-decide.ensures.table
-
-pub build_strips-requires-clause-rises : goal.build_strips-requires-clause-rises
-build_strips-requires-clause-rises g c = λ κs lives m meant. c.in_ok-decide.ensures.rises m meant
-
 pub returns-then-space-size-clause-built : goal.returns-then-space-size-clause-built
 returns-then-space-size-clause-built g c = λ m meant.
     let decided = c.in_ok-decide.ensures.decided m meant in
-    let pairs = pairs_meant _ _ _ m c.requires.posed meant in
+    let pairs = pairs_meant _ _ _ m c.requires.asked.posed meant in
     let made = c.build_strips.new.space.built in
     let agree = c.in_ok-build_strips.ensures.agree m meant
     (decided_agree m c.args.change (labelling c.args.at.now) (choice_at c.decide.new.space.built.variables.choices.items) pairs decided.0 decided.1) in (
       decided.0,
       λ bits least. agreed_least m c.args.change (labelling c.args.at.now) (choice_at made.variables.choices.items) made.form (open_rank made.variables.choices.items)
-          (assignment bits) pairs decided.0 agree (c.in_ok-build_strips.ensures.stands m meant) least,
+          (assignment bits) pairs decided.0 agree (c.in_ok-build_strips.ensures.form.stands m meant) least,
     )
-
-pub build_open-requires-clause-weights : goal.build_open-requires-clause-weights
-build_open-requires-clause-weights g c = λ κs lives m meant. c.in_ok-decide.ensures.weights m meant
 
 pub returns-in_err-build_rest-clause-by_site : goal.returns-in_err-build_rest-clause-by_site
 returns-in_err-build_rest-clause-by_site g c = λ grouped.
@@ -83,26 +65,10 @@ returns-then-branch-clause-by_site g c = λ grouped.
     let E : Neighbours → Type 0 = λ ends. AreBySite c.args.problem.now.pairs ends in
     subst E (sym (ap (λ (d : Deciding). d.ends) c.build_rest.ensures.same.1)) (c.in_ok-close_apart.ensures.near c.if-branch.true).by_site
 
-pub returns-then-branch-clause-near : goal.returns-then-branch-clause-near
-returns-then-branch-clause-near g c = λ listed.
-    let a = c.args in
-    let near = c.in_ok-close_apart.ensures.near c.if-branch.true in
-    let same = c.build_rest.ensures.same in
-    let kept = c.build_rest.ensures.kept in
-    let E : Neighbours → Type 0 = λ ends. AreBySite a.problem.now.pairs ends in
-    let L : Lists → Type 0 = λ lists. AreListed a.change (labelling a.at.now) c.build_rest.new.space.built.variables.choices.items lists in
-    let C : List Choice → Type 0 = λ choices. AreListed a.change (labelling a.at.now) choices c.close_apart.new.space.deciding.lists in
-    near_rest a.problem.now.pairs a.change a.at.now c.build_rest.new.space
-    (ap (λ (xs : List Choice). length xs) kept ∙ c.in_ok-close_apart.ensures.choices c.if-branch.true)
-    record {
-      by_site = subst E (sym (ap (λ (d : Deciding). d.ends) same.1)) near.by_site;
-      lists = subst L (sym (ap (λ (d : Deciding). d.lists) same.1)) (subst C (sym kept) near.lists);
-    } listed
-
 pub returns-then-branch-clause-built : goal.returns-then-branch-clause-built
 returns-then-branch-clause-built g c = λ m meant.
     let closed = c.in_ok-close_apart.ensures.closed m meant c.if-branch.true in
-    let pairs = pairs_meant _ _ _ m c.requires.posed meant in
+    let pairs = pairs_meant _ _ _ m c.requires.asked.posed meant in
     let move = c.args.change in
     let f = labelling c.args.at.now in
     let P : List Choice → Type 0 = λ choices. Agree m.sites (move_value m move f) (choice_at choices) in
@@ -110,5 +76,62 @@ returns-then-branch-clause-built g c = λ m meant.
     let agree : P made.variables.choices.items = subst P (sym c.build_rest.ensures.kept) closed.1 in (
       closed.0,
       λ bits least. agreed_least m move f (choice_at made.variables.choices.items) made.form (open_rank made.variables.choices.items) (assignment bits) pairs closed.0 agree
-          (c.in_ok-build_rest.ensures.stands m meant) least,
+          (c.in_ok-build_rest.ensures.form.stands m meant) least,
     )
+
+pub build_open-requires-clause-weighed : goal.build_open-requires-clause-weighed
+build_open-requires-clause-weighed g c = λ κs lives. c.in_ok-decide.ensures.weighed
+
+pub build_strips-requires-clause-weighed : goal.build_strips-requires-clause-weighed
+build_strips-requires-clause-weighed g c = λ κs lives. c.in_ok-decide.ensures.weighed
+
+pub build_rest-requires-clause-valued : goal.build_rest-requires-clause-valued
+build_rest-requires-clause-valued g c = λ κs lives. record {
+  posed = c.requires.asked.posed;
+  asked = c.requires.asked.asked;
+  count = c.in_ok-close_apart.ensures.choices c.if-branch.true;
+}
+
+pub returns-clause-left : goal.returns-clause-left
+returns-clause-left g c =
+    let form = c.in_ok-build_open.ensures.form in
+    let count = ap (λ (xs : List Choice). length xs) c.in_ok-build_open.ensures.kept ∙ c.in_ok-decide.ensures.weighed.count in
+    record {
+      near = λ listed.
+          near_rest c.args.problem.now.pairs c.args.change c.args.at.now c.build_open.new.space count (c.in_ok-build_open.ensures.near listed) listed;
+      choices = count;
+      bounded = form.bounded;
+      few = form.few;
+    }
+
+pub returns-then-space-size-clause-left : goal.returns-then-space-size-clause-left
+returns-then-space-size-clause-left g c =
+    let form = c.in_ok-build_strips.ensures.form in
+    record {
+      near = c.in_ok-build_strips.ensures.near;
+      choices = c.in_ok-build_strips.ensures.choices;
+      bounded = form.bounded;
+      few = form.few;
+    }
+
+pub returns-then-branch-clause-left : goal.returns-then-branch-clause-left
+returns-then-branch-clause-left g c =
+    let a = c.args in
+    let closed = c.in_ok-close_apart.ensures.near c.if-branch.true in
+    let same = c.build_rest.ensures.same in
+    let kept = c.build_rest.ensures.kept in
+    let form = c.in_ok-build_rest.ensures.form in
+    let count = ap (λ (xs : List Choice). length xs) kept ∙ c.in_ok-close_apart.ensures.choices c.if-branch.true in
+    let E : Neighbours → Type 0 = λ ends. AreBySite a.problem.now.pairs ends in
+    let L : Lists → Type 0 = λ lists. AreListed a.change (labelling a.at.now) c.build_rest.new.space.built.variables.choices.items lists in
+    let C : List Choice → Type 0 = λ choices. AreListed a.change (labelling a.at.now) choices c.close_apart.new.space.deciding.lists in
+    record {
+      near = λ listed. near_rest a.problem.now.pairs a.change a.at.now c.build_rest.new.space count
+          record {
+            by_site = subst E (sym (ap (λ (d : Deciding). d.ends) same.1)) closed.by_site;
+            lists = subst L (sym (ap (λ (d : Deciding). d.lists) same.1)) (subst C (sym kept) closed.lists);
+          } listed;
+      choices = count;
+      bounded = form.bounded;
+      few = form.few;
+    }

@@ -17,7 +17,7 @@ build_costed-requires-clause-label_costs g c = λ κs lives.
     let S : List ℤ → Type 0 = λ list. AreCostly list in
     let A : List ℤ → Type 0 = λ list. AreCosts c.args.problem.now.data_cost.labels list in
     let some = subst S c.costs_of-costs.ensures (c.has_cost-costly.ensures.some c.if-costly.true) in
-    subst A (sym c.costs_of-costs.ensures) (costs_set c.args.problem.now.data_cost.labels costs c.requires.posed.label_costs some)
+    subst A (sym c.costs_of-costs.ensures) (costs_set c.args.problem.now.data_cost.labels costs c.requires.asked.posed.label_costs some)
 
 pub returns-then-costly-clause-built : goal.returns-then-costly-clause-built
 returns-then-costly-clause-built g c = λ m meant.
@@ -25,7 +25,7 @@ returns-then-costly-clause-built g c = λ m meant.
     let S : List ℤ → Type 0 = λ list. AreCostly list in
     let some = subst S c.costs_of-costs.ensures (c.has_cost-costly.ensures.some c.if-costly.true) in
     let L : ℕ → Type 0 = λ k. AreCosts k (costs_of costs) in
-    let are = costs_listed m costs (subst L (sym meant.labels_are) (costs_set c.args.problem.now.data_cost.labels costs c.requires.posed.label_costs some)) meant.costs_are in
+    let are = costs_listed m costs (subst L (sym meant.labels_are) (costs_set c.args.problem.now.data_cost.labels costs c.requires.asked.posed.label_costs some)) meant.costs_are in
     let O : List ℤ → Type 0 = λ list. AreCostsOf m list in
     let M : Move → Type 0 = λ move. IsBuiltMove m move c.args.at.now c.build_costed.new.space.built c.build_costed.result in
     subst M (sym c.in-Expand.is) (c.build_costed.ensures.built m meant (subst O (sym c.costs_of-costs.ensures) are))

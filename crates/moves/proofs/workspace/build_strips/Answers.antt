@@ -15,18 +15,18 @@ close_in-requires-clause-begins g c = λ κs within.
     let S : List ℤ → Type 0 = λ ws. weights_size ws ≤ weights_limit in
     record {
       posed = record {
-        posed = c.requires.posed;
-        asked = c.requires.asked;
-        by_site = c.requires.near.by_site;
-        labels = c.requires.table;
-        table = λ m meant. c.requires.rises m meant;
+        posed = c.requires.weighed.posed;
+        asked = c.requires.weighed.asked;
+        by_site = c.requires.weighed.near.by_site;
+        labels = c.requires.weighed.labels;
+        table = λ m meant. c.requires.weighed.rises m meant;
       };
-      starts = ap (λ (xs : List Choice). length xs) start ∙ c.requires.choices;
-      weighed = ap (λ (ws : List ℤ). length ws) weights ∙ c.requires.sized.0;
-      size = subst S (sym weights) c.requires.sized.1;
+      starts = ap (λ (xs : List Choice). length xs) start ∙ c.requires.weighed.count;
+      weighed = ap (λ (ws : List ℤ). length ws) weights ∙ c.requires.weighed.sized.0;
+      size = subst S (sym weights) c.requires.weighed.sized.1;
       weights = λ m meant.
           let C : List Choice → Type 0 = λ choices. AreWeights m a.change (labelling a.at.now) (choice_at choices) a.space.now.deciding.bounds.greatest.items in
           let W : List ℤ → Type 0 = λ ws. AreWeights m a.change (labelling a.at.now) (choice_at c.deref.result.now) ws in
-          subst W (sym weights) (subst C (sym start) (c.requires.weights m meant));
+          subst W (sym weights) (subst C (sym start) (c.requires.weighed.weights m meant));
       allowed = λ m meant. c.requires.allowed m meant;
     }

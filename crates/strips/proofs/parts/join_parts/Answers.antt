@@ -1,5 +1,6 @@
 use Rattle.std.proofs.Common.{◌≡◌, ◌+◌, ◌-◌, ◌∙◌, ℕ, List, length, Result, Ok, sym, ap, subst, refl, inl, inr, arith}
 use Rattle.std.specs.Prelude.{slice_index_or, IfOk}
+use Rattle.std.specs.Result.{is_ok}
 use Rattle.std.proofs.lemmas.Bool.{cases_eq}
 use Rattle.std.proofs.lemmas.List.{get_or_default}
 use Rattle.strips.specs.Parts.{ArePartCodes, IsPartJoined, part_start}
@@ -30,6 +31,11 @@ loop-part-preserved c =
     record {
       count = e.count ∙ i.count;
       later = λ p l. takes.outside p (inr (omega (arith, l, fills, ordered))) ∙ i.later p (omega (arith, l, ordered));
+      whole = λ k part l. elim (cases_eq k j) [
+        | inr other ↦ i.whole k part (omega (arith, l, other))
+        | inl same ↦
+            ap is_ok (ap (λ q. slice_index_or a.parts.now q part) same ∙ get_or_default a.parts.now j part c.index-parts-part.result c.loop-part-test.true ∙ is)
+      ];
       joined = λ k part l. elim (cases_eq k j) [
         | inr other ↦
             if_ok_two (slice_index_or a.parts.now k part) _ _ _ (λ v own joined. takes_earlier m a.size k j v.items codes a.choices.now now new refl (omega (arith, l, other)) own takes joined)

@@ -8,18 +8,16 @@ use Rattle.deciding.specs.Listed.{changes}
 use Rattle.deciding.proofs.Skipping.{skipped, none_open, listed_more}
 use Rattle.deciding.proofs.listing.Lists.list_block.Goals as goal
 
-pub returns-then-not-has_change-clause-opened : goal.returns-then-not-has_change-clause-opened
-returns-then-not-has_change-clause-opened c =
+pub returns-then-not-has_change-clause-lists : goal.returns-then-not-has_change-clause-lists
+returns-then-not-has_change-clause-lists c =
     let a = c.args in
     let none = c.has_change.ensures c.if-not-has_change.true in
-    skipped (open_at a.choices.now) a.from a.to a.self.now.opened.items c.requires.block.0
-    (λ p from to. none_open a.change (labelling a.at.now) a.choices.now p (none p from to)) c.requires.opened
-
-pub returns-then-not-has_change-clause-changing : goal.returns-then-not-has_change-clause-changing
-returns-then-not-has_change-clause-changing c =
-    let a = c.args in
-    skipped (changes a.change (labelling a.at.now) a.choices.now) a.from a.to a.self.now.changing.items c.requires.block.0
-    (c.has_change.ensures c.if-not-has_change.true) c.requires.changing
+    record {
+      opened = skipped (open_at a.choices.now) a.from a.to a.self.now.opened.items c.requires.block.0
+          (λ p from to. none_open a.change (labelling a.at.now) a.choices.now p (none p from to)) c.requires.lists.opened;
+      changing = skipped (changes a.change (labelling a.at.now) a.choices.now) a.from a.to a.self.now.changing.items c.requires.block.0
+          none c.requires.lists.changing;
+    }
 
 pub loop-site-preserved : goal.loop-site-preserved
 loop-site-preserved c =

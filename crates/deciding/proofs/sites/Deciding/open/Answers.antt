@@ -5,4 +5,4 @@ use Rattle.deciding.proofs.sites.Deciding.open.Goals as goal
 pub returns-clause-passed : goal.returns-clause-passed
 returns-clause-passed g c = λ m meant is.
     let a = c.args in
-    chosen_first m a.change a.at.now c.open_sites.new.self (omega (arith, meant.sites_are, c.requires.asked.sites)) c.in_ok-open_sites.ensures.undecided
+    chosen_first m a.change a.at.now c.open_sites.new.self (omega (arith, meant.sites_are, c.requires.asked.asked.sites)) c.in_ok-open_sites.ensures.undecided

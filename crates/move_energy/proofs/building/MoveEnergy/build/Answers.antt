@@ -1,9 +1,9 @@
 use Rattle.std.proofs.Common.{◌∙◌, ◌≤◌, ◌+◌, ℕ, pos, List, length, ap, sym, subst, arith}
-use Rattle.std.proofs.lemmas.Result.{on_ok_weaker}
 use Rattle.compile_cut.specs.Quadratics.{IsConstant}
 use Rattle.compile_cut.proofs.TermLemmas.{bounded-weaker, constant_bounded, constant_nodes}
 use Rattle.move_energy.specs.declared.choice.Choice.{Choice}
 use Rattle.move_energy.proofs.Numbers.{rank_most}
+use Rattle.move_energy.proofs.Adding.{on_ok_both}
 use Rattle.move_energy.proofs.Joins.{built_of}
 use Rattle.std.proofs.lemmas.Result.{err_from_is_err_and}
 use Rattle.move_energy.proofs.building.MoveEnergy.build.Goals as goal
@@ -13,31 +13,8 @@ add_sites-requires-clause-empty g c = λ κs lives.
     let P : ℕ → Type 0 = λ n. IsConstant (pos 0) n c.in_ok-form.form in
     subst P c.in_ok-count.ensures.count c.in_ok-form.ensures
 
-pub add_pairs-requires-clause-variables : goal.add_pairs-requires-clause-variables
-add_pairs-requires-clause-variables g c = λ κs lives.
-    c.add_sites.ensures.longer.nodes ∙ constant_nodes (pos 0) c.in_ok-count.count c.in_ok-form.form c.in_ok-form.ensures ∙ c.in_ok-count.ensures.count
-
-pub add_pairs-requires-clause-bounded : goal.add_pairs-requires-clause-bounded
-add_pairs-requires-clause-bounded g c = λ κs lives.
-    let none = constant_bounded (pos 0) c.in_ok-count.count c.in_ok-form.form (omega arith) c.in_ok-form.ensures in
-    let few : 0 + length c.args.at.now ≤ 1048576 = omega (arith, c.requires.asked.sites, c.requires.posed.pairs.sites) in
-    bounded-weaker (0 + length c.args.at.now) 1048576 c.add_sites.new.form few (c.add_sites.ensures.longer.bounded 0 none)
-
 pub returns-clause-bounded : goal.returns-clause-bounded
 returns-clause-bounded g c = c.add_pairs.ensures.bounded
-
-pub returns-clause-few : goal.returns-clause-few
-returns-clause-few g c =
-    let choices = c.number.new.self.choices.items in
-    let nodes = c.add_sites.ensures.longer.nodes ∙ constant_nodes (pos 0) c.in_ok-count.count c.in_ok-form.form c.in_ok-form.ensures ∙ c.in_ok-count.ensures.count in
-    let size = ap (λ (xs : List Choice). length xs) c.number.ensures.kept ∙ c.requires.choices in
-    on_ok_weaker c.add_pairs.result (λ longer. omega (arith, longer.nodes, nodes, rank_most choices (length choices), size, c.requires.asked.sites, c.requires.posed.pairs.sites))
-    c.add_pairs.ensures.longer
-
-pub returns-clause-variables : goal.returns-clause-variables
-returns-clause-variables g c =
-    let nodes = c.add_sites.ensures.longer.nodes ∙ constant_nodes (pos 0) c.in_ok-count.count c.in_ok-form.form c.in_ok-form.ensures ∙ c.in_ok-count.ensures.count in
-    on_ok_weaker c.add_pairs.result (λ longer. longer.nodes ∙ nodes) c.add_pairs.ensures.longer
 
 pub returns-clause-built : goal.returns-clause-built
 returns-clause-built g c = λ m meant.
@@ -45,8 +22,8 @@ returns-clause-built g c = λ m meant.
     let pairs = c.add_pairs.ensures.built m meant in
     let nodes = c.add_sites.ensures.longer.nodes ∙ constant_nodes (pos 0) c.in_ok-count.count c.in_ok-form.form c.in_ok-form.ensures ∙ c.in_ok-count.ensures.count in
     built_of m c.args.change c.args.at.now (record { form = c.add_pairs.new.form; variables = c.number.new.self }) c.add_sites.new.form
-    (length c.args.problem.now.pairs.list) c.add_pairs.result (c.requires.asked.sites ∙ sym meant.sites_are)
-    (ap (λ (xs : List Choice). length xs) c.number.ensures.kept ∙ c.requires.choices)
+    (length c.args.problem.now.pairs.list) c.add_pairs.result (c.requires.valued.asked.sites ∙ sym meant.sites_are)
+    (ap (λ (xs : List Choice). length xs) c.number.ensures.kept ∙ c.requires.valued.count)
     nodes c.add_pairs.ensures.longer sites pairs
 
 pub returns-in_err-count-clause-kept : goal.returns-in_err-count-clause-kept
@@ -56,33 +33,6 @@ pub returns-in_err-count-clause-bounded : goal.returns-in_err-count-clause-bound
 returns-in_err-count-clause-bounded g c =
     let p = err_from_is_err_and c.from_residual.result c.from_residual.ensures.1 in
     rw (p.1) tt
-
-pub returns-in_err-count-clause-few : goal.returns-in_err-count-clause-few
-returns-in_err-count-clause-few g c =
-    let p = err_from_is_err_and c.from_residual.result c.from_residual.ensures.1 in
-    rw (p.1) tt
-
-pub returns-in_err-count-clause-numbering : goal.returns-in_err-count-clause-numbering
-returns-in_err-count-clause-numbering g c =
-    let p = err_from_is_err_and c.from_residual.result c.from_residual.ensures.1 in
-    rw (p.1) tt
-
-pub returns-in_err-count-clause-variables : goal.returns-in_err-count-clause-variables
-returns-in_err-count-clause-variables g c =
-    let p = err_from_is_err_and c.from_residual.result c.from_residual.ensures.1 in
-    rw (p.1) tt
-
-pub add_sites-requires-clause-numbering : goal.add_sites-requires-clause-numbering
-add_sites-requires-clause-numbering g c = λ κs lives. c.in_ok-count.ensures.numbering
-
-pub add_sites-requires-clause-choices : goal.add_sites-requires-clause-choices
-add_sites-requires-clause-choices g c = λ κs lives. ap (λ (xs : List Choice). length xs) c.number.ensures.kept ∙ c.requires.choices
-
-pub add_pairs-requires-clause-numbering : goal.add_pairs-requires-clause-numbering
-add_pairs-requires-clause-numbering g c = λ κs lives. c.in_ok-count.ensures.numbering
-
-pub add_pairs-requires-clause-choices : goal.add_pairs-requires-clause-choices
-add_pairs-requires-clause-choices g c = λ κs lives. ap (λ (xs : List Choice). length xs) c.number.ensures.kept ∙ c.requires.choices
 
 pub returns-clause-kept : goal.returns-clause-kept
 returns-clause-kept g c = c.number.ensures.kept
@@ -95,30 +45,49 @@ returns-in_err-form-clause-bounded g c =
     let p = err_from_is_err_and c.from_residual-in_err-form.result c.from_residual-in_err-form.ensures.1 in
     rw (p.1) tt
 
-pub returns-in_err-form-clause-few : goal.returns-in_err-form-clause-few
-returns-in_err-form-clause-few g c =
-    let p = err_from_is_err_and c.from_residual-in_err-form.result c.from_residual-in_err-form.ensures.1 in
-    rw (p.1) tt
+pub add_sites-requires-clause-step : goal.add_sites-requires-clause-step
+add_sites-requires-clause-step g c = λ κs lives. record {
+  posed = c.requires.valued.posed;
+  asked = c.requires.valued.asked;
+  choices = ap (λ (xs : List Choice). length xs) c.number.ensures.kept ∙ c.requires.valued.count;
+  numbering = c.in_ok-count.ensures.numbering;
+}
 
-pub returns-in_err-form-clause-numbering : goal.returns-in_err-form-clause-numbering
-returns-in_err-form-clause-numbering g c =
-    let p = err_from_is_err_and c.from_residual-in_err-form.result c.from_residual-in_err-form.ensures.1 in
-    rw (p.1) tt
+pub add_pairs-requires-clause-step : goal.add_pairs-requires-clause-step
+add_pairs-requires-clause-step g c = λ κs lives. record {
+  posed = c.requires.valued.posed;
+  asked = c.requires.valued.asked;
+  choices = ap (λ (xs : List Choice). length xs) c.number.ensures.kept ∙ c.requires.valued.count;
+  numbering = c.in_ok-count.ensures.numbering;
+}
 
-pub returns-in_err-form-clause-variables : goal.returns-in_err-form-clause-variables
-returns-in_err-form-clause-variables g c =
-    let p = err_from_is_err_and c.from_residual-in_err-form.result c.from_residual-in_err-form.ensures.1 in
-    rw (p.1) tt
+pub add_pairs-requires-clause-form : goal.add_pairs-requires-clause-form
+add_pairs-requires-clause-form g c = λ κs lives.
+    let none = constant_bounded (pos 0) c.in_ok-count.count c.in_ok-form.form (omega arith) c.in_ok-form.ensures in
+    let few : 0 + length c.args.at.now ≤ 1048576 = omega (arith, c.requires.valued.asked.sites, c.requires.valued.posed.pairs.sites) in
+    record {
+      variables = c.add_sites.ensures.longer.nodes ∙ constant_nodes (pos 0) c.in_ok-count.count c.in_ok-form.form c.in_ok-form.ensures ∙ c.in_ok-count.ensures.count;
+      bounded = bounded-weaker (0 + length c.args.at.now) 1048576 c.add_sites.new.form few (c.add_sites.ensures.longer.bounded 0 none);
+    }
 
-pub returns-clause-small : goal.returns-clause-small
-returns-clause-small g c = c.add_pairs.ensures.small
+pub returns-clause-form : goal.returns-clause-form
+returns-clause-form g c =
+    let choices = c.number.new.self.choices.items in
+    let nodes = c.add_sites.ensures.longer.nodes ∙ constant_nodes (pos 0) c.in_ok-count.count c.in_ok-form.form c.in_ok-form.ensures ∙ c.in_ok-count.ensures.count in
+    let size = ap (λ (xs : List Choice). length xs) c.number.ensures.kept ∙ c.requires.valued.count in
+    on_ok_both c.add_pairs.result _ _ _ (λ longer small. record {
+      bounded = small;
+      few = omega (arith, longer.nodes, nodes, rank_most choices (length choices), size, c.requires.valued.asked.sites, c.requires.valued.posed.pairs.sites);
+      numbering = c.in_ok-count.ensures.numbering;
+      variables = longer.nodes ∙ nodes;
+    }) c.add_pairs.ensures.longer c.add_pairs.ensures.small
 
-pub returns-in_err-count-clause-small : goal.returns-in_err-count-clause-small
-returns-in_err-count-clause-small g c =
+pub returns-in_err-count-clause-form : goal.returns-in_err-count-clause-form
+returns-in_err-count-clause-form g c =
     let p = err_from_is_err_and c.from_residual.result c.from_residual.ensures.1 in
     rw (p.1) tt
 
-pub returns-in_err-form-clause-small : goal.returns-in_err-form-clause-small
-returns-in_err-form-clause-small g c =
+pub returns-in_err-form-clause-form : goal.returns-in_err-form-clause-form
+returns-in_err-form-clause-form g c =
     let p = err_from_is_err_and c.from_residual-in_err-form.result c.from_residual-in_err-form.ensures.1 in
     rw (p.1) tt

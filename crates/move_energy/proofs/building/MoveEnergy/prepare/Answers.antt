@@ -16,12 +16,6 @@ returns-clause-prepared g c = λ m meant.
 pub returns-clause-bounded : goal.returns-clause-bounded
 returns-clause-bounded g c = c.build.ensures.bounded
 
-pub returns-clause-numbering : goal.returns-clause-numbering
-returns-clause-numbering g c = c.build.ensures.numbering
-
-pub returns-clause-variables : goal.returns-clause-variables
-returns-clause-variables g c = c.build.ensures.variables
-
 pub returns-in_err-open_all-clause-opened : goal.returns-in_err-open_all-clause-opened
 returns-in_err-open_all-clause-opened g c =
     let p = err_from_is_err_and c.from_residual.result c.from_residual.ensures.1 in
@@ -32,28 +26,10 @@ returns-in_err-open_all-clause-bounded g c =
     let p = err_from_is_err_and c.from_residual.result c.from_residual.ensures.1 in
     rw (p.1) tt
 
-pub returns-in_err-open_all-clause-numbering : goal.returns-in_err-open_all-clause-numbering
-returns-in_err-open_all-clause-numbering g c =
-    let p = err_from_is_err_and c.from_residual.result c.from_residual.ensures.1 in
-    rw (p.1) tt
+pub returns-clause-form : goal.returns-clause-form
+returns-clause-form g c = c.build.ensures.form
 
-pub returns-in_err-open_all-clause-variables : goal.returns-in_err-open_all-clause-variables
-returns-in_err-open_all-clause-variables g c =
-    let p = err_from_is_err_and c.from_residual.result c.from_residual.ensures.1 in
-    rw (p.1) tt
-
-pub returns-clause-few : goal.returns-clause-few
-returns-clause-few g c = c.build.ensures.few
-
-pub returns-in_err-open_all-clause-few : goal.returns-in_err-open_all-clause-few
-returns-in_err-open_all-clause-few g c =
-    let p = err_from_is_err_and c.from_residual.result c.from_residual.ensures.1 in
-    rw (p.1) tt
-
-pub returns-clause-small : goal.returns-clause-small
-returns-clause-small g c = c.build.ensures.small
-
-pub returns-in_err-open_all-clause-small : goal.returns-in_err-open_all-clause-small
-returns-in_err-open_all-clause-small g c =
+pub returns-in_err-open_all-clause-form : goal.returns-in_err-open_all-clause-form
+returns-in_err-open_all-clause-form g c =
     let p = err_from_is_err_and c.from_residual.result c.from_residual.ensures.1 in
     rw (p.1) tt
