@@ -111,6 +111,33 @@ impl sealed::Sealed for i32 {
 impl Cost for i64 {}
 impl Cost for i32 {}
 
+/// The status of a call over the arrays of a problem, with the call's own numbers, and what it told.
+macro_rules! call_over {
+    ($call:expr, $problem:expr, $labels:expr, $($number:expr),+) => {{
+        let mut told = calls::Outcome::default();
+        // Safety: each pointer is of a slice with its length, and the labels and `told` are
+        // borrowed by this call alone.
+        let status = unsafe {
+            $call(
+                $problem.label_count,
+                $problem.data.as_ptr(),
+                $problem.data.len(),
+                $problem.smooth.as_ptr(),
+                $problem.smooth.len(),
+                $problem.label_costs.as_ptr(),
+                $problem.label_costs.len(),
+                $problem.pairs.as_ptr(),
+                $problem.pairs.len(),
+                $($number,)+
+                $labels.as_mut_ptr(),
+                $labels.len(),
+                &mut told,
+            )
+        };
+        (status, told)
+    }};
+}
+
 impl<C: Cost> Problem<'_, C> {
     /// Makes moves from `labels` until a cycle changes nothing or so many cycles are done, and
     /// writes where they ended. A refusal leaves the labels as they were.
@@ -120,27 +147,8 @@ impl<C: Cost> Problem<'_, C> {
         cycles: Option<u32>,
         labels: &mut [u32],
     ) -> Result<Run, Refusal> {
-        let mut told = calls::Outcome::default();
-        // Safety: each pointer is of a slice with its length, and `labels` and `told` are borrowed
-        // by this call alone.
-        let status = unsafe {
-            C::call()(
-                self.label_count,
-                self.data.as_ptr(),
-                self.data.len(),
-                self.smooth.as_ptr(),
-                self.smooth.len(),
-                self.label_costs.as_ptr(),
-                self.label_costs.len(),
-                self.pairs.as_ptr(),
-                self.pairs.len(),
-                moves as u32,
-                cycles.unwrap_or(u32::MAX),
-                labels.as_mut_ptr(),
-                labels.len(),
-                &mut told,
-            )
-        };
+        let cycles = cycles.unwrap_or(u32::MAX);
+        let (status, told) = call_over!(C::call(), self, labels, moves as u32, cycles);
         if status != 0 {
             return Err(Refusal::of_outcome(status, &told));
         }
@@ -174,50 +182,13 @@ fn moved(status: u32, told: &calls::Outcome) -> Result<Move, Refusal> {
 impl Problem<'_, i64> {
     /// One move: every site keeps its label or takes `alpha`.
     pub fn expand(&self, alpha: u32, labels: &mut [u32]) -> Result<Move, Refusal> {
-        let mut told = calls::Outcome::default();
-        // Safety: as in `label`.
-        let status = unsafe {
-            calls::gco_expand(
-                self.label_count,
-                self.data.as_ptr(),
-                self.data.len(),
-                self.smooth.as_ptr(),
-                self.smooth.len(),
-                self.label_costs.as_ptr(),
-                self.label_costs.len(),
-                self.pairs.as_ptr(),
-                self.pairs.len(),
-                alpha,
-                labels.as_mut_ptr(),
-                labels.len(),
-                &mut told,
-            )
-        };
+        let (status, told) = call_over!(calls::gco_expand, self, labels, alpha);
         moved(status, &told)
     }
 
     /// One move: every site that has `alpha` or `beta` takes either.
     pub fn swap(&self, alpha: u32, beta: u32, labels: &mut [u32]) -> Result<Move, Refusal> {
-        let mut told = calls::Outcome::default();
-        // Safety: as in `label`.
-        let status = unsafe {
-            calls::gco_swap(
-                self.label_count,
-                self.data.as_ptr(),
-                self.data.len(),
-                self.smooth.as_ptr(),
-                self.smooth.len(),
-                self.label_costs.as_ptr(),
-                self.label_costs.len(),
-                self.pairs.as_ptr(),
-                self.pairs.len(),
-                alpha,
-                beta,
-                labels.as_mut_ptr(),
-                labels.len(),
-                &mut told,
-            )
-        };
+        let (status, told) = call_over!(calls::gco_swap, self, labels, alpha, beta);
         moved(status, &told)
     }
 }

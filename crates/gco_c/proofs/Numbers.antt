@@ -1,8 +1,7 @@
 -- Numbers of 32 or of 64 bits, as they stand in a table.
 use Rattle.std.proofs.Common.{◌≡◌, ◌⊎◌, ◌<◌, ◌∙◌, ℕ, ℤ, pos, List, length, map, get_or, sym, ap, subst}
-use Rattle.std.proofs.lemmas.List.{get_or-map, length-map, map-id}
-use Rattle.gco_c.specs.Calls.{AreCounted, call_arrays}
-use Rattle.gco_c.specs.declared.pairs.GcoPair.{GcoPair}
+use Rattle.std.proofs.lemmas.List.{get_or-map, length-map}
+use Rattle.gco_c.specs.Calls.{AreCounted}
 
 -- the number that an entry is
 pub number_at : {N : Type 0} (value : N → ℤ) (xs : List N) (i : ℕ) (x : N) (z : ℤ) → i < length xs → x ≡ get_or xs i x
@@ -11,11 +10,6 @@ number_at value xs i x z inside is wide = wide ∙ ap value is ∙ sym (get_or-m
 
 pub inside_numbers : {N : Type 0} (value : N → ℤ) (xs : List N) (i : ℕ) → i < length xs → i < length (map value xs)
 inside_numbers value xs i inside = (let P : ℕ → Type 0 = λ n. i < n in subst P (sym (length-map xs value)) inside)
-
--- numbers that are what they are
-pub same_arrays : (labels : ℕ) (costs smooth label_costs : List ℤ) (pairs : List GcoPair) (start : List ℕ)
-    → call_arrays labels (map (λ z. z) costs) (map (λ z. z) smooth) (map (λ z. z) label_costs) pairs start ≡ call_arrays labels costs smooth label_costs pairs start
-same_arrays labels costs smooth label_costs pairs start = λ i. call_arrays labels (map-id costs i) (map-id smooth i) (map-id label_costs i) pairs start
 
 pub counted_numbers : {N : Type 0} (value : N → ℤ) (sites labels : ℕ) (costs smooth label_costs : List N)
     → AreCounted sites labels (length costs) (length smooth) (length label_costs)

@@ -18,6 +18,7 @@ use Rattle.labellings.specs.declared.cycles.Moves.TheVariants.{Expansion, Swap}
 use Rattle.gco_c.specs.Outcomes.{energy_told, move_told, run_told}
 use Rattle.gco_c.specs.declared.pairs.GcoPair.{GcoPair}
 use Rattle.gco_c.specs.declared.outcome.GcoOutcome.{GcoOutcome}
+use Rattle.gco_c.specs.declared.ready.Arrays.{Arrays}
 use Rattle.gco_c.specs.declared.ready.Ready.{Ready}
 
 -- the arrays of a call
@@ -38,6 +39,12 @@ call_arrays labels data_costs smooth_costs label_costs pairs start = record {
   pairs = pairs;
   start = start;
 }
+
+-- those that a call was handed over, in numbers of either width, and its labels
+abbrev pub arrays_with : {N : Type 0} → (N → ℤ) → Arrays N → List ℕ → CallArrays
+arrays_with value given start =
+    call_arrays given.label_count (map value given.«data».now) (map value given.smooth.now)
+    (map value given.label_costs.now) given.pairs.now start
 
 -- the pair of sites that C hands over
 abbrev pub pair_from_c : GcoPair → Pair

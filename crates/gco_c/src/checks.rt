@@ -1,6 +1,7 @@
 //! Whether the arrays of a call are as long as they must be, and their costs in their ranges.
 ghost use Rattle.std.specs.Prelude.{◌≡◌, ◌↔◌, pos, All, map, IsTrue, IsOk, IfOk, IfErr};
 ghost use Rattle.cost_store.specs.Promises.{IsCost, IsFirstOutside};
+ghost use Rattle.label_field.specs.LabelFields.{AreSizes};
 ghost use Rattle.gco_c.specs.Calls.{AreCounted, AreCostsInRange};
 ghost use Rattle.gco_c.specs.Refusals.{IsCountRefusal, IsRangeRefusal};
 
@@ -30,6 +31,25 @@ pub(crate) fn check_counts(
     if labels < 1 || labels > LABEL_LIMIT {
         return Err(Refusal::LabelCount);
     }
+    check_lengths(sites, labels, data_count, smooth_count, cost_count)?;
+    Ok(sites as u32)
+}
+
+/// Whether the tables of so many sites and labels, which are in their limits, are as long as they
+/// must be.
+fn check_lengths(
+    sites: usize,
+    labels: u32,
+    data_count: usize,
+    smooth_count: usize,
+    cost_count: usize,
+) -> Result<(), Refusal>
+    requires { AreSizes sites labels }
+    ensures counted { IfOk result
+        (λ _. AreCounted sites labels data_count smooth_count cost_count) }
+    ensures refused { IfErr result
+        (IsCountRefusal sites labels data_count smooth_count cost_count) }
+{
     if data_count != sites * labels as usize {
         return Err(Refusal::DataCount);
     }
@@ -39,7 +59,7 @@ pub(crate) fn check_counts(
     if cost_count != 0 && cost_count != labels as usize {
         return Err(Refusal::LabelCostCount);
     }
-    Ok(sites as u32)
+    Ok(())
 }
 
 /// Whether each cost is in its range.

@@ -1,13 +1,14 @@
 //! Runs of moves for C.
 ghost use Rattle.std.specs.Prelude.{◌≡◌, ◌≢◌, length, map, IfSome, IfOk, IfErr, None, Ok};
 ghost use Rattle.moves.specs.Runs.{AnswersRun};
-ghost use Rattle.gco_c.specs.Calls.{IsGiven, IsRunTold, call_arrays, instance_given, moves_number};
+ghost use Rattle.gco_c.specs.Calls.{IsGiven, IsRunTold, arrays_with, call_arrays, instance_given};
+ghost use Rattle.gco_c.specs.Calls.{moves_number};
 ghost use Rattle.gco_c.specs.Refusals.{IsRefusalTold, IsLabelRefusal};
 
 use crate::cost::{Number, wide_copy};
 use crate::outcome::{GcoOutcome, refuse, tell_run};
 use crate::pairs::GcoPair;
-use crate::ready::ready_of;
+use crate::ready::{Arrays, ready_of};
 use crate::refusal::Refusal;
 use crate::running::{refusal_of, run_over};
 use labellings::Moves;
@@ -41,18 +42,14 @@ pub extern "C" fn gco_label(
         pairs.now labels.old)
         moves cycles result outcome.new }
 {
-    label_over(
-        alloc,
+    let given = Arrays {
         label_count,
         data,
         smooth,
         label_costs,
         pairs,
-        moves,
-        cycles,
-        labels,
-        outcome,
-    )
+    };
+    label_over(alloc, &given, moves, cycles, labels, outcome)
 }
 
 /// What `gco_label` does, over costs of 32 bits.
@@ -80,60 +77,36 @@ pub extern "C" fn gco_label_int32(
         pairs.now labels.old)
         moves cycles result outcome.new }
 {
-    label_over(
-        alloc,
+    let given = Arrays {
         label_count,
         data,
         smooth,
         label_costs,
         pairs,
-        moves,
-        cycles,
-        labels,
-        outcome,
-    )
+    };
+    label_over(alloc, &given, moves, cycles, labels, outcome)
 }
 
 /// Makes the moves that a number names over the arrays that were given, and tells where they ended.
 fn label_over<N: Number>(
     alloc: Global,
-    label_count: u32,
-    data: &[N],
-    smooth: &[N],
-    label_costs: &[N],
-    pairs: &[GcoPair],
+    given: &Arrays<'_, N>,
     moves: u32,
     cycles: u32,
     labels: &mut [u32],
     outcome: &mut GcoOutcome,
 ) -> u32
-    ensures given { result ≡ 0 →
-        IsGiven (call_arrays label_count (map N.value data.now) (map N.value smooth.now)
-        (map N.value label_costs.now) pairs.now labels.old) }
-    ensures ran { result ≡ 0 →
-        IsRunTold (call_arrays label_count (map N.value data.now) (map N.value smooth.now)
-        (map N.value label_costs.now) pairs.now labels.old)
+    ensures given { result ≡ 0 → IsGiven (arrays_with N.value given.now labels.old) }
+    ensures ran { result ≡ 0 → IsRunTold (arrays_with N.value given.now labels.old)
         moves cycles labels.new outcome.new }
     ensures unchanged { result ≢ 0 → labels.new ≡ labels.old }
-    ensures refused { result ≢ 0 →
-        IsRefusalTold (call_arrays label_count (map N.value data.now) (map N.value smooth.now)
-        (map N.value label_costs.now) pairs.now labels.old)
+    ensures refused { result ≢ 0 → IsRefusalTold (arrays_with N.value given.now labels.old)
         moves cycles result outcome.new }
 {
     let Some(kind) = moves_of(moves) else {
         return refuse(outcome, Refusal::NoSuchMoves);
     };
-    match run_call(
-        alloc,
-        label_count,
-        data,
-        smooth,
-        label_costs,
-        pairs,
-        kind,
-        cycles,
-        labels,
-    ) {
+    match run_call(alloc, given, kind, cycles, labels) {
         Ok(run) => {
             copy_labels(run.labelling.as_slice(), labels);
             tell_run(outcome, &run);
@@ -147,34 +120,23 @@ fn label_over<N: Number>(
 /// ended.
 fn run_call<N: Number>(
     alloc: Global,
-    labels: u32,
-    data: &[N],
-    smooth: &[N],
-    label_costs: &[N],
-    given: &[GcoPair],
+    given: &Arrays<'_, N>,
     moves: Moves,
     cycles: u32,
     at: &[u32],
 ) -> Result<Run, Refusal>
-    ensures given { IfOk result (λ _.
-        IsGiven (call_arrays labels (map N.value data.now) (map N.value smooth.now)
-        (map N.value label_costs.now) given.now at.now)) }
-    ensures run { IfOk result (λ run.
-        AnswersRun (instance_given
-        (call_arrays labels (map N.value data.now) (map N.value smooth.now)
-        (map N.value label_costs.now) given.now at.now))
-        moves cycles at.now (Ok run)) }
+    ensures given { IfOk result (λ _. IsGiven (arrays_with N.value given.now at.now)) }
+    ensures run { IfOk result (λ run. AnswersRun
+        (instance_given (arrays_with N.value given.now at.now)) moves cycles at.now (Ok run)) }
     ensures sized { IfOk result (λ run. length run.labelling.at ≡ length at.now) }
     ensures refused { IfErr result
-        (IsLabelRefusal (call_arrays labels (map N.value data.now) (map N.value smooth.now)
-        (map N.value label_costs.now) given.now at.now)
-        moves cycles) }
+        (IsLabelRefusal (arrays_with N.value given.now at.now) moves cycles) }
 {
-    let ready = ready_of(alloc, labels, data, smooth, label_costs, given, at)?;
-    let Ok(smooth) = wide_copy(alloc, smooth) else {
+    let ready = ready_of(alloc, given, at)?;
+    let Ok(smooth) = wide_copy(alloc, given.smooth) else {
         return Err(Refusal::OutOfMemory);
     };
-    match run_over(alloc, ready, data, &smooth, moves, cycles) {
+    match run_over(alloc, ready, given.data, &smooth, moves, cycles) {
         Ok(run) => Ok(run),
         Err(error) => Err(refusal_of(error)),
     }

@@ -1,5 +1,5 @@
 //! Single moves for C.
-ghost use Rattle.std.specs.Prelude.{◌≡◌, ◌≢◌, ℕ, ◌+◌, ◌*◌, ◌<◌, ◌≤◌, All, Ok, IfOk, IfErr, length};
+ghost use Rattle.std.specs.Prelude.{◌≡◌, ◌≢◌, ℕ, ◌+◌, ◌*◌, ◌<◌, ◌≤◌, All, Ok, IfOk, IfErr, length, map};
 ghost use Rattle.cost_store.specs.Limits.{data_limit, smooth_limit};
 ghost use Rattle.cost_store.specs.Promises.{IsCost, cost_in, entry_at};
 ghost use Rattle.label_field.specs.Limits.{label_limit};
@@ -8,15 +8,16 @@ ghost use Rattle.moves.specs.Instances.{instance_of};
 ghost use Rattle.cost_store.specs.Posed.{IsPosed, WhereMeant, FitsProblem, AreOfOneSize};
 ghost use Rattle.cost_store.specs.LabelCosts.{AreLabelCosts, costs_of};
 ghost use Rattle.moves.specs.Problems.{IsMoved};
-ghost use Rattle.gco_c.specs.Calls.{IsGiven, IsMoveTold, call_arrays, instance_given};
+ghost use Rattle.gco_c.specs.Calls.{IsGiven, IsMoveTold, arrays_with, call_arrays, instance_given};
 ghost use Rattle.gco_c.specs.Moved.{IsMovedTo};
 ghost use Rattle.gco_c.specs.Outcomes.{move_told, outcome_of_parts};
 ghost use Rattle.gco_c.specs.Refusals.{IsMoveCause, IsMoveRefusalTold};
 
+use crate::cost::Number;
 use crate::label::copy_labels;
 use crate::outcome::{GcoOutcome, NOTHING, digit, refuse};
 use crate::pairs::GcoPair;
-use crate::ready::{Ready, ready_of};
+use crate::ready::{Arrays, Ready, ready_of};
 use crate::refusal::Refusal;
 use crate::running::refusal_of;
 use cost_store::{DataCost, Problem, SmoothCost};
@@ -61,18 +62,14 @@ pub extern "C" fn gco_expand(
         pairs.now labels.old)
         (Expand alpha) result outcome.new }
 {
-    let change = Move::Expand(alpha);
-    make(
-        alloc,
+    let given = Arrays {
         label_count,
         data,
         smooth,
         label_costs,
         pairs,
-        change,
-        labels,
-        outcome,
-    )
+    };
+    make(alloc, &given, Move::Expand(alpha), labels, outcome)
 }
 
 /// Lets every site that has one of the labels `alpha` and `beta` take either, and writes the best
@@ -103,54 +100,32 @@ pub extern "C" fn gco_swap(
         pairs.now labels.old)
         (Swap alpha beta) result outcome.new }
 {
-    let change = Move::Swap(alpha, beta);
-    make(
-        alloc,
+    let given = Arrays {
         label_count,
         data,
         smooth,
         label_costs,
         pairs,
-        change,
-        labels,
-        outcome,
-    )
+    };
+    make(alloc, &given, Move::Swap(alpha, beta), labels, outcome)
 }
 
 /// Makes one move over the arrays that were given, and tells where it ended.
-fn make(
+fn make<N: Number>(
     alloc: Global,
-    label_count: u32,
-    data: &[i64],
-    smooth: &[i64],
-    label_costs: &[i64],
-    pairs: &[GcoPair],
+    given: &Arrays<'_, N>,
     change: Move,
     labels: &mut [u32],
     outcome: &mut GcoOutcome,
 ) -> u32
-    ensures given { result ≡ 0 →
-        IsGiven (call_arrays label_count data.now smooth.now label_costs.now pairs.now labels.old) }
-    ensures moved { result ≡ 0 →
-        IsMoveTold (call_arrays label_count data.now smooth.now label_costs.now
-        pairs.now labels.old)
+    ensures given { result ≡ 0 → IsGiven (arrays_with N.value given.now labels.old) }
+    ensures moved { result ≡ 0 → IsMoveTold (arrays_with N.value given.now labels.old)
         change labels.new outcome.new }
     ensures unchanged { result ≢ 0 → labels.new ≡ labels.old }
-    ensures refused { result ≢ 0 →
-        IsMoveRefusalTold (call_arrays label_count data.now smooth.now label_costs.now
-        pairs.now labels.old)
+    ensures refused { result ≢ 0 → IsMoveRefusalTold (arrays_with N.value given.now labels.old)
         change result outcome.new }
 {
-    match move_call(
-        alloc,
-        label_count,
-        data,
-        smooth,
-        label_costs,
-        pairs,
-        change,
-        labels,
-    ) {
+    match move_call(alloc, given, change, labels) {
         Ok(moved) => {
             copy_labels(moved.labelling.as_slice(), labels);
             tell_move(outcome, &moved);
@@ -161,51 +136,42 @@ fn make(
 }
 
 /// Makes one move over the arrays that were given, and answers where it ended.
-fn move_call(
+fn move_call<N: Number>(
     alloc: Global,
-    labels: u32,
-    data: &[i64],
-    smooth: &[i64],
-    label_costs: &[i64],
-    given: &[GcoPair],
+    given: &Arrays<'_, N>,
     change: Move,
     at: &[u32],
 ) -> Result<Moved, Refusal>
-    ensures given { IfOk result (λ _.
-        IsGiven (call_arrays labels data.now smooth.now label_costs.now given.now at.now)) }
-    ensures moved { IfOk result (λ moved.
-        IsMovedTo (instance_given
-        (call_arrays labels data.now smooth.now label_costs.now given.now at.now))
-        change at.now (Ok moved)) }
+    ensures given { IfOk result (λ _. IsGiven (arrays_with N.value given.now at.now)) }
+    ensures moved { IfOk result (λ moved. IsMovedTo
+        (instance_given (arrays_with N.value given.now at.now)) change at.now (Ok moved)) }
     ensures sized { IfOk result (λ moved. length moved.labelling.at ≡ length at.now) }
-    ensures refused { IfErr result
-        (IsMoveCause (call_arrays labels data.now smooth.now label_costs.now given.now
-        at.now) change) }
+    ensures refused { IfErr result (IsMoveCause (arrays_with N.value given.now at.now) change) }
 {
-    let ready = ready_of(alloc, labels, data, smooth, label_costs, given, at)?;
-    match move_over(alloc, ready, data, smooth, change) {
+    let ready = ready_of(alloc, given, at)?;
+    match move_over(alloc, ready, given.data, given.smooth, change) {
         Ok(moved) => Ok(moved),
         Err(error) => Err(refusal_of(error)),
     }
 }
 
 /// Makes one move over tables of costs where they lie, in the caller's memory.
-fn move_over(
+fn move_over<N: Number>(
     alloc: Global,
     ready: Ready,
-    data: &[i64],
-    smooth: &[i64],
+    data: &[N],
+    smooth: &[N],
     change: Move,
 ) -> Result<Moved, MoveError>
     requires sites { length ready.start.at ≡ ready.pairs.sites }
     requires data { (length data.now ≡ ready.pairs.sites * ready.start.labels)
-        × All (IsCost data_limit) data.now }
+        × All (IsCost data_limit) (map N.value data.now) }
     requires smooth { (length smooth.now ≡ ready.start.labels * ready.start.labels)
-        × All (IsCost smooth_limit) smooth.now }
+        × All (IsCost smooth_limit) (map N.value smooth.now) }
     requires label_costs { AreLabelCosts ready.start.labels ready.label_costs }
     ensures moved { IsMovedTo (instance_of ready.pairs ready.start.labels
-        (cost_in ready.start.labels data.now) smooth.now (costs_of ready.label_costs))
-        change ready.start.at result }
+        (cost_in ready.start.labels (map N.value data.now)) (map N.value smooth.now)
+        (costs_of ready.label_costs)) change ready.start.at result }
     ensures sized { IfOk result (λ moved. length moved.labelling.at ≡ length ready.start.at) }
 {
     let labels = ready.start.labels();
@@ -214,16 +180,16 @@ fn move_over(
     let data_cost = DataCost::new(
         |site: u32, label: u32| -> i64
             requires { (site * labels + label < length data.now) × (labels ≤ label_limit) }
-            ensures { result ≡ entry_at labels data.entry.now site label }
-        { data[site as usize * labels as usize + label as usize] },
+            ensures { result ≡ entry_at labels (map N.value data.entry.now) site label }
+        { data[site as usize * labels as usize + label as usize].wide() },
         sites,
         labels,
     );
     let smooth_cost = SmoothCost::new(
         |first: u32, second: u32| -> i64
             requires { (first * labels + second < length smooth.now) × (labels ≤ label_limit) }
-            ensures { result ≡ entry_at labels smooth.entry.now first second }
-        { smooth[first as usize * labels as usize + second as usize] },
+            ensures { result ≡ entry_at labels (map N.value smooth.entry.now) first second }
+        { smooth[first as usize * labels as usize + second as usize].wide() },
         labels,
     );
     let problem = Problem {

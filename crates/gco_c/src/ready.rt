@@ -1,7 +1,7 @@
 //! What a call was given, once it is tested.
 ghost use Rattle.std.specs.Prelude.{◌≡◌, length, map, IfOk, IfErr, None};
 ghost use Rattle.cost_store.specs.LabelCosts.{costs_of};
-ghost use Rattle.gco_c.specs.Calls.{ArePartsOf, call_arrays};
+ghost use Rattle.gco_c.specs.Calls.{ArePartsOf, arrays_with};
 ghost use Rattle.gco_c.specs.Refusals.{IsGivenRefusal};
 
 use crate::checks::{check_counts, check_ranges};
@@ -11,6 +11,16 @@ use crate::refusal::Refusal;
 use crate::start::start_of;
 use label_field::{Labelling, Pairs};
 use std::alloc::Global;
+
+/// The arrays of a call, but for its labels.
+#[derive(Clone, Copy)]
+pub(crate) struct Arrays<'a, N> {
+    pub(crate) label_count: u32,
+    pub(crate) data: &'a [N],
+    pub(crate) smooth: &'a [N],
+    pub(crate) label_costs: &'a [N],
+    pub(crate) pairs: &'a [GcoPair],
+}
 
 /// The parts of a problem that a call makes of its arrays. The tables of costs stay where they are.
 #[derive(Drop)]
@@ -23,31 +33,23 @@ pub(crate) struct Ready {
 /// Tests what a call was given, in the order of its arrays, and makes the parts of its problem.
 pub(crate) fn ready_of<N: Number>(
     alloc: Global,
-    labels: u32,
-    data: &[N],
-    smooth: &[N],
-    label_costs: &[N],
-    given: &[GcoPair],
+    given: &Arrays<'_, N>,
     at: &[u32],
 ) -> Result<Ready, Refusal>
-    ensures ready { IfOk result
-        (ArePartsOf (call_arrays labels (map N.value data.now) (map N.value smooth.now)
-        (map N.value label_costs.now) given.now at.now)) }
-    ensures refused { IfErr result
-        (IsGivenRefusal (call_arrays labels (map N.value data.now) (map N.value smooth.now)
-        (map N.value label_costs.now) given.now at.now)) }
+    ensures ready { IfOk result (ArePartsOf (arrays_with N.value given.now at.now)) }
+    ensures refused { IfErr result (IsGivenRefusal (arrays_with N.value given.now at.now)) }
 {
     let sites = check_counts(
         at.len(),
-        labels,
-        data.len(),
-        smooth.len(),
-        label_costs.len(),
+        given.label_count,
+        given.data.len(),
+        given.smooth.len(),
+        given.label_costs.len(),
     )?;
-    check_ranges(data, smooth, label_costs)?;
-    let pairs = pairs_of(alloc, sites, given)?;
-    let start = start_of(alloc, labels, at)?;
-    let label_costs = costs_given(alloc, label_costs)?;
+    check_ranges(given.data, given.smooth, given.label_costs)?;
+    let pairs = pairs_of(alloc, sites, given.pairs)?;
+    let start = start_of(alloc, given.label_count, at)?;
+    let label_costs = costs_given(alloc, given.label_costs)?;
     Ok(Ready {
         pairs,
         start,

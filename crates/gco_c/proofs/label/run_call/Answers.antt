@@ -9,7 +9,7 @@ run_over-requires-clause-sites g c = λ κs live. ready_sites _ _ c.in_ok-ready.
 pub run_over-requires-clause-data : goal.run_over-requires-clause-data
 run_over-requires-clause-data g c = λ κs live.
     let known = ready_data _ _ c.in_ok-ready.ensures.ready in
-    (sym (length-map c.args.data.now g.N.Number.value) ∙ known.0, known.1)
+    (sym (length-map c.args.given.now.«data».now g.N.Number.value) ∙ known.0, known.1)
 
 pub run_over-requires-clause-label_costs : goal.run_over-requires-clause-label_costs
 run_over-requires-clause-label_costs g c = λ κs live. ready_costs _ _ c.in_ok-ready.ensures.ready
