@@ -44,7 +44,7 @@ Options:
       --cycles <N>      Most cycles of moves, 0 to 1000; one that changes nothing is the last [default: 100]
       --label-cost <N>  Cost of each label that some pixel has, 0 to 10000000; above 0 with expansions alone
       --bound           Also say how near the energy is to the least, by a line `bound A B`
-      --threads <N>     Workers that make each cut together, 1 to 64; without it one thread cuts. The answer is the same
+      --threads <N>     Threads that share the work, 1 to 64; without it one thread does all. The answer is the same
       --blocks <N>      With --threads: blocks that a cut is split in, 1 to 256 [default: 16]
       --ring <N>        With --threads: most messages on the way from one block to another, 1 to 65536 [default: 64]
       --turns <N>       With --threads: most turns drawn in a round, beside the first of each block, 0 to 1000000 [default: 4096]
@@ -62,8 +62,8 @@ With `--bound` the line `bound A B` comes after it: A times the energy is at mos
 picture. It is `bound none` where no such numbers are known: after swaps, where the last cycle still
 changed something, with a label cost above 0, and for costs that are no metric, as quadratic ones mostly.
 
-`--threads` has threads share the cuts; the picture is the same. They cut the strips of a large move
-side by side, and workers cut what is left. Small pictures gain nothing by it.
+`--threads` has threads share the work; the picture is the same. They decide and cut parts of a large move
+side by side. Pictures of fewer than 16384 pixels, or of more than 64 levels, gain nothing by it.
 
 Exit status: 0 answered, 1 refused (standard error has one line `refused N ..`), 2 not understood.
 
@@ -86,7 +86,7 @@ Options:
       --labels <N>      How many labels, 1 to 256 [default: 16]
       --cap <N>         Greatest cost of a label at a pixel, 0 to 10000000 [default: 20]
       --bound           Also say how near the energy is to the least, by a line `bound A B`
-      --threads <N>     Workers that make each cut together, 1 to 64; without it one thread cuts. The answer is the same
+      --threads <N>     Threads that share the work, 1 to 64; without it one thread does all. The answer is the same
       --blocks <N>      With --threads: blocks that a cut is split in, 1 to 256 [default: 16]
       --ring <N>        With --threads: most messages on the way from one block to another, 1 to 65536 [default: 64]
       --turns <N>       With --threads: most turns drawn in a round, beside the first of each block, 0 to 1000000 [default: 4096]
@@ -102,8 +102,8 @@ With `--bound` the line `bound A B` comes after it: A times the energy is at mos
 labels. It is `bound none` where no such numbers are known: after swaps, where the last cycle still
 changed something, and for costs that are no metric, as quadratic ones mostly are.
 
-`--threads` has threads share the cuts; the picture is the same. They cut the strips of a large move
-side by side, and workers cut what is left. Small pictures gain nothing by it.
+`--threads` has threads share the work; the picture is the same. They decide and cut parts of a large move
+side by side. Pictures of fewer than 16384 pixels, and more than 64 labels, gain nothing by it.
 
 Exit status: 0 answered, 1 refused (standard error has one line `refused N ..`), 2 not understood.
 
@@ -124,7 +124,7 @@ Options:
       --edge <N>        Greatest difference of samples that is no edge, 0 to 65535 [default: 5]
       --neighbours <N>  Neighbours of a pixel: 4 (by an edge) or 8 (by an edge or a corner) [default: 4]
       --cycles <N>      Most cycles of moves, 0 to 1000; one that changes nothing is the last [default: 100]
-      --threads <N>     Workers that make each cut together, 1 to 64; without it one thread cuts. The answer is the same
+      --threads <N>     Threads that share the work, 1 to 64; without it one thread does all. The answer is the same
       --blocks <N>      With --threads: blocks that a cut is split in, 1 to 256 [default: 16]
       --ring <N>        With --threads: most messages on the way from one block to another, 1 to 65536 [default: 64]
       --turns <N>       With --threads: most turns drawn in a round, beside the first of each block, 0 to 1000000 [default: 4096]
@@ -136,8 +136,8 @@ an image with the label of each pixel. A free pixel's label costs its difference
 0) or the high one (label 1), a seed's other label 10000000. Two neighbours of unlike labels cost `strong`,
 or `weak` where an edge runs between them. Then standard error has the line `energy E data D smooth S`.
 
-`--threads` has threads share the cuts; the picture is the same. They cut the strips of a large move
-side by side, and workers cut what is left. Small pictures gain nothing by it.
+`--threads` has threads share the work; the picture is the same. It gains little: parts of a move are cut
+side by side only where all pairs of neighbours have one weight.
 
 Exit status: 0 answered, 1 refused (standard error has one line `refused N ..`), 2 not understood.
 
@@ -151,7 +151,7 @@ The least value of an energy of yes-no variables, and where it stands
 Usage: gco energy [OPTIONS]
 
 Options:
-      --threads <N>  Workers that make each cut together, 1 to 64; without it one thread cuts. The answer is the same
+      --threads <N>  Threads that share the work, 1 to 64; without it one thread does all. The answer is the same
       --blocks <N>   With --threads: blocks that a cut is split in, 1 to 256 [default: 16]
       --ring <N>     With --threads: most messages on the way from one block to another, 1 to 65536 [default: 64]
       --turns <N>    With --threads: most turns drawn in a round, beside the first of each block, 0 to 1000000 [default: 4096]
@@ -164,8 +164,8 @@ with the table of their values. Each term has to be regular.
 Writes two lines: `minimum M`, and `assignment` with one digit for each variable. Of the least
 assignments it is the one with the fewest ones.
 
-`--threads` has workers make the cut; the answer is the same. With some 250000 variables and more it takes
-about as long so, with fewer longer.
+`--threads` has workers share the cut, if its network has 4096 nodes or more; the answer is the same. With
+some 250000 variables and more it takes about as long so, with fewer longer.
 
 Exit status: 0 answered, 1 refused (standard error has one line `refused N ..`), 2 not understood.
 
@@ -183,7 +183,7 @@ Usage: gco label [OPTIONS]
 
 Options:
       --bound        Also say how near the energy is to the least, by a line `bound A B`
-      --threads <N>  Workers that make each cut together, 1 to 64; without it one thread cuts. The answer is the same
+      --threads <N>  Threads that share the work, 1 to 64; without it one thread does all. The answer is the same
       --blocks <N>   With --threads: blocks that a cut is split in, 1 to 256 [default: 16]
       --ring <N>     With --threads: most messages on the way from one block to another, 1 to 65536 [default: 64]
       --turns <N>    With --threads: most turns drawn in a round, beside the first of each block, 0 to 1000000 [default: 4096]
@@ -204,8 +204,9 @@ With `--bound` a third line is `bound A B`: A times the energy is at most B time
 It is `bound none` where no such numbers are known: after swaps, where the last cycle still changed
 something, with a label cost above 0, and where smooth is no metric, as quadratic costs mostly are none.
 
-`--threads` has threads share the cuts; the labels are the same. They cut the strips of a large move
-side by side, and workers cut what is left. Small problems gain nothing by it.
+`--threads` has threads share the work; the labels are the same. They decide and cut parts of a large move
+side by side. Problems of fewer than 16384 sites, of more than 64 labels, or with pairs of several
+weights gain nothing by it.
 
 Exit status: 0 answered, 1 refused (standard error has one line `refused N ..`), 2 not understood.
 
