@@ -68,11 +68,12 @@ TWO = b'variables = 2\nterms = [{ on = [0], values = [5,2] }, { on = [1], values
 TERMS = b'variables = 3\nterms = [{ on = [0], values = [5,2] }, { on = [0,1], values = [0,3,4,0] }, { on = [0,1,2], values = [0,0,0,0,0,0,0,-4] }]'
 IRREGULAR = b'variables = 2\nterms = [{ on = [0,1], values = [1,0,0,1] }]'
 
-# These have nets of 4,096 nodes, the fewest that workers share. An energy is cut whole. With label costs no site is
-# decided before the cut. In EVEN and GREY the neighbours of each site outweigh its own costs, so each is left open.
+# These have nets of 4,096 nodes, the fewest that workers share. An energy is cut whole. In the others the neighbours of
+# each site outweigh its own costs, so each is left open.
 PART = '{ on = [%d], values = [0,3] }, { on = [%d], values = [3,0] }, { on = [%d,%d], values = [0,2,2,0] }'
 MANY = ('variables = 4096\nterms = [%s]' % ', '.join(PART % (i, i + 1, i, i + 1) for i in range(0, 4096, 2))).encode()
-LONG = b'sites = 4096\nlabels = 2\ndata = [%s]\nlabel_costs = [5,5]\npairs = [[0,1]]' % b','.join([b'0,3'] * 4096)
+LONG = ('sites = 4096\nlabels = 2\ndata = [%s]\npairs = [%s]' % (
+    ','.join(['3,0'] * 4096), ','.join('[%d,%d,9]' % (i, i + 1) for i in range(0, 4096, 2)))).encode()
 FLAT = b'P5\n64 64\n3\n' + b'\1' * 4096
 EVEN = (b'P5\n64 64\n9\n' + b'\5' * 4096) * 2
 GREY = b'P5\n64 64\n9\n' + b'\5' * 4096 + b'P5\n64 64\n2\n' + b'\0' * 4096
@@ -100,7 +101,7 @@ COMMANDS = [
 SHARED = [
     (['energy'], MANY),
     (['label'], LONG),
-    (['restore', '--label-cost', '1', '--cycles', '1'], FLAT),
+    (['restore', '--weight', '9', '--cycles', '1'], FLAT),
     (['stereo', '--labels', '2', '--cap', '9', '--weight', '9', '--cycles', '1'], EVEN),
     (['segment', '--low', '2', '--high', '7', '--strong', '3', '--weak', '3', '--edge', '9', '--cycles', '1'], GREY),
 ]
