@@ -1,5 +1,5 @@
 -- The terms so far, added up.
-use Rattle.std.proofs.Common.{◌≡◌, ℕ, ◌+◌, ◌*◌, ◌<◌, ◌≤◌, Bool, true, false, List, [], ◌∷◌, length, take, replicate, pos, ◌+ℤ◌, unsigned_abs, sum_by, ℤ, All, slice_get, Some, vec_len, refl, ◌∙◌, ap, subst, arith}
+use Rattle.std.proofs.Common.{◌≡◌, ℕ, ◌+◌, ◌*◌, ◌<◌, ◌≤◌, Bool, true, false, List, [], ◌∷◌, length, take, replicate, pos, ◌+ℤ◌, unsigned_abs, sum_by, ℤ, All, slice_get, Some, vec_len, refl, ◌∙◌, ap, subst, arith, Result, Ok, Err, OnOk}
 use Rattle.std.proofs.lemmas.Int.{ints}
 use Rattle.std.proofs.lemmas.List.{take_all, get_or-replicate, length-replicate, length-take}
 use Rattle.std.proofs.lemmas.List.Elements.{All-head, All-tail, All-get_or, All-nil}
@@ -51,10 +51,17 @@ pub term_at : (P : Term → Type 0) (ts : List Term) (i : ℕ) (t : Term) → i 
 term_at P ts i t l is h = rw (get_or_from_slice_get ts i t t is) at (All-get_or P ts i t l h)
 
 -- a form that grows by just what the term says
-pub adds_exactly : (old new : Quadratic) (t : Term)
+pub adds_exactly : (old new : Quadratic) (t : Term) → vec_len new.weights ≡ vec_len old.weights + three_digit t
+    → ((k : ℕ) → IsQuadraticBounded k old → IsQuadraticBounded (k + 1) new)
     → ((x : ℕ → Bool) → quadratic_value new x ≡ quadratic_value old x +ℤ term_value x t) → AddsTerm old new t
-adds_exactly old new t is =
-    record { lower = λ x. omega (arith, ints, is x); reached = λ x. (x, (λ i l. refl), is x) }
+adds_exactly old new t nodes bounded is =
+    record { nodes = nodes; bounded = bounded; lower = λ x. omega (arith, ints, is x); reached = λ x. (x, (λ i l. refl), is x) }
+
+pub adds_exactly_if : {T E : Type 0} (r : Result T E) (old new : Quadratic) (t : Term) → vec_len new.weights ≡ vec_len old.weights + three_digit t
+    → OnOk r ((k : ℕ) → IsQuadraticBounded k old → IsQuadraticBounded (k + 1) new)
+    → OnOk r ((x : ℕ → Bool) → quadratic_value new x ≡ quadratic_value old x +ℤ term_value x t) → OnOk r (AddsTerm old new t)
+adds_exactly_if (Ok v) old new t nodes bounded is = adds_exactly old new t nodes bounded is
+adds_exactly_if (Err e) old new t nodes bounded is = tt
 
 -- ---- the loop over the terms
 
@@ -83,14 +90,14 @@ step_values e i t old new l is term within values adds =
     }
 
 pub step : (e : Energy) (i : ℕ) (t : Term) (old new : Quadratic) → i < length e.terms → slice_get e.terms i ≡ Some t → IsTerm e.variables t
-    → HasAdded e i old → AddsTerm old new t → IsQuadraticBounded (i + 1) new → vec_len new.weights ≡ vec_len old.weights + three_digit t
-    → HasAdded e (i + 1) new
-step e i t old new l is term had adds bounded len =
+    → HasAdded e i old → AddsTerm old new t → HasAdded e (i + 1) new
+step e i t old new l is term had adds =
+    let len = adds.nodes in
     let more = sum_by_more three_digit e.terms i t l in
     let here = ap three_digit (get_or_from_slice_get e.terms i t t is) in
     record {
       values = step_values e i t old new l is term had.variables had.values adds;
-      bounded = bounded;
+      bounded = adds.bounded i had.bounded;
       variables = omega (arith, had.variables, len);
       hidden = omega (arith, had.hidden, len, more, here);
     }

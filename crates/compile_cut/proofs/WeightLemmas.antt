@@ -6,7 +6,7 @@ use Rattle.std.proofs.lemmas.Int.{ints}
 use Rattle.std.proofs.Math.ListN.{get_or-append}
 use Rattle.std.proofs.Math.Seq.{get_or-append_seam}
 use Rattle.std.proofs.lemmas.List.{length-append}
-use Rattle.std.proofs.lemmas.List.Elements.{All-head, All-tail}
+use Rattle.std.proofs.lemmas.List.Elements.{All-head, All-tail, All-cons, All-nil}
 use Rattle.std.proofs.lemmas.List.Sums.{get_or-le-sum_by, sum_by-cons}
 use Rattle.sums.specs.Sums.{count_if}
 use Rattle.sums.specs.IntegerSums.{int_sum_below, int_counted}
@@ -15,7 +15,7 @@ use Rattle.pseudo_bool.specs.Energies.{entry, digit}
 use Rattle.flow_network.specs.declared.arc.Arc.{Arc}
 use Rattle.flow_network.specs.Cut.{enters, IsArc}
 use Rattle.compile_cut.specs.Shown.{Shows}
-use Rattle.compile_cut.specs.Weights.{weights_value, weights_size, arcs_value}
+use Rattle.compile_cut.specs.Weights.{weights_value, weights_size, arcs_value, AddsArcs}
 use Rattle.compile_cut.specs.declared.three.ThreePart.{ThreePart}
 use Rattle.compile_cut.specs.Three.{hidden_value, part_value, entry_of_three, IsLeastOverHidden}
 use Rattle.compile_cut.proofs.PartLemmas.{one_parts, pair_parts}
@@ -56,6 +56,37 @@ pub pair_more : (k0 k f s v v' v'' : ℤ) (g a a' : ℕ) (table : List ℤ) (b c
     → k0 +ℤ k +ℤ v'' +ℤ pos a' ≡ k0 +ℤ v +ℤ pos a +ℤ entry table (2 * digit b + digit c)
 pair_more k0 k f s v v' v'' g a a' table b c hv hv' ha hk hf hs hg =
     omega (arith, ints, pair_parts table k f s g b c hk hf hs hg, hv, hv', ha)
+
+-- ---- arcs, one after another
+
+pub both_below : (n a b : ℕ) → a < n → b < n → All (λ end. end < n) (a ∷ b ∷ [])
+both_below n a b la lb =
+    All-cons (λ end. end < n) a (b ∷ []) la (All-cons (λ end. end < n) b [] lb (All-nil (λ end. end < n)))
+
+-- the ends of arcs are among the nodes of a longer list
+pub adds_among : (a b : List Arc) (ends more : List ℕ) (t : ℕ) (f : (ℕ → Bool) → ℕ)
+    → ((n : ℕ) → All (λ end. end < n) more → All (λ end. end < n) ends) → AddsArcs a b ends t f → AddsArcs a b more t f
+adds_among a b ends more t f among h = record {
+  value = h.value;
+  size = h.size;
+  nodes = λ n below all. h.nodes n (among n below) all;
+  above = h.above;
+}
+
+pub adds_then : (a b c : List Arc) (ends : List ℕ) (t u : ℕ) (f g : (ℕ → Bool) → ℕ) → AddsArcs a b ends t f → AddsArcs b c ends u g
+    → AddsArcs a c ends (t + u) (λ x. f x + g x)
+adds_then a b c ends t u f g h k = record {
+  value = λ x. omega (arith, h.value x, k.value x);
+  size = omega (arith, h.size, k.size);
+  nodes = λ n below all. k.nodes n below (h.nodes n below all);
+  above = λ all. k.above (h.above all);
+}
+
+-- three arcs, between nodes of a list
+pub adds_three : (a b c d : List Arc) (ends : List ℕ) (t u v : ℕ) (f g h : (ℕ → Bool) → ℕ) → AddsArcs a b ends t f → AddsArcs b c ends u g
+    → AddsArcs c d ends v h → AddsArcs a d ends (t + u + v) (λ x. f x + g x + h x)
+adds_three a b c d ends t u v f g h one two three =
+    adds_then a c d ends (t + u) v (λ x. f x + g x) h (adds_then a b c ends t u f g one two) three
 
 -- ---- a hidden node
 

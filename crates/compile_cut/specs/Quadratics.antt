@@ -1,11 +1,12 @@
-use Rattle.std.specs.Prelude.{◌≡◌, ℕ, ◌+◌, ◌*◌, ◌≤◌, Bool, [], All, replicate, ℤ, pos, ◌+ℤ◌, ◌≤ℤ◌, unsigned_abs, vec_len}
+use Rattle.std.specs.Prelude.{◌≡◌, ℕ, ◌+◌, ◌*◌, ◌≤◌, Bool, [], All, replicate, ℤ, pos, ◌+ℤ◌, ◌≤ℤ◌}
+use Rattle.std.specs.Prelude.{unsigned_abs, vec_len}
 use Rattle.pseudo_bool.specs.declared.term.Term.{Term}
 use Rattle.pseudo_bool.specs.Energies.{Energy, term_value, value_at}
 use Rattle.pseudo_bool.specs.Limits.{value_limit, constant_limit}
 use Rattle.flow_network.specs.Cut.{IsArc}
 use Rattle.compile_cut.specs.declared.quadratic.Quadratic.{Quadratic}
 use Rattle.compile_cut.specs.Limits.{term_size}
-use Rattle.compile_cut.specs.Shown.{Shows}
+use Rattle.compile_cut.specs.Shown.{Shows, three_digit}
 use Rattle.compile_cut.specs.Weights.{weights_value, weights_size, arcs_value, arcs_size, IsAbove}
 
 -- the value at a set of nodes
@@ -26,8 +27,11 @@ pub record IsConstant (constant : ℤ) (nodes : ℕ) (q : Quadratic) : Type 0 wh
   pub weights : q.weights.items ≡ replicate nodes (pos 0)
   pub arcs : q.arcs.items ≡ []
 
--- of the sets that are the same on the old nodes, the least new value is the old one and the term's
+-- of the sets that are the same on the old nodes, the least new value is the old one and the
+-- term's: a term of three variables brings a node
 pub record AddsTerm (old new : Quadratic) (term : Term) : Type 0 where
+  pub nodes : vec_len new.weights ≡ vec_len old.weights + three_digit term
+  pub bounded : (k : ℕ) → IsQuadraticBounded k old → IsQuadraticBounded (k + 1) new
   pub lower : (x : ℕ → Bool) → (quadratic_value old x +ℤ term_value x term) ≤ℤ quadratic_value new x
   pub reached : (x : ℕ → Bool)
       → (y : ℕ → Bool) × Shows (vec_len old.weights) x y

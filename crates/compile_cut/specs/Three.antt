@@ -1,15 +1,33 @@
-use Rattle.std.specs.Prelude.{◌≡◌, ℕ, suc, ◌+◌, ◌*◌, ◌≤◌, Bool, not, ◌&&◌, List, [], ◌∷◌, ℤ, pos, negsuc, ◌+ℤ◌, ◌-ℤ◌, ◌≤ℤ◌, unsigned_abs}
+use Rattle.std.specs.Prelude.{◌≡◌, ℕ, suc, ◌+◌, ◌*◌, ◌<◌, ◌≤◌, Bool, not, ◌&&◌, List, [], ◌∷◌, ℤ}
+use Rattle.std.specs.Prelude.{pos}
+use Rattle.std.specs.Prelude.{negsuc, ◌+ℤ◌, ◌-ℤ◌, ◌≤ℤ◌, unsigned_abs}
 use Rattle.sums.specs.Sums.{count_if}
 use Rattle.sums.specs.IntegerSums.{int_counted}
 use Rattle.pseudo_bool.specs.Limits.{value_limit}
 use Rattle.pseudo_bool.specs.Energies.{entry, digit, IsValue}
+use Rattle.regular.specs.declared.fixed.Fixed.{Fixed}
+use Rattle.regular.specs.Regularity.{IsRegularTable, projection}
+use Rattle.compile_cut.specs.declared.adding.Nodes.{Nodes}
 use Rattle.compile_cut.specs.declared.three.ThreePart.{ThreePart}
+
+-- the numbers of three variables are numbers of nodes
+pub record AreNodesBelow (count : ℕ) (nodes : Nodes) : Type 0 where
+  pub first : nodes.first < count
+  pub second : nodes.second < count
+  pub third : nodes.third < count
+
+-- each projection of a table of three variables is regular
+abbrev pub AreProjectionsRegular : List ℤ → Type 0
+AreProjectionsRegular table =
+    (fixed : Fixed) → fixed.position < 3 → IsRegularTable (projection table fixed)
+
+-- what a table has at two places less what it has at two others
+abbrev pub balance_at : List ℤ → ℕ → ℕ → ℕ → ℕ → ℤ
+balance_at table a b c d = entry table a +ℤ entry table b -ℤ entry table c -ℤ entry table d
 
 -- the coefficient of the product of the three variables, in the polynomial that a table is
 abbrev pub cubic_weight : List ℤ → ℤ
-cubic_weight table =
-    (entry table 1 +ℤ entry table 2 -ℤ entry table 0 -ℤ entry table 3)
-    +ℤ (entry table 4 +ℤ entry table 7 -ℤ entry table 5 -ℤ entry table 6)
+cubic_weight table = balance_at table 1 2 0 3 +ℤ balance_at table 4 7 5 6
 
 -- the table over the complemented variables in the reverse order
 abbrev pub turned_table : List ℤ → List ℤ
@@ -45,6 +63,17 @@ entry_of_three table x y z = entry table (4 * digit x + 2 * digit y + digit z)
 pub record IsLeastOverHidden (table : List ℤ) (p : ThreePart) : Type 0 where
   pub lower : (w x y z : Bool) → entry_of_three table x y z ≤ℤ part_value p w x y z
   pub reached : (x y z : Bool) → (w : Bool) × (part_value p w x y z ≡ entry_of_three table x y z)
+
+-- the parts of a table by what it has where one variable is 0, and a hidden node of this weight
+pub record IsSplitAtZeros (table : List ℤ) (weight : ℤ) (p : ThreePart) : Type 0 where
+  pub constant : p.constant ≡ entry table 0
+  pub first : p.first ≡ entry table 4 -ℤ entry table 0
+  pub second : p.second ≡ entry table 6 -ℤ entry table 4
+  pub third : p.third ≡ balance_at table 0 3 1 2 +ℤ (entry table 5 -ℤ entry table 4)
+  pub first_second : pos p.arcs.first_second ≡ balance_at table 2 4 0 6
+  pub first_third : pos p.arcs.first_third ≡ balance_at table 1 4 0 5
+  pub second_third : pos p.arcs.second_third ≡ balance_at table 1 2 0 3
+  pub hidden : p.hidden ≡ weight
 
 -- the parts are small
 pub record IsThreePartSmall (p : ThreePart) : Type 0 where

@@ -1,9 +1,11 @@
-use Rattle.std.specs.Prelude.{ℕ, suc, ◌<◌, Bool, List, length, sum_by, ℤ, pos, negsuc, unsigned_abs}
+use Rattle.std.specs.Prelude.{◌≡◌, ℕ, suc, ◌+◌, ◌<◌, ◌≤◌, Bool, List, All, length, sum_by, vec_len}
+use Rattle.std.specs.Prelude.{ℤ, pos, negsuc, ◌+ℤ◌, unsigned_abs}
+use Rattle.std.specs.Global.{Vec}
 use Rattle.sums.specs.Sums.{count_if}
 use Rattle.sums.specs.IntegerSums.{int_sum_below, int_counted}
 use Rattle.pseudo_bool.specs.Energies.{entry}
 use Rattle.flow_network.specs.declared.arc.Arc.{Arc}
-use Rattle.flow_network.specs.Cut.{enters}
+use Rattle.flow_network.specs.Cut.{IsArc, enters}
 
 -- the weights of the nodes of a set
 abbrev pub weights_value : List ℤ → (ℕ → Bool) → ℤ
@@ -24,6 +26,22 @@ arcs_size arcs = sum_by (λ arc. arc.capacity) arcs
 -- the arc can carry something
 abbrev pub IsAbove : Arc → Type 0
 IsAbove arc = 0 < arc.capacity
+
+-- arcs are added, each between two nodes of a list: of their total capacity this much is carried
+-- into a set
+pub record AddsArcs (old new : List Arc) (ends : List ℕ) (total : ℕ) (carried : (ℕ → Bool) → ℕ)
+    : Type 0 where
+  pub value : (x : ℕ → Bool) → arcs_value new x ≡ arcs_value old x + carried x
+  pub size : arcs_size new ≡ arcs_size old + total
+  pub nodes : (n : ℕ) → All (λ end. end < n) ends → All (IsArc n) old → All (IsArc n) new
+  pub above : All IsAbove old → All IsAbove new
+
+-- numbers of at most this total size are added to weights: a set's weight grows by this much
+pub record AddsWeights (old new : Vec ℤ) (most : ℕ) (added : (ℕ → Bool) → ℤ) : Type 0 where
+  pub len : vec_len new ≡ vec_len old
+  pub value : (x : ℕ → Bool)
+      → weights_value new.items x ≡ weights_value old.items x +ℤ added x
+  pub size : weights_size new.items ≤ weights_size old.items + most
 
 -- the capacity that a weight above 0 is at the source
 abbrev pub source_part : ℤ → ℕ

@@ -1,11 +1,12 @@
-ghost use Rattle.std.specs.Prelude.{◌≡◌, ℕ, ◌+◌, ◌*◌, ◌<◌, ◌≤◌, Bool, not, ◌&&◌, All, ◌+ℤ◌, unsigned_abs, vec_len, OnOk};
+//! Weights and arcs that are added to a form.
+ghost use Rattle.std.specs.Prelude.{ℕ, ◌+◌, ◌*◌, ◌<◌, ◌≤◌, Bool, not, ◌&&◌, [], ◌∷◌, ◌+ℤ◌};
+ghost use Rattle.std.specs.Prelude.{unsigned_abs, vec_len, OnOk};
 ghost use Rattle.sums.specs.Sums.{count_if};
 ghost use Rattle.sums.specs.IntegerSums.{int_counted};
 ghost use Rattle.pseudo_bool.specs.Limits.{value_limit};
-ghost use Rattle.flow_network.specs.Cut.{IsArc};
 ghost use Rattle.compile_cut.specs.Limits.{term_size, form_size};
-ghost use Rattle.compile_cut.specs.Weights.{weights_value, weights_size, arcs_value, arcs_size, IsAbove};
-ghost use Rattle.compile_cut.specs.Three.{hidden_value, IsThreePartSmall};
+ghost use Rattle.compile_cut.specs.Weights.{weights_size, AddsArcs, AddsWeights};
+ghost use Rattle.compile_cut.specs.Three.{hidden_value, AreNodesBelow, IsThreePartSmall};
 
 use crate::three::{ThreeArcs, ThreePart};
 use flow_network::Arc;
@@ -16,25 +17,15 @@ pub fn add_weight(weights: &mut Vec<i64>, at: u32, by: i64)
     requires at { at < vec_len weights.old }
     requires room { weights_size weights.old.items ≤ form_size + term_size }
     requires step { unsigned_abs by ≤ 8 * value_limit }
-    ensures len { vec_len weights.new ≡ vec_len weights.old }
-    ensures value { (x : ℕ → Bool)
-        → weights_value weights.new.items x ≡ weights_value weights.old.items x
-        +ℤ int_counted (x at) by }
-    ensures size { weights_size weights.new.items
-        ≤ weights_size weights.old.items + unsigned_abs by }
+    ensures { AddsWeights weights.old weights.new (unsigned_abs by) (λ x. int_counted (x at) by) }
 {
     weights[at as usize] += by;
 }
 
 /// Adds an arc, if it carries anything.
 pub fn add_arc(arcs: &mut Vec<Arc>, from: u32, to: u32, capacity: u64) -> Result<(), AllocError>
-    ensures value { OnOk result
-        ((x : ℕ → Bool) → arcs_value arcs.new.items x ≡ arcs_value arcs.old.items x
-        + count_if (x to && not (x from)) capacity) }
-    ensures size { OnOk result (arcs_size arcs.new.items ≡ arcs_size arcs.old.items + capacity) }
-    ensures nodes { OnOk result ((n : ℕ) → from < n → to < n → All (IsArc n) arcs.old.items
-        → All (IsArc n) arcs.new.items) }
-    ensures above { OnOk result (All IsAbove arcs.old.items → All IsAbove arcs.new.items) }
+    ensures { OnOk result (AddsArcs arcs.old.items arcs.new.items (from ∷ to ∷ []) capacity
+        (λ x. count_if (x to && not (x from)) capacity)) }
 {
     if capacity > 0 {
         arcs.push(Arc { from, to, capacity })?;
@@ -52,19 +43,13 @@ pub struct Nodes {
 
 /// Adds the weights of three variables.
 pub fn add_three_weights(weights: &mut Vec<i64>, nodes: Nodes, part: &ThreePart)
-    requires first { nodes.first < vec_len weights.old }
-    requires second { nodes.second < vec_len weights.old }
-    requires third { nodes.third < vec_len weights.old }
+    requires nodes { AreNodesBelow (vec_len weights.old) nodes }
     requires room { weights_size weights.old.items + 12 * value_limit ≤ form_size + term_size }
     requires small { IsThreePartSmall part.now }
-    ensures len { vec_len weights.new ≡ vec_len weights.old }
-    ensures value { (x : ℕ → Bool)
-        → weights_value weights.new.items x ≡ weights_value weights.old.items x
-        +ℤ int_counted (x nodes.first) part.now.first
+    ensures { AddsWeights weights.old weights.new (12 * value_limit)
+        (λ x. int_counted (x nodes.first) part.now.first
         +ℤ int_counted (x nodes.second) part.now.second
-        +ℤ int_counted (x nodes.third) part.now.third }
-    ensures size { weights_size weights.new.items
-        ≤ weights_size weights.old.items + 12 * value_limit }
+        +ℤ int_counted (x nodes.third) part.now.third) }
 {
     add_weight(weights, nodes.first, part.first);
     add_weight(weights, nodes.second, part.second);
@@ -73,17 +58,12 @@ pub fn add_three_weights(weights: &mut Vec<i64>, nodes: Nodes, part: &ThreePart)
 
 /// Adds the arcs among three variables, each from an earlier to a later.
 pub fn add_three_arcs(arcs: &mut Vec<Arc>, nodes: Nodes, part: &ThreeArcs) -> Result<(), AllocError>
-    ensures value { OnOk result
-        ((x : ℕ → Bool) → arcs_value arcs.new.items x ≡ arcs_value arcs.old.items x
-        + count_if (x nodes.second && not (x nodes.first)) part.now.first_second
+    ensures { OnOk result (AddsArcs arcs.old.items arcs.new.items
+        (nodes.first ∷ nodes.second ∷ nodes.third ∷ [])
+        (part.now.first_second + part.now.first_third + part.now.second_third)
+        (λ x. count_if (x nodes.second && not (x nodes.first)) part.now.first_second
         + count_if (x nodes.third && not (x nodes.first)) part.now.first_third
-        + count_if (x nodes.third && not (x nodes.second)) part.now.second_third) }
-    ensures size { OnOk result
-        (arcs_size arcs.new.items ≡ arcs_size arcs.old.items + part.now.first_second
-        + part.now.first_third + part.now.second_third) }
-    ensures nodes { OnOk result ((n : ℕ) → nodes.first < n → nodes.second < n → nodes.third < n
-        → All (IsArc n) arcs.old.items → All (IsArc n) arcs.new.items) }
-    ensures above { OnOk result (All IsAbove arcs.old.items → All IsAbove arcs.new.items) }
+        + count_if (x nodes.third && not (x nodes.second)) part.now.second_third)) }
 {
     add_arc(arcs, nodes.first, nodes.second, part.first_second)?;
     add_arc(arcs, nodes.first, nodes.third, part.first_third)?;
@@ -99,14 +79,9 @@ pub fn add_hidden_arcs(
     nodes: Nodes,
     weight: i64,
 ) -> Result<(), AllocError>
-    ensures value { OnOk result
-        ((x : ℕ → Bool) → arcs_value arcs.new.items x ≡ arcs_value arcs.old.items x
-        + hidden_value weight (x hidden) (x nodes.first) (x nodes.second) (x nodes.third)) }
-    ensures size { OnOk result (arcs_size arcs.new.items ≡ arcs_size arcs.old.items
-        + 3 * unsigned_abs weight) }
-    ensures nodes { OnOk result ((n : ℕ) → hidden < n → nodes.first < n → nodes.second < n
-        → nodes.third < n → All (IsArc n) arcs.old.items → All (IsArc n) arcs.new.items) }
-    ensures above { OnOk result (All IsAbove arcs.old.items → All IsAbove arcs.new.items) }
+    ensures { OnOk result (AddsArcs arcs.old.items arcs.new.items
+        (hidden ∷ nodes.first ∷ nodes.second ∷ nodes.third ∷ []) (3 * unsigned_abs weight)
+        (λ x. hidden_value weight (x hidden) (x nodes.first) (x nodes.second) (x nodes.third))) }
 {
     let capacity = weight.unsigned_abs();
     if weight > 0 {

@@ -1,4 +1,5 @@
-ghost use Rattle.std.specs.Prelude.{◌≡◌, ℕ, ◌+◌, ◌<◌, ◌≤◌, ◌⊎◌, Bool, All, map, sum, length, pos};
+//! The net of a form: its weights as capacities at the source and at the sink.
+ghost use Rattle.std.specs.Prelude.{◌≡◌, ℕ, ◌+◌, ◌<◌, ◌≤◌, ◌⊎◌, Bool, All, map, sum, pos};
 ghost use Rattle.std.specs.Prelude.{◌+ℤ◌, ◌-ℤ◌, unsigned_abs, vec_len, slice_index, IfOk};
 ghost use Rattle.pseudo_bool.specs.Limits.{term_limit};
 ghost use Rattle.flow_network.specs.Cut.{nodes, capacity_of, total_capacity, IsNet};

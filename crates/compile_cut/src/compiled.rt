@@ -1,4 +1,6 @@
-ghost use Rattle.std.specs.Prelude.{◌≡◌, ℕ, ◌+◌, ◌<◌, ◌≤◌, ◌⊎◌, All, IfOk, slice_index, unsigned_abs};
+//! The net of an energy.
+ghost use Rattle.std.specs.Prelude.{◌≡◌, ℕ, ◌+◌, ◌<◌, ◌≤◌, ◌⊎◌, All, IfOk, slice_index};
+ghost use Rattle.std.specs.Prelude.{unsigned_abs};
 ghost use Rattle.flow_network.specs.Cut.{nodes};
 ghost use Rattle.compile_cut.specs.Limits.{compiled_constant};
 ghost use Rattle.compile_cut.specs.Shown.{ShowsValues, three_count};

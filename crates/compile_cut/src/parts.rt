@@ -1,7 +1,10 @@
-ghost use Rattle.std.specs.Prelude.{◌≡◌, ◌+◌, ◌*◌, ◌<◌, ◌≤◌, length, All, pos, ◌+ℤ◌, ◌-ℤ◌, ◌≤ℤ◌, unsigned_abs};
+//! Tables of one and two variables as constants, weights and arcs.
+ghost use Rattle.std.specs.Prelude.{◌≡◌, ◌+◌, ◌*◌, ◌<◌, ◌≤◌, length, All, pos, ◌+ℤ◌, ◌-ℤ◌, ◌≤ℤ◌};
+ghost use Rattle.std.specs.Prelude.{unsigned_abs};
 ghost use Rattle.pseudo_bool.specs.Limits.{value_limit};
 ghost use Rattle.pseudo_bool.specs.Energies.{entry, IsValue};
 ghost use Rattle.regular.specs.Regularity.{IsRegularTable};
+ghost use Rattle.compile_cut.specs.Three.{balance_at};
 
 /// What a table has at a place less what it has at another.
 pub fn difference(table: &[i64], above: usize, below: usize) -> i64
@@ -18,8 +21,7 @@ pub fn balance(table: &[i64], a: usize, b: usize, c: usize, d: usize) -> i64
     requires values { All IsValue table.now }
     requires places { (a < length table.now) × (b < length table.now) × (c < length table.now)
         × (d < length table.now) }
-    ensures value { result ≡ entry table.now a +ℤ entry table.now b -ℤ entry table.now c
-        -ℤ entry table.now d }
+    ensures value { result ≡ balance_at table.now a b c d }
     ensures small { unsigned_abs result ≤ 4 * value_limit }
 {
     balance_of(table[a], table[b], table[c], table[d])
@@ -44,8 +46,7 @@ pub fn gain(table: &[i64], a: usize, b: usize, c: usize, d: usize) -> u64
         × (d < length table.now) }
     requires regular { (entry table.now c +ℤ entry table.now d)
         ≤ℤ (entry table.now a +ℤ entry table.now b) }
-    ensures value { pos result ≡ entry table.now a
-        +ℤ entry table.now b -ℤ entry table.now c -ℤ entry table.now d }
+    ensures value { pos result ≡ balance_at table.now a b c d }
     ensures small { result ≤ 4 * value_limit }
 {
     balance(table, a, b, c, d).unsigned_abs()
@@ -100,8 +101,7 @@ pub fn split_pair(table: &[i64; 4]) -> PairPart
     ensures constant { result.constant ≡ entry table.now 0 }
     ensures first { result.first ≡ entry table.now 2 -ℤ entry table.now 0 }
     ensures second { result.second ≡ entry table.now 3 -ℤ entry table.now 2 }
-    ensures arc { pos result.arc ≡ entry table.now 1
-        +ℤ entry table.now 2 -ℤ entry table.now 0 -ℤ entry table.now 3 }
+    ensures arc { pos result.arc ≡ balance_at table.now 1 2 0 3 }
     ensures small_constant { IsValue result.constant }
     ensures small_first { unsigned_abs result.first ≤ 2 * value_limit }
     ensures small_second { unsigned_abs result.second ≤ 2 * value_limit }

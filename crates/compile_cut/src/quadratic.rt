@@ -1,15 +1,14 @@
-ghost use Rattle.std.specs.Prelude.{◌≡◌, ℕ, ◌+◌, ◌*◌, ◌<◌, ◌≤◌, Bool, not, ◌&&◌, All, length, ◌+ℤ◌, ◌≤ℤ◌, unsigned_abs, sum_by, slice_index_or, pos, vec_len, OnOk, IfOk};
-ghost use Rattle.sums.specs.Sums.{count_if};
-ghost use Rattle.sums.specs.IntegerSums.{int_counted};
+//! Forms: the terms of an energy, added up as weights and arcs.
+ghost use Rattle.std.specs.Prelude.{◌≡◌, ℕ, ◌+◌, ◌*◌, ◌<◌, ◌≤◌, Bool, All, ◌+ℤ◌, pos, vec_len};
+ghost use Rattle.std.specs.Prelude.{OnOk, IfOk};
 ghost use Rattle.pseudo_bool.specs.Limits.{term_limit};
-ghost use Rattle.pseudo_bool.specs.Energies.{entry, digit, IsValue, IsTerm, IsEnergy, value_at};
-ghost use Rattle.regular.specs.Regularity.{IsRegular, IsRegularTerm, IsRegularTable, projection};
-ghost use Rattle.regular.specs.declared.fixed.Fixed.{Fixed};
-ghost use Rattle.flow_network.specs.Cut.{IsArc};
+ghost use Rattle.pseudo_bool.specs.Energies.{entry, digit, IsValue, IsTerm, IsEnergy};
+ghost use Rattle.regular.specs.Regularity.{IsRegular, IsRegularTerm, IsRegularTable};
 ghost use Rattle.compile_cut.specs.Limits.{form_nodes};
-ghost use Rattle.compile_cut.specs.Weights.{weights_value, weights_size, arcs_value, arcs_size, IsAbove};
-ghost use Rattle.compile_cut.specs.Quadratics.{quadratic_value, IsQuadraticBounded, IsConstant, AddsTerm, SaysValues};
-ghost use Rattle.compile_cut.specs.Shown.{three_count, three_digit};
+ghost use Rattle.compile_cut.specs.Quadratics.{quadratic_value, IsQuadraticBounded, IsConstant};
+ghost use Rattle.compile_cut.specs.Quadratics.{AddsTerm, SaysValues};
+ghost use Rattle.compile_cut.specs.Shown.{three_count};
+ghost use Rattle.compile_cut.specs.Three.{AreNodesBelow, AreProjectionsRegular};
 
 use crate::adding::{
     Nodes, add_arc, add_hidden_arcs, add_three_arcs, add_three_weights, add_weight,
@@ -108,16 +107,10 @@ impl Quadratic {
     fn add_three(&mut self, nodes: Nodes, table: &[i64; 8]) -> Result<(), AllocError>
         requires bounded { IsQuadraticBounded term_limit self.old }
         requires room { vec_len self.old.weights < form_nodes }
-        requires first { nodes.first < vec_len self.old.weights }
-        requires second { nodes.second < vec_len self.old.weights }
-        requires third { nodes.third < vec_len self.old.weights }
+        requires nodes { AreNodesBelow (vec_len self.old.weights) nodes }
         requires values { All IsValue table.now }
-        requires regular { (fixed : Fixed) → fixed.position < 3
-            → IsRegularTable (projection table.now fixed) }
-        ensures len { OnOk result (vec_len self.new.weights ≡ vec_len self.old.weights + 1) }
-        ensures bounded { OnOk result
-            ((k : ℕ) → IsQuadraticBounded k self.old → IsQuadraticBounded (k + 1) self.new) }
-        ensures value { OnOk result (AddsTerm self.old self.new
+        requires regular { AreProjectionsRegular table.now }
+        ensures { OnOk result (AddsTerm self.old self.new
             (Term.Three nodes.first nodes.second nodes.third table.now)) }
     {
         let part = split_three(table);
@@ -136,11 +129,7 @@ impl Quadratic {
         requires term { IsTerm (vec_len self.old.weights) term.now }
         requires regular { IsRegularTerm term.now }
         requires room { vec_len self.old.weights < form_nodes }
-        ensures len { OnOk result (vec_len self.new.weights ≡ vec_len self.old.weights
-            + three_digit term.now) }
-        ensures bounded { OnOk result
-            ((k : ℕ) → IsQuadraticBounded k self.old → IsQuadraticBounded (k + 1) self.new) }
-        ensures value { OnOk result (AddsTerm self.old self.new term.now) }
+        ensures { OnOk result (AddsTerm self.old self.new term.now) }
     {
         match term {
             Term::One(first, table) => {

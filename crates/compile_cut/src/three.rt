@@ -1,9 +1,11 @@
-ghost use Rattle.std.specs.Prelude.{◌≡◌, ◌+◌, ◌*◌, ◌<◌, ◌≤◌, Bool, not, All, pos, ◌+ℤ◌, ◌-ℤ◌, ◌≤ℤ◌, unsigned_abs};
+//! Tables of three variables as constants, weights, arcs and a hidden node.
+ghost use Rattle.std.specs.Prelude.{◌≡◌, ◌+◌, ◌*◌, ◌<◌, ◌≤◌, Bool, not, All, pos, ◌+ℤ◌, ◌-ℤ◌, ◌≤ℤ◌};
+ghost use Rattle.std.specs.Prelude.{unsigned_abs};
 ghost use Rattle.pseudo_bool.specs.Limits.{value_limit};
 ghost use Rattle.pseudo_bool.specs.Energies.{entry, IsValue};
-ghost use Rattle.regular.specs.declared.fixed.Fixed.{Fixed};
-ghost use Rattle.regular.specs.Regularity.{IsRegularTable, projection};
-ghost use Rattle.compile_cut.specs.Three.{cubic_weight, turned_table, part_value, IsLeastOverHidden, IsThreePartSmall};
+ghost use Rattle.compile_cut.specs.Three.{balance_at, cubic_weight, turned_table, part_value};
+ghost use Rattle.compile_cut.specs.Three.{AreProjectionsRegular, IsLeastOverHidden};
+ghost use Rattle.compile_cut.specs.Three.{IsSplitAtZeros, IsThreePartSmall};
 
 use crate::parts::{balance, difference, gain, sum};
 
@@ -33,8 +35,7 @@ pub struct ThreePart {
 /// (Kolmogorov and Zabih 2004, section 4.2).
 pub fn split_three(table: &[i64; 8]) -> ThreePart
     requires values { All IsValue table.now }
-    requires regular { (fixed : Fixed) → fixed.position < 3
-        → IsRegularTable (projection table.now fixed) }
+    requires regular { AreProjectionsRegular table.now }
     ensures value { IsLeastOverHidden table.now result }
     ensures small { IsThreePartSmall result }
 {
@@ -99,22 +100,9 @@ fn turned_part(part: &ThreePart, constant: i64) -> ThreePart
 /// weight, is at most 0.
 fn split_at_zeros(table: &[i64; 8], hidden: i64) -> ThreePart
     requires values { All IsValue table.now }
-    requires regular { (fixed : Fixed) → fixed.position < 3
-        → IsRegularTable (projection table.now fixed) }
+    requires regular { AreProjectionsRegular table.now }
     requires hidden { unsigned_abs hidden ≤ 8 * value_limit }
-    ensures constant { result.constant ≡ entry table.now 0 }
-    ensures first { result.first ≡ entry table.now 4 -ℤ entry table.now 0 }
-    ensures second { result.second ≡ entry table.now 6 -ℤ entry table.now 4 }
-    ensures third { result.third
-        ≡ (entry table.now 0 +ℤ entry table.now 3 -ℤ entry table.now 1 -ℤ entry table.now 2)
-        +ℤ (entry table.now 5 -ℤ entry table.now 4) }
-    ensures first_second { pos result.arcs.first_second ≡ entry table.now 2
-        +ℤ entry table.now 4 -ℤ entry table.now 0 -ℤ entry table.now 6 }
-    ensures first_third { pos result.arcs.first_third ≡ entry table.now 1
-        +ℤ entry table.now 4 -ℤ entry table.now 0 -ℤ entry table.now 5 }
-    ensures second_third { pos result.arcs.second_third ≡ entry table.now 1
-        +ℤ entry table.now 2 -ℤ entry table.now 0 -ℤ entry table.now 3 }
-    ensures hidden { result.hidden ≡ hidden }
+    ensures value { IsSplitAtZeros table.now hidden result }
     ensures small { IsThreePartSmall result }
 {
     ThreePart {
@@ -130,14 +118,10 @@ fn split_at_zeros(table: &[i64; 8], hidden: i64) -> ThreePart
 /// What the arcs carry, by what the table has where one variable is 0.
 fn arcs_at_zeros(table: &[i64; 8]) -> ThreeArcs
     requires values { All IsValue table.now }
-    requires regular { (fixed : Fixed) → fixed.position < 3
-        → IsRegularTable (projection table.now fixed) }
-    ensures first_second { pos result.first_second ≡ entry table.now 2
-        +ℤ entry table.now 4 -ℤ entry table.now 0 -ℤ entry table.now 6 }
-    ensures first_third { pos result.first_third ≡ entry table.now 1
-        +ℤ entry table.now 4 -ℤ entry table.now 0 -ℤ entry table.now 5 }
-    ensures second_third { pos result.second_third ≡ entry table.now 1
-        +ℤ entry table.now 2 -ℤ entry table.now 0 -ℤ entry table.now 3 }
+    requires regular { AreProjectionsRegular table.now }
+    ensures first_second { pos result.first_second ≡ balance_at table.now 2 4 0 6 }
+    ensures first_third { pos result.first_third ≡ balance_at table.now 1 4 0 5 }
+    ensures second_third { pos result.second_third ≡ balance_at table.now 1 2 0 3 }
     ensures small { result.first_second + result.first_third + result.second_third
         ≤ 12 * value_limit }
 {

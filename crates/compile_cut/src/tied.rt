@@ -1,10 +1,11 @@
-ghost use Rattle.std.specs.Prelude.{◌≡◌, ℕ, ◌+◌, ◌*◌, ◌<◌, ◌≤◌, Bool, not, ◌&&◌, All, length, sum_by, vec_len, OnOk};
+//! Costs over many variables, each with a hidden node that is tied to them.
+ghost use Rattle.std.specs.Prelude.{ℕ, ◌+◌, ◌*◌, ◌<◌, ◌≤◌, not, ◌&&◌, ◌∷◌, All, length};
+ghost use Rattle.std.specs.Prelude.{sum_by, vec_len, OnOk};
 ghost use Rattle.std.specs.List.{list_all, list_any};
 ghost use Rattle.sums.specs.Sums.{count_if};
 ghost use Rattle.pseudo_bool.specs.Limits.{value_limit, term_limit};
-ghost use Rattle.flow_network.specs.Cut.{IsArc};
 ghost use Rattle.compile_cut.specs.Limits.{form_nodes};
-ghost use Rattle.compile_cut.specs.Weights.{arcs_value, arcs_size, IsAbove};
+ghost use Rattle.compile_cut.specs.Weights.{AddsArcs};
 ghost use Rattle.compile_cut.specs.Quadratics.{IsQuadraticBounded, AddsLeast, IsTied};
 
 use crate::adding::add_arc;
@@ -14,14 +15,9 @@ use std::alloc::AllocError;
 
 /// Adds an arc from each node to one node.
 fn add_arcs_to(arcs: &mut Vec<Arc>, nodes: &[u32], to: u32, capacity: u64) -> Result<(), AllocError>
-    ensures value { OnOk result
-        ((x : ℕ → Bool) → arcs_value arcs.new.items x ≡ arcs_value arcs.old.items x
-        + sum_by (λ node. count_if (x to && not (x node)) capacity) nodes.now) }
-    ensures size { OnOk result (arcs_size arcs.new.items ≡ arcs_size arcs.old.items
-        + capacity * length nodes.now) }
-    ensures nodes { OnOk result ((n : ℕ) → to < n → All (λ node. node < n) nodes.now
-        → All (IsArc n) arcs.old.items → All (IsArc n) arcs.new.items) }
-    ensures above { OnOk result (All IsAbove arcs.old.items → All IsAbove arcs.new.items) }
+    ensures { OnOk result (AddsArcs arcs.old.items arcs.new.items (to ∷ nodes.now)
+        (capacity * length nodes.now)
+        (λ x. sum_by (λ node. count_if (x to && not (x node)) capacity) nodes.now)) }
 {
     for index in 0..nodes.len() {
         add_arc(arcs, nodes[index], to, capacity)?;
@@ -36,14 +32,9 @@ fn add_arcs_from(
     nodes: &[u32],
     capacity: u64,
 ) -> Result<(), AllocError>
-    ensures value { OnOk result
-        ((x : ℕ → Bool) → arcs_value arcs.new.items x ≡ arcs_value arcs.old.items x
-        + sum_by (λ node. count_if (x node && not (x from)) capacity) nodes.now) }
-    ensures size { OnOk result (arcs_size arcs.new.items ≡ arcs_size arcs.old.items
-        + capacity * length nodes.now) }
-    ensures nodes { OnOk result ((n : ℕ) → from < n → All (λ node. node < n) nodes.now
-        → All (IsArc n) arcs.old.items → All (IsArc n) arcs.new.items) }
-    ensures above { OnOk result (All IsAbove arcs.old.items → All IsAbove arcs.new.items) }
+    ensures { OnOk result (AddsArcs arcs.old.items arcs.new.items (from ∷ nodes.now)
+        (capacity * length nodes.now)
+        (λ x. sum_by (λ node. count_if (x node && not (x from)) capacity) nodes.now)) }
 {
     for index in 0..nodes.len() {
         add_arc(arcs, from, nodes[index], capacity)?;

@@ -1,3 +1,4 @@
+pub mod Zeros
 pub mod Steps
 pub mod Queue
 pub mod Starting

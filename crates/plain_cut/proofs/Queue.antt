@@ -22,7 +22,7 @@ pub pop_work : (net : Network) (w w' : Work) (v : ℕ) (rest : List ℕ) → w.q
     → IsWork net w → (v < nodes net) × IsWork net w'
 pop_work net w w' v rest eq ea es ee el er h =
     let all = rw eq at h.queue in
-    (all 0 0 (omega arith), record { sound = rw (ea, es, ee, el) h.sound; shown = rw ea h.shown; rooms = rw es h.rooms; queue = rw er (λ k d l. all (suc k) d (omega (arith, l))) })
+    (all 0 0 (omega arith), record { sound = rw (ea, es, ee, el) h.sound; zeros = rw (ea, es, ee, el) h.zeros; shown = rw ea h.shown; rooms = rw es h.rooms; queue = rw er (λ k d l. all (suc k) d (omega (arith, l))) })
 
 pub done_queued : (net : Network) (limit : ℕ) (w : Work) (v : ℕ) → (slice_index w.labels.items v < limit → slice_index w.excess.items v ≡ 0)
     → IsQueuedBut net limit v w → IsQueuedBut net limit (nodes net) w

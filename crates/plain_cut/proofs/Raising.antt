@@ -6,10 +6,9 @@ use Rattle.flow_network.specs.Preflow.{Flow}
 use Rattle.flow_network.specs.Labels.{IsLabelling}
 use Rattle.flow_network.specs.Progress.{top, IsLabelledPreflow, work_left}
 use Rattle.flow_network.proofs.Moves.{kept-le-total}
-use Rattle.sink_distances.specs.Distances.{AreDistances}
-use Rattle.sink_distances.proofs.Laws.{distances_label, distances_rise, distances-le-top}
 use Rattle.plain_cut.specs.declared.work.Work.{Work}
-use Rattle.plain_cut.specs.State.{work_flow, IsWork, HasNoActiveNode, IsRaised}
+use Rattle.plain_cut.specs.State.{work_flow, IsWork, IsRaised}
+use Rattle.plain_cut.proofs.Zeros.{zeros_relabelled}
 
 sum_times : (x y k : ℕ) → (x + y) * k ≡ x * k + y * k
 sum_times x y k = grind arith
@@ -61,15 +60,18 @@ raise_sound net flow kept labels new s fits low = record {
 
 -- ---- over the work
 
--- labels that fit the flow and did not fall
+-- labels that fit the flow, did not fall, and are 0 where they were
 pub raise_fit : (net : Network) (old new : Work) → IsNet net → IsWork net old
     → new.rows ≡ old.rows → new.rooms.items ≡ old.rooms.items
     → new.excess.items ≡ old.excess.items → new.queue.items ≡ old.queue.items
     → IsLabelling net (work_flow net old) new.labels.items
     → ((v : ℕ) → v < nodes net → slice_index old.labels.items v ≤ slice_index new.labels.items v)
-    → ((v : ℕ) → v < nodes net → slice_index new.labels.items v ≤ top net) → IsRaised net old new
-raise_fit net old new h s ea es ee eq fits up low = record {
+    → ((v : ℕ) → v < nodes net → slice_index new.labels.items v ≤ top net)
+    → ((v : ℕ) → v < nodes net → slice_index old.labels.items v ≡ 0 → slice_index new.labels.items v ≡ 0) → IsRaised net old new
+raise_fit net old new h s ea es ee eq fits up low stay = record {
   work = record {
+    zeros = rw (ea, es, ee) (zeros_relabelled net (work_flow net old) old.excess.items old.labels.items new.labels.items h s.zeros stay
+        (λ v l none. omega (arith, none, up v l)));
     sound = rw (ea, es, ee) (raise_sound net (work_flow net old) old.excess.items old.labels.items new.labels.items s.sound fits low);
     shown = rw ea s.shown;
     rooms = rw es s.rooms;
@@ -80,18 +82,3 @@ raise_fit net old new h s ea es ee eq fits up low = record {
   excess = ee;
   queue = eq;
 }
-
--- the exact distances
-pub raise_work : (net : Network) (old new : Work) → IsNet net → IsWork net old
-    → new.rows ≡ old.rows → new.rooms.items ≡ old.rooms.items
-    → new.excess.items ≡ old.excess.items → new.queue.items ≡ old.queue.items
-    → AreDistances net (work_flow net old) new.labels.items → IsRaised net old new
-raise_work net old new h s ea es ee eq exact =
-    raise_fit net old new h s ea es ee eq (distances_label net (work_flow net old) new.labels.items h exact)
-    (distances_rise net (work_flow net old) old.labels.items new.labels.items s.sound.labelling s.sound.below_top exact)
-    (distances-le-top net (work_flow net old) new.labels.items exact)
-
--- what is finished stays so
-pub raise_finished : (net : Network) (old new : Work) → IsRaised net old new → HasNoActiveNode net old → HasNoActiveNode net new
-raise_finished net old new r h v lv low =
-    omega (arith, h v lv (omega (arith, r.labels v lv, low)), ap (λ (xs : List ℕ). slice_index xs v) r.excess)

@@ -9,7 +9,8 @@ use Rattle.flow_network.specs.Preflow.{arc_at, sink_flows, IsResidual}
 use Rattle.flow_network.specs.Progress.{IsLabelledPreflow}
 use Rattle.sink_distances.specs.Rows.{head_at, residual_at, carried_flow, IsPlace, IsPlaceOf, IsRows, IsSent}
 use Rattle.sink_distances.proofs.Showing.{carried_at, carried_forth, carried_back, rows_sent, residual_place}
-use Rattle.plain_cut.specs.State.{work_flow, IsWork, work_measure, IsStep, IsSteps, IsWave, IsLowest}
+use Rattle.plain_cut.specs.State.{work_flow, CountAsSink, IsWork, work_measure, IsStep, IsSteps, IsWave, IsLowest}
+use Rattle.plain_cut.proofs.Zeros.{push_ends, push_zeros, give_zeros, relabel_zeros}
 use Rattle.flow_network.proofs.Duality.{arc_is}
 use Rattle.flow_network.proofs.Given.{given_at, given_set, rooms_set, left_room}
 use Rattle.flow_network.proofs.Push.{moved, move_lowers, give_lowers}
@@ -39,15 +40,16 @@ queue_gains queue w false h = h refl
 -- ---- a push
 
 pub push_step : (net : Network) (old new : Work) (u w z : ℕ) → IsWork net old
-    → IsLabelledPreflow net (work_flow net new) new.excess.items new.labels.items → IsRows net new.rows → work_measure net new < work_measure net old
+    → IsLabelledPreflow net (work_flow net new) new.excess.items new.labels.items
+    → CountAsSink net (work_flow net new) new.excess.items new.labels.items → IsRows net new.rows → work_measure net new < work_measure net old
     → u ≢ w → w < nodes net → new.rooms.items ≡ old.rooms.items
     → new.excess.items ≡ moved old.excess.items u w z → new.labels.items ≡ old.labels.items
     → new.queue.items ≡ queued_after old.queue.items (slice_index old.excess.items w) w → new.relabels ≡ old.relabels
     → IsStep net u old new
-push_step net old new u w z h sound shown lower ne lw es ee el eq er =
+push_step net old new u w z h sound zeros shown lower ne lw es ee el eq er =
     let b = eqb (slice_index old.excess.items w) 0 in
     record {
-      work = record { sound = sound; shown = shown; rooms = rw es h.rooms; queue = rw eq (queue_all (nodes net) old.queue.items w b lw h.queue) };
+      work = record { sound = sound; zeros = zeros; shown = shown; rooms = rw es h.rooms; queue = rw eq (queue_all (nodes net) old.queue.items w b lw h.queue) };
       lower = lower;
       counted = omega (arith, lower, er);
       queue = rw eq (queue_length old.queue.items w b);
@@ -80,8 +82,10 @@ forward_step net old new k z h s shown l le some fits down ea es ee el eq er =
     let w = (arc_at net k).to in
     let ne : u ≢ w = λ e. (let same = ap (slice_index old.labels.items) e in omega (arith, same, down)) in
     let ends = arc_is net h k l in
+    let off = push_ends net (work_flow net old) old.excess.items old.labels.items u w s.zeros ends.from (omega (arith, le, some)) (k, l, inl (refl, refl, omega (arith, fits, some))) in
     push_step net old new u w z s
-    (rw (ea, es, ee, el) (forward_sound net (work_flow net old) old.excess.items old.labels.items k z h s.sound l le fits (omega (arith, fits, some)) down)) shown
+    (rw (ea, es, ee, el) (forward_sound net (work_flow net old) old.excess.items old.labels.items k z h s.sound l le fits (omega (arith, fits, some)) down))
+    (rw (ea, es, ee, el) (push_zeros net (work_flow net old) old.excess.items old.labels.items k _ u w z s.zeros off.0 off.1 off.0 off.1)) shown
     (rw (ee, el) (move_lowers net old.excess.items old.labels.items u w z ends.from ends.to ne s.sound.kept_len le some down))
     ne ends.to es ee el eq er
 
@@ -97,8 +101,10 @@ back_step net old new k z h s shown l le some fits down ea es ee el eq er =
     let w = (arc_at net k).from in
     let ne : u ≢ w = λ e. (let same = ap (slice_index old.labels.items) e in omega (arith, same, down)) in
     let ends = arc_is net h k l in
+    let off = push_ends net (work_flow net old) old.excess.items old.labels.items u w s.zeros ends.to (omega (arith, le, some)) (k, l, inr (refl, refl, omega (arith, fits, some))) in
     push_step net old new u w z s
-    (rw (ea, es, ee, el) (back_sound net (work_flow net old) old.excess.items old.labels.items k z h s.sound l le fits (omega (arith, fits, some)) down)) shown
+    (rw (ea, es, ee, el) (back_sound net (work_flow net old) old.excess.items old.labels.items k z h s.sound l le fits (omega (arith, fits, some)) down))
+    (rw (ea, es, ee, el) (push_zeros net (work_flow net old) old.excess.items old.labels.items k _ u w z s.zeros off.1 off.0 off.0 off.1)) shown
     (rw (ee, el) (move_lowers net old.excess.items old.labels.items u w z ends.to ends.from ne s.sound.kept_len le some down))
     ne ends.from es ee el eq er
 
@@ -154,6 +160,8 @@ give_step net old new u z h s l le some fits ea es ee el eq er = record {
     sound = rw (ea, es, ee, el, given_set net old.rooms.items u z h s.rooms l fits)
         (give_sound net (work_flow net old) old.excess.items old.labels.items u z s.sound l le
         (omega (arith, given_at net old.rooms.items u h s.rooms l, s.rooms.within u l, fits)));
+    zeros = rw (ea, es, ee, el, given_set net old.rooms.items u z h s.rooms l fits)
+        (give_zeros net (work_flow net old) old.excess.items old.labels.items u _ _ s.zeros l (omega (arith, le, some)));
     shown = rw ea s.shown;
     rooms = rw es (rooms_set net old.rooms.items u (slice_index old.rooms.items u - z) s.rooms l (omega arith));
     queue = rw eq s.queue;
@@ -175,13 +183,13 @@ lowest_residual net w v least s low b step =
     omega (arith, low.row p place some, ap (slice_index w.labels.items) head)
 
 pub relabel_step : (net : Network) (old new : Work) (u j : ℕ) → IsNet net → IsWork net old → u < nodes net
-    → slice_index old.labels.items u < j → IsLowest net old u j
+    → 0 < slice_index old.excess.items u → slice_index old.labels.items u < j → IsLowest net old u j
     → new.rows ≡ old.rows → new.rooms.items ≡ old.rooms.items
     → new.excess.items ≡ old.excess.items → new.labels.items ≡ set old.labels.items u j
     → new.queue.items ≡ old.queue.items → new.relabels ≤ old.relabels + 1
     → IsStep net u old new
-relabel_step net old new u j h s l up low ea es ee el eq er = record {
-  work = record { sound = rw (ea, es, ee, el) (relabel_sound net (work_flow net old) old.excess.items old.labels.items u j s.sound l (omega (arith, up)) low.fits (λ room. low.sinks (left_room net old.rooms.items u h s.rooms l room)) (lowest_residual net old u j s low)); shown = rw ea s.shown; rooms = rw es s.rooms; queue = rw eq s.queue };
+relabel_step net old new u j h s l some up low ea es ee el eq er = record {
+  work = record { sound = rw (ea, es, ee, el) (relabel_sound net (work_flow net old) old.excess.items old.labels.items u j s.sound l (omega (arith, up)) low.fits (λ room. low.sinks (left_room net old.rooms.items u h s.rooms l room)) (lowest_residual net old u j s low)); zeros = rw (ea, es, ee, el) (relabel_zeros net (work_flow net old) old.excess.items old.labels.items u j h s.zeros l (omega (arith, l, s.sound.labelling.len)) some (omega (arith, up))); shown = rw ea s.shown; rooms = rw es s.rooms; queue = rw eq s.queue };
   lower = rw (ee, el) (relabel_lowers_all net (work_flow net old) old.excess.items old.labels.items u j h s.sound l up low.fits);
   counted = rw (ee, el) (omega (arith, er, relabel_lowers_all net (work_flow net old) old.excess.items old.labels.items u j h s.sound l up low.fits));
   queue = rw eq (omega arith);

@@ -1,5 +1,6 @@
--- Pushes where all labels are 0.
-use Rattle.std.proofs.Common.{◌≡◌, ◌≢◌, ℕ, ◌+◌, ◌-◌, ◌<◌, ◌≤◌, List, length, set, slice_index, inl, inr, sym, ◌∙◌, ap, arith, get_or-set_same, get_or-set_other}
+-- Pushes where all labels are 1.
+use Rattle.std.proofs.Common.{◌≡◌, ◌≢◌, ℕ, ◌+◌, ◌-◌, ◌<◌, ◌≤◌, List, length, replicate, set, slice_index, inl, inr, sym, ◌∙◌, ap, arith, get_or-set_same, get_or-set_other}
+use Rattle.std.proofs.lemmas.List.{length-replicate}
 use Rattle.plain_cut.specs.declared.work.Work.{Work}
 use Rattle.flow_network.specs.Cut.{Network, nodes, IsNet}
 use Rattle.flow_network.specs.Preflow.{Flow, arc_at}
@@ -10,32 +11,43 @@ use Rattle.flow_network.proofs.Moves.{relabel_sound, forward_sound, back_sound}
 use Rattle.sink_distances.specs.Rows.{head_at, residual_at, carried_flow, IsPlace, IsPlaceOf, IsRows, IsSent}
 use Rattle.sink_distances.proofs.Showing.{carried_at, carried_forth, carried_back, rows_sent}
 use Rattle.plain_cut.specs.State.{work_flow, IsUnlabelled}
+use Rattle.sink_distances.proofs.Laws.{residual_nodes}
+use Rattle.plain_cut.proofs.Starting.{zeros}
+use Rattle.plain_cut.proofs.Zeros.{no_zeros}
 
--- labels of 0 fit every preflow
-flat_sound : (net : Network) (flow : Flow) (kept other labels : List ℕ) → IsLabelledPreflow net flow kept other → length labels ≡ nodes net
-    → ((v : ℕ) → slice_index labels v ≡ 0) → IsLabelledPreflow net flow kept labels
-flat_sound net flow kept other labels s len flat = record {
+-- labels of at most 1 fit every preflow
+flat_sound : (net : Network) (flow : Flow) (kept other labels : List ℕ) → IsNet net → IsLabelledPreflow net flow kept other → length labels ≡ nodes net
+    → ((v : ℕ) → v < nodes net → slice_index labels v ≤ 1) → IsLabelledPreflow net flow kept labels
+flat_sound net flow kept other labels h s len flat = record {
   preflow = s.preflow;
   kept_len = s.kept_len;
   told = s.told;
   labelling = record {
     len = len;
-    sinks = λ v l room. omega (arith, flat v);
-    arcs = λ a b step. omega (arith, flat a, flat b);
+    sinks = λ v l room. flat v l;
+    arcs = λ a b step. omega (arith, flat a (residual_nodes net flow a b h step).0);
   };
-  below_top = λ v l. omega (arith, flat v);
+  below_top = λ v l. omega (arith, flat v l);
 }
 
--- and one label may be 1
-one_sound : (net : Network) (flow : Flow) (kept labels : List ℕ) (u : ℕ) → IsLabelledPreflow net flow kept labels → u < nodes net
-    → ((v : ℕ) → slice_index labels v ≡ 0) → IsLabelledPreflow net flow kept (set labels u 1)
-one_sound net flow kept labels u s l flat =
-    relabel_sound net flow kept labels u 1 s l (omega (arith, flat u)) (omega arith) (λ room. omega arith) (λ b step. omega arith)
+-- for the proof of a push labels may be 0 but for that of the node that pushes
+abbrev one_up : Network → ℕ → List ℕ
+one_up net u = set (replicate (nodes net) 0) u 1
 
-down : (labels : List ℕ) (u w : ℕ) → u < length labels → u ≢ w → ((v : ℕ) → slice_index labels v ≡ 0)
-    → slice_index (set labels u 1) u ≡ slice_index (set labels u 1) w + 1
-down labels u w l ne flat =
-    omega (arith, get_or-set_same labels u 1 0 l, get_or-set_other labels u w 1 0 (λ e. ne (sym e)), flat w)
+up_sound : (net : Network) (flow : Flow) (kept labels : List ℕ) (u : ℕ) → IsNet net → IsLabelledPreflow net flow kept labels → u < nodes net
+    → IsLabelledPreflow net flow kept (one_up net u)
+up_sound net flow kept labels u h s l =
+    let none = zeros (nodes net) in
+    let flat = flat_sound net flow kept labels (replicate (nodes net) 0) h s (length-replicate (nodes net) 0) (λ v lv. omega (arith, none v)) in
+    relabel_sound net flow kept (replicate (nodes net) 0) u 1 flat l (omega (arith, none u)) (omega arith) (λ room. omega arith) (λ b step. omega arith)
+
+up_leads_down : (net : Network) (u w : ℕ) → u < nodes net → u ≢ w → slice_index (one_up net u) u ≡ slice_index (one_up net u) w + 1
+up_leads_down net u w l ne =
+    let flat : List ℕ = replicate (nodes net) 0 in
+    let long : length flat ≡ nodes net = length-replicate (nodes net) 0 in
+    let here : slice_index (one_up net u) u ≡ 1 = get_or-set_same flat u 1 0 (omega (arith, l, long)) in
+    let there : slice_index (one_up net u) w ≡ slice_index flat w = get_or-set_other flat u w 1 0 (λ e. ne (sym e)) in
+    omega (arith, here, there, zeros (nodes net) w)
 
 -- ---- over the work
 
@@ -50,17 +62,17 @@ send_work net old new k z h o shown l ne le fits room ea es ee el eq =
     let u = (arc_at net k).from in
     let w = (arc_at net k).to in
     let ends = arc_is net h k l in
-    let up = one_sound net (work_flow net old) old.excess.items old.labels.items u s ends.from o.labels in
-    let at = down old.labels.items u w (omega (arith, s.labelling.len, ends.from)) ne o.labels in
-    let sent = forward_sound net (work_flow net old) old.excess.items (set old.labels.items u 1) k z h up l le fits room at in
+    let up = up_sound net (work_flow net old) old.excess.items old.labels.items u h s ends.from in
+    let sent = forward_sound net (work_flow net old) old.excess.items (one_up net u) k z h up l le fits room (up_leads_down net u w ends.from ne) in
     record {
       work = record {
-        sound = rw (ea, es, ee, el) (flat_sound net _ _ (set old.labels.items u 1) old.labels.items sent s.labelling.len o.labels);
+        sound = rw (ea, es, ee, el) (flat_sound net _ _ (one_up net u) old.labels.items h sent s.labelling.len (λ v lv. omega (arith, o.labels v lv)));
+        zeros = no_zeros net (work_flow net new) new.excess.items new.labels.items h (λ v lv none. omega (arith, none, ap (λ (xs : List ℕ). slice_index xs v) el, o.labels v lv));
         shown = shown;
         rooms = rw es o.work.rooms;
         queue = rw eq o.work.queue;
       };
-      labels = λ v. rw el (o.labels v);
+      labels = λ v lv. rw el (o.labels v lv);
     }
 
 back_work : (net : Network) (old new : Work) (k z : ℕ) → IsNet net → IsUnlabelled net old → IsRows net new.rows → k < length net.arcs
@@ -74,17 +86,17 @@ back_work net old new k z h o shown l ne le fits some ea es ee el eq =
     let u = (arc_at net k).to in
     let w = (arc_at net k).from in
     let ends = arc_is net h k l in
-    let up = one_sound net (work_flow net old) old.excess.items old.labels.items u s ends.to o.labels in
-    let at = down old.labels.items u w (omega (arith, s.labelling.len, ends.to)) (λ e. ne (sym e)) o.labels in
-    let sent = back_sound net (work_flow net old) old.excess.items (set old.labels.items u 1) k z h up l le fits some at in
+    let up = up_sound net (work_flow net old) old.excess.items old.labels.items u h s ends.to in
+    let sent = back_sound net (work_flow net old) old.excess.items (one_up net u) k z h up l le fits some (up_leads_down net u w ends.to (λ e. ne (sym e))) in
     record {
       work = record {
-        sound = rw (ea, es, ee, el) (flat_sound net _ _ (set old.labels.items u 1) old.labels.items sent s.labelling.len o.labels);
+        sound = rw (ea, es, ee, el) (flat_sound net _ _ (one_up net u) old.labels.items h sent s.labelling.len (λ v lv. omega (arith, o.labels v lv)));
+        zeros = no_zeros net (work_flow net new) new.excess.items new.labels.items h (λ v lv none. omega (arith, none, ap (λ (xs : List ℕ). slice_index xs v) el, o.labels v lv));
         shown = shown;
         rooms = rw es o.work.rooms;
         queue = rw eq o.work.queue;
       };
-      labels = λ v. rw el (o.labels v);
+      labels = λ v lv. rw el (o.labels v lv);
     }
 
 along_of : (net : Network) (old new : Work) (v p z : ℕ) → IsNet net → IsUnlabelled net old → IsRows net new.rows → IsPlaceOf net old.rows v p

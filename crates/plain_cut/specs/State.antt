@@ -1,7 +1,9 @@
-use Rattle.std.specs.Prelude.{◌≡◌, ◌≢◌, ℕ, ◌+◌, ◌<◌, ◌≤◌, length, slice_index, All, Contains}
+use Rattle.std.specs.Prelude.{◌≡◌, ◌≢◌, ℕ, zero, suc, ◌+◌, ◌<◌, ◌≤◌, List, length, slice_index}
+use Rattle.std.specs.Prelude.{All, Contains}
 use Rattle.flow_network.specs.Cut.{Network, nodes}
-use Rattle.flow_network.specs.Preflow.{Flow, flow_by, sink_flows, AreRooms}
+use Rattle.flow_network.specs.Preflow.{Flow, flow_by, sink_flows, AreRooms, IsResidual}
 use Rattle.flow_network.specs.Progress.{top, IsLabelledPreflow, work_left}
+use Rattle.sink_distances.specs.Distances.{AreZerosUnreached}
 use Rattle.sink_distances.specs.Rows.{head_at, residual_at, carried_flow, IsPlace, IsRows}
 use Rattle.plain_cut.specs.declared.work.Work.{Work}
 
@@ -9,18 +11,37 @@ use Rattle.plain_cut.specs.declared.work.Work.{Work}
 abbrev pub work_flow : Network → Work → Flow
 work_flow net w = flow_by (carried_flow w.rows) (sink_flows net w.rooms.items)
 
+-- a path of this many residual directions, the last of them to the sink, leads on from v, and each
+-- node behind v has the label 0
+abbrev pub LeadsByZeros : Network → Flow → List ℕ → ℕ → ℕ → Type 0
+LeadsByZeros net flow labels zero v = ⊥
+LeadsByZeros net flow labels (suc zero) v =
+    (v < nodes net) × (slice_index flow.sinks v < slice_index net.sinks v)
+LeadsByZeros net flow labels (suc (suc d)) v =
+    (w : ℕ) × IsResidual net flow v w × (slice_index labels w ≡ 0)
+    × LeadsByZeros net flow labels (suc d) w
+
+-- the nodes of label 0 count as the sink: none has excess, no residual direction leads to one from
+-- another node, and each reaches the sink along such nodes
+pub record CountAsSink (net : Network) (flow : Flow) (kept labels : List ℕ) : Type 0 where
+  pub spent : (v : ℕ) → v < nodes net → slice_index labels v ≡ 0 → slice_index kept v ≡ 0
+  pub unreached : AreZerosUnreached net flow labels
+  pub leads : (v : ℕ) → v < nodes net → slice_index labels v ≡ 0
+      → (d : ℕ) × LeadsByZeros net flow labels d v
+
 -- a preflow with its excess, rows that show it, rooms for what the sink can still get, labels that
--- fit it, and a queue of nodes
+-- fit it, of which 0 counts as the sink, and a queue of nodes
 pub record IsWork (net : Network) (w : Work) : Type 0 where
   pub sound : IsLabelledPreflow net (work_flow net w) w.excess.items w.labels.items
+  pub zeros : CountAsSink net (work_flow net w) w.excess.items w.labels.items
   pub shown : IsRows net w.rows
   pub rooms : AreRooms net w.rooms.items
   pub queue : All (λ v. v < nodes net) w.queue.items
 
--- all labels are 0, which fit every preflow
+-- all labels are 1, which fit every preflow
 pub record IsUnlabelled (net : Network) (w : Work) : Type 0 where
   pub work : IsWork net w
-  pub labels : (v : ℕ) → slice_index w.labels.items v ≡ 0
+  pub labels : (v : ℕ) → v < nodes net → slice_index w.labels.items v ≡ 1
 
 -- what each push and each new label lowers
 abbrev pub work_measure : Network → Work → ℕ

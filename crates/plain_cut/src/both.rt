@@ -1,7 +1,10 @@
-ghost use Rattle.std.specs.Prelude.{◌≡◌, ◌↔◌, ◌+◌, ◌<◌, ◌^◌, ℕ, IfOk, IsTrue, length, slice_index};
+//! A net that is cut twice, the second time with more room to the sink.
+ghost use Rattle.std.specs.Prelude.{◌≡◌, ◌↔◌, ◌+◌, ◌<◌, ◌≤◌, ◌^◌, ℕ, IfOk, IsTrue, length};
+ghost use Rattle.std.specs.Prelude.{slice_index};
 ghost use Rattle.std.specs.Simd.Lanes.{zip2};
-ghost use Rattle.flow_network.specs.Cut.{nodes, set_of, with_larger_sinks, AreExtras, IsNet, IsSmallestLeastCut, LiesWithin};
-ghost use Rattle.sink_distances.specs.Distances.{AreDistances};
+ghost use Rattle.flow_network.specs.Cut.{nodes, set_of, with_larger_sinks, AreExtras, IsNet};
+ghost use Rattle.flow_network.specs.Cut.{IsSmallestLeastCut, LiesWithin};
+ghost use Rattle.sink_distances.specs.Distances.{AreDistancesButZeros};
 ghost use Rattle.plain_cut.specs.State.{work_flow, IsWork, HasNoActiveNode};
 
 use crate::solver::{finish, least_side, settle};
@@ -58,17 +61,34 @@ fn are_none(more: &[u64]) -> bool
     true
 }
 
-/// Gives each node so much more room to the sink, and the label 0: work of the net becomes work of
-/// the wider one.
+/// A label below the top one becomes 0, and the top one 1.
+fn tell_sides(labels: &mut [u32], top: u32)
+    ensures below { (v : ℕ) → v < length labels.old → slice_index labels.old v < top →
+        slice_index labels.new v ≡ 0 }
+    ensures at { (v : ℕ) → v < length labels.old → top ≤ slice_index labels.old v →
+        slice_index labels.new v ≡ 1 }
+{
+    'nodes: for v in 0..labels.len() {
+        labels[v] = if labels[v] < top { 0 } else { 1 };
+    }
+}
+
+/// Gives each node so much more room to the sink: work that is finished in the net becomes work of
+/// the wider one. The nodes that reach the sink get the label 0, so that they count as the sink:
+/// they have no excess, and no residual direction leads to them from the others, which get the
+/// label 1.
 fn add_room(net: &Outline, wider: &Outline, work: &mut Work, more: &[u64])
     requires limits { IsNet net.now }
     requires extras { AreExtras net.now more.now }
     requires wider { wider.now ≡ with_larger_sinks net.now more.now }
     requires work { IsWork net.now work.old }
+    requires finished { HasNoActiveNode net.now work.old }
+    requires exact { AreDistancesButZeros net.now
+        (work_flow net.now work.old) work.old.labels.items }
     ensures { IsWork wider.now work.new }
 {
     add_each(work.rooms.as_mut_slice(), more);
-    work.labels.as_mut_slice().fill(0);
+    tell_sides(work.labels.as_mut_slice(), net.top_label());
 }
 
 /// The sink side of the smallest least cut of the wider net, of work that is finished in the net:
@@ -87,7 +107,8 @@ fn wider_side(
     requires wider { wider.now ≡ with_larger_sinks net.now more.now }
     requires work { IsWork net.now work.old }
     requires finished { HasNoActiveNode net.now work.old }
-    requires exact { AreDistances net.now (work_flow net.now work.old) work.old.labels.items }
+    requires exact { AreDistancesButZeros net.now
+        (work_flow net.now work.old) work.old.labels.items }
     requires order { length order.old ≡ nodes net.now }
     requires found { length found.old ≡ nodes net.now }
     ensures bits { IfOk result (λ side. length side.items ≡ nodes net.now) }
@@ -105,7 +126,8 @@ fn wider_side(
 /// The sink sides of the smallest least cuts of the net, and of the net in which each node can send
 /// the sink so much more, `more` of which `Net::can_take` says yes. The second cut goes on from the
 /// preflow of the first: what the sink has got stays, and only the excess that was left is pushed
-/// again.
+/// again. It looks only at nodes that did not reach the sink in the first: the others count as the
+/// sink itself.
 ///
 /// Where `more` is all 0 the second costs a copy, and where no node has excess that now reaches the
 /// sink one search. Refuses for the same reasons as `smallest_side_in`.

@@ -1,4 +1,5 @@
-ghost use Rattle.std.specs.Prelude.{◌≡◌, ◌≢◌, ◌<◌, IfOk, IsTrue, length, slice_index};
+//! First pushes, before there are labels.
+ghost use Rattle.std.specs.Prelude.{◌≡◌, ◌≢◌, ◌<◌, IfOk, IsTrue};
 ghost use Rattle.flow_network.specs.Cut.{nodes, IsNet};
 ghost use Rattle.sink_distances.specs.Rows.{head_at, residual_at, IsPlace, IsRows, CarryNothing};
 ghost use Rattle.plain_cut.specs.State.{IsWork, IsUnlabelled};

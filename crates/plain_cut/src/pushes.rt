@@ -1,8 +1,11 @@
-ghost use Rattle.std.specs.Prelude.{◌≡◌, ◌≢◌, ◌+◌, ◌-◌, ◌<◌, ◌≤◌, ◌^◌, ◌==◌, ◌++◌, ◌∷◌, [], ℕ, OnOk};
+//! Pushes of a node's excess to the sink and along its directions.
+ghost use Rattle.std.specs.Prelude.{◌≡◌, ◌≢◌, ◌+◌, ◌-◌, ◌<◌, ◌≤◌, ◌^◌, ◌==◌, ◌++◌, ◌∷◌, [], ℕ};
+ghost use Rattle.std.specs.Prelude.{OnOk};
 ghost use Rattle.std.specs.Prelude.{length, slice_index, slice_set, if◌then◌else◌};
 ghost use Rattle.flow_network.specs.Cut.{nodes};
 ghost use Rattle.sink_distances.specs.Rows.{head_at, residual_at, IsPlace};
-ghost use Rattle.plain_cut.specs.State.{IsWork, IsStep, IsSteps, IsPush, ChangesOnly, IsSpent, IsStuck};
+ghost use Rattle.plain_cut.specs.State.{IsWork, IsStep, IsSteps, IsPush, ChangesOnly, IsSpent};
+ghost use Rattle.plain_cut.specs.State.{IsStuck};
 
 use crate::work::Work;
 use sink_distances::Outline;

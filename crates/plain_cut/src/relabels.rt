@@ -1,4 +1,5 @@
-ghost use Rattle.std.specs.Prelude.{◌≡◌, ◌⊎◌, ◌+◌, ◌<◌, ◌≤◌, ℕ, length, slice_index};
+//! New labels of a node.
+ghost use Rattle.std.specs.Prelude.{◌≡◌, ◌⊎◌, ◌+◌, ◌<◌, ◌≤◌, slice_index};
 ghost use Rattle.flow_network.specs.Cut.{nodes, IsNet};
 ghost use Rattle.flow_network.specs.Progress.{top};
 ghost use Rattle.sink_distances.specs.Rows.{head_at, residual_at, IsPlace};
@@ -46,12 +47,13 @@ fn highest_label(net: &Outline, work: &Work, v: usize) -> u32
     least
 }
 
-/// Gives the node the highest label that fits.
+/// Gives the node, which has excess, the highest label that fits.
 pub fn relabel(net: &Outline, work: &mut Work, v: usize)
     requires work { IsWork net.now work.old }
     requires node { v < nodes net.now }
     requires stuck { IsStuck work.old v }
     requires label { slice_index work.old.labels.items v < top net.now }
+    requires some { 0 < slice_index work.old.excess.items v }
     ensures { IsStep net.now v work.old work.new }
 {
     work.labels[v] = highest_label(net, work, v);

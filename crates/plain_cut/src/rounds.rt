@@ -1,3 +1,4 @@
+//! The beginning of a round: one push at each node that the search found.
 ghost use Rattle.std.specs.Prelude.{◌≡◌, OnOk};
 ghost use Rattle.flow_network.specs.Cut.{IsNet};
 ghost use Rattle.plain_cut.specs.State.{IsWork, IsWave, IsRoundStart};

@@ -1,3 +1,4 @@
+//! The least cut of a net on one thread, round after round.
 ghost use Rattle.std.specs.Prelude.{◌≡◌, ◌-◌, ◌<◌, ◌≤◌, ℕ, IfOk, IsTrue, OnOk, length, slice_index};
 ghost use Rattle.std.specs.Simd.Lanes.{zip2};
 ghost use Rattle.flow_network.specs.Limits.{capacity_limit};
@@ -5,14 +6,15 @@ ghost use Rattle.flow_network.specs.Cut.{nodes, set_of, IsNet, IsSmallestLeastCu
 ghost use Rattle.flow_network.specs.Preflow.{IsReach};
 ghost use Rattle.flow_network.specs.Answer.{side_of, IsRightCut};
 ghost use Rattle.flow_network.specs.Progress.{top};
-ghost use Rattle.sink_distances.specs.Distances.{AreDistances};
-ghost use Rattle.sink_distances.specs.Rows.{carried_flow, firsts_of, first_at, second_at, places_of, IsRows, CarryNothing};
+ghost use Rattle.sink_distances.specs.Distances.{AreDistancesButZeros};
+ghost use Rattle.sink_distances.specs.Rows.{carried_flow, firsts_of, first_at, second_at};
+ghost use Rattle.sink_distances.specs.Rows.{places_of, IsRows, CarryNothing};
 ghost use Rattle.plain_cut.specs.State.{work_flow, IsWork, IsRaised, HasNoActiveNode};
 
 use crate::opening::open;
 use crate::rounds::begin_round;
 use crate::turns::take_turns;
-use crate::work::{Work, raise_all, raise_near};
+use crate::work::{Work, raise_near};
 use crate::workspace::Workspace;
 use flow_network::{Net, Solved, cut_capacity};
 use sink_distances::{Extent, Outline, Rows, Spare, rows_by_node, rows_of, side_below, zeros};
@@ -20,8 +22,9 @@ use std::alloc::{AllocError, Global};
 use std::collections::VecDeque;
 use std::mem::replace;
 
-/// The work at its end, whose labels are the exact distances. It takes the net's rows, sources and
-/// sinks over, and the workspace's labels and queue; what the searches use goes back to it.
+/// The work at its end, whose labels are the exact distances where they are not 0. It takes the
+/// net's rows, sources and sinks over, and the workspace's labels and queue; what the searches use
+/// goes back to it.
 pub fn finish(
     alloc: Global,
     net: &Outline,
@@ -37,7 +40,8 @@ pub fn finish(
     ensures limits { IsNet net.now }
     ensures work { IfOk result (λ w. IsWork net.now w) }
     ensures finished { IfOk result (λ w. HasNoActiveNode net.now w) }
-    ensures exact { IfOk result (λ w. AreDistances net.now (work_flow net.now w) w.labels.items) }
+    ensures exact { IfOk result
+        (λ w. AreDistancesButZeros net.now (work_flow net.now w) w.labels.items) }
     ensures order { OnOk result (length space.new.order.items ≡ nodes net.now) }
     ensures found { OnOk result (length space.new.found.items ≡ nodes net.now) }
 {
@@ -83,7 +87,7 @@ fn times_after(work: &Work, times: u64) -> u64 {
 }
 
 /// A search after a round: one that ends early; or a full one where the round has given no new
-/// label. What stands in `order` behind the nodes that a full search found does no harm.
+/// label.
 fn search_again(
     net: &Outline,
     work: &mut Work,
@@ -99,23 +103,20 @@ fn search_again(
     ensures fits { result.limit ≤ top net.now }
     ensures count { result.count ≤ nodes net.now }
     ensures exact { result.limit ≡ top net.now →
-        AreDistances net.now (work_flow net.now work.new) work.new.labels.items }
+        AreDistancesButZeros net.now (work_flow net.now work.new) work.new.labels.items }
     ensures counted { work.new.relabels ≡ 0 }
     ensures full { work.old.relabels ≡ 0 → result.limit ≡ top net.now }
 {
     if work.relabels > 0 {
         raise_near(net, work, times, order, found)
     } else {
-        raise_all(net, work, order);
-        Extent {
-            limit: net.top_label(),
-            count: net.nodes(),
-        }
+        raise_near(net, work, u64::MAX, order, found)
     }
 }
 
 /// Rounds until no node that reaches the sink has excess; at the end the labels are the exact
-/// distances. Where none has at the start, all that is done is to find these.
+/// distances, but that nodes of label 0 keep it. Where none has excess at the start, all that is
+/// done is to find these.
 ///
 /// Each round begins with a search, and ends where no node that it found has excess, or there were
 /// many new labels.
@@ -132,7 +133,7 @@ pub fn settle(
     ensures work { OnOk result (IsWork net.now work.new) }
     ensures finished { OnOk result (HasNoActiveNode net.now work.new) }
     ensures exact { OnOk result
-        (AreDistances net.now (work_flow net.now work.new) work.new.labels.items) }
+        (AreDistancesButZeros net.now (work_flow net.now work.new) work.new.labels.items) }
 {
     let mut times = 2;
     let mut extent = raise_near(net, work, times, order, found);
@@ -216,12 +217,14 @@ pub fn smallest_side_in(
     Ok(side)
 }
 
-/// The nodes that reach the sink, of work that is finished, whose labels are the exact distances.
+/// The nodes that reach the sink, of work that is finished, whose labels are the exact distances
+/// where they are not 0.
 pub fn least_side(alloc: Global, net: &Outline, work: &Work) -> Result<Vec<bool>, AllocError>
     requires limits { IsNet net.now }
     requires work { IsWork net.now work.now }
     requires finished { HasNoActiveNode net.now work.now }
-    requires exact { AreDistances net.now (work_flow net.now work.now) work.now.labels.items }
+    requires exact { AreDistancesButZeros net.now
+        (work_flow net.now work.now) work.now.labels.items }
     ensures bits { IfOk result (λ side. length side.items ≡ nodes net.now) }
     ensures reach { IfOk result
         (λ side. IsReach net.now (work_flow net.now work.now) (set_of side.items)) }
@@ -259,8 +262,8 @@ fn carried_by(alloc: Global, rows: &Rows, firsts: &[u32]) -> Result<Vec<u64>, Al
     Ok(flow)
 }
 
-/// The answer of work that is finished, whose labels are the exact distances: the nodes that reach
-/// the sink, and the preflow.
+/// The answer of work that is finished, whose labels are the exact distances where they are not 0:
+/// the nodes that reach the sink, and the preflow.
 fn answer_of(
     alloc: Global,
     net: &Net,
@@ -273,7 +276,7 @@ fn answer_of(
     requires firsts { firsts.now ≡ places_of net.now }
     requires work { IsWork net.now work }
     requires finished { HasNoActiveNode net.now work }
-    requires exact { AreDistances net.now (work_flow net.now work) work.labels.items }
+    requires exact { AreDistancesButZeros net.now (work_flow net.now work) work.labels.items }
     ensures certified { IfOk result (λ s. IsRightCut net.now s) }
     ensures smallest { IfOk result (λ s. IsSmallestLeastCut net.now (side_of s)) }
     ensures bound { IfOk result (λ s. s.value ≤ capacity_limit) }

@@ -1,7 +1,9 @@
+//! The turns of the nodes in the queue.
 ghost use Rattle.std.specs.Prelude.{◌≡◌, ◌+◌, ◌<◌, ◌≤◌, OnOk, slice_index};
 ghost use Rattle.flow_network.specs.Cut.{nodes};
 ghost use Rattle.flow_network.specs.Progress.{top};
-ghost use Rattle.plain_cut.specs.State.{work_measure, IsWork, IsQueuedBut, IsSteps, HasNoExcessBelow};
+ghost use Rattle.plain_cut.specs.State.{work_measure, IsWork, IsQueuedBut, IsSteps};
+ghost use Rattle.plain_cut.specs.State.{HasNoExcessBelow};
 
 use crate::pushes::push_all;
 use crate::relabels::relabel;

@@ -1,12 +1,14 @@
-ghost use Rattle.std.specs.Prelude.{◌≡◌, ◌<◌, ◌≤◌, ℕ, IfOk, OnOk, All, Contains, length, slice_index};
+//! What the solver changes: the preflow, its excess, the labels and the queue.
+ghost use Rattle.std.specs.Prelude.{◌≡◌, ◌+◌, ◌<◌, ◌≤◌, ◌^◌, ℕ, IfOk, OnOk, All, Contains};
+ghost use Rattle.std.specs.Prelude.{length, replicate, slice_index};
 ghost use Rattle.flow_network.specs.Limits.{node_limit};
 ghost use Rattle.flow_network.specs.Cut.{nodes, IsNet};
 ghost use Rattle.flow_network.specs.Progress.{top};
-ghost use Rattle.sink_distances.specs.Distances.{AreDistances};
+ghost use Rattle.sink_distances.specs.Distances.{AreDistancesButZeros};
 ghost use Rattle.sink_distances.specs.Rows.{IsRows, CarryNothing};
 ghost use Rattle.plain_cut.specs.State.{work_flow, IsWork, IsRaised, IsUnlabelled};
 
-use sink_distances::{Extent, Outline, Rows, raise_labels, write_row_distances, zeros};
+use sink_distances::{Extent, Outline, Rows, raise_labels};
 use std::alloc::AllocError;
 use std::collections::VecDeque;
 
@@ -21,7 +23,7 @@ pub struct Work {
     /// What each node has got and not passed on.
     pub excess: Vec<u64>,
     /// Of each node at most the number of residual directions that lead to the sink, or
-    /// `top_label`.
+    /// `top_label`; 0 where the node counts as the sink itself.
     pub labels: Vec<u32>,
     /// Nodes that had excess when they came, in the order of their turns.
     pub queue: VecDeque<u32>,
@@ -52,7 +54,17 @@ pub fn queue_again(
     Ok(())
 }
 
-/// The work at the start: no flow but that of the source, all labels 0, no node queued. It takes
+/// So many ones, in what the list stood in.
+fn ones(list: Vec<u32>, count: usize) -> Result<Vec<u32>, AllocError>
+    ensures { IfOk result (λ ones. ones.items ≡ replicate count 1) }
+{
+    let mut ones = list;
+    ones.clear();
+    ones.resize(count, 1)?;
+    Ok(ones)
+}
+
+/// The work at the start: no flow but that of the source, all labels 1, no node queued. It takes
 /// the net's rows, sources and sinks over: what the source sends each node is what the node has,
 /// and what it can send the sink its room. Labels and queue stand in what these lists stood in.
 pub fn start(
@@ -77,35 +89,16 @@ pub fn start(
         rows,
         rooms: sinks,
         excess: sources,
-        labels: zeros(labels, nodes)?,
+        labels: ones(labels, nodes)?,
         queue,
         relabels: 0,
     })
 }
 
-/// Raises all labels to the exact distances. `order` has one place for each node: the search leaves
-/// there the nodes that reach the sink, the nearest first.
-pub fn raise_all(net: &Outline, work: &mut Work, order: &mut [u32])
-    requires limits { IsNet net.now }
-    requires work { IsWork net.now work.old }
-    requires order { length order.old ≡ nodes net.now }
-    ensures raised { IsRaised net.now work.old work.new }
-    ensures exact { AreDistances net.now (work_flow net.now work.new) work.new.labels.items }
-    ensures counted { work.new.relabels ≡ 0 }
-{
-    write_row_distances(
-        net,
-        &work.rows,
-        work.rooms.as_slice(),
-        work.labels.as_mut_slice(),
-        order,
-    );
-    work.relabels = 0;
-}
-
 /// Raises the labels by a search that ends early, as `raise_labels` does: once it has found so many
-/// times as much excess as there is room. `order` and `found` have one place for each node: the
-/// nodes that were found then stand first in `order`, the nearest before the others.
+/// times as much excess as there is room, or never where that is the greatest number. `order` and
+/// `found` have one place for each node: the nodes that were found then stand first in `order`, the
+/// nearest before the others.
 pub fn raise_near(
     net: &Outline,
     work: &mut Work,
@@ -121,7 +114,8 @@ pub fn raise_near(
     ensures fits { result.limit ≤ top net.now }
     ensures count { result.count ≤ nodes net.now }
     ensures exact { result.limit ≡ top net.now →
-        AreDistances net.now (work_flow net.now work.new) work.new.labels.items }
+        AreDistancesButZeros net.now (work_flow net.now work.new) work.new.labels.items }
+    ensures whole { times + 1 ≡ 2 ^ 64 → result.limit ≡ top net.now }
     ensures counted { work.new.relabels ≡ 0 }
 {
     work.relabels = 0;

@@ -1,3 +1,4 @@
+//! The lists of a solver, kept from one net to the next.
 use crate::work::Work;
 use sink_distances::Spare;
 use std::alloc::Global;

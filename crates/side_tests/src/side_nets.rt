@@ -1,3 +1,4 @@
+//! A table of small nets and their two sides.
 /// How many nets the table has.
 pub const COUNT: usize = 200;
 

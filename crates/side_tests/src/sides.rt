@@ -1,3 +1,4 @@
+//! Tests of nets that are cut twice.
 use crate::side_nets::{COUNT, NUMBERS};
 use flow_network::{Arc, Net};
 use plain_cut::{Workspace, both_sides_in};
@@ -30,6 +31,16 @@ const CASES: &[Case] = &[
     (&[5, 0, 0], &[0, 0, 1], &[0, 0, 0], 0b000, 0b000),
     // At the first cut all nodes reach the sink already.
     (&[1, 0, 0], &[0, 0, 3], &[0, 7, 0], 0b111, 0b111),
+    // Node 2 has much room left, but its arc is full. Node 1 gets little, less than it has.
+    (&[5, 0, 0], &[0, 0, 100], &[0, 1, 0], 0b100, 0b100),
+    // It gets more than it has.
+    (&[5, 0, 0], &[0, 0, 100], &[0, 9, 0], 0b100, 0b110),
+    // Node 0 gets more: what has come to node 1 goes back to it.
+    (&[5, 0, 0], &[0, 0, 100], &[9, 0, 0], 0b100, 0b111),
+    // Node 2 gets still more: that is no use to the others.
+    (&[5, 0, 0], &[0, 0, 100], &[0, 0, 9], 0b100, 0b100),
+    // Node 0 gets more, but no excess can come to it.
+    (&[0, 3, 0], &[0, 0, 1], &[7, 0, 0], 0b000, 0b001),
     // No excess is left, and a node reaches the sink only at the second cut.
     (&[0, 0, 0], &[3, 0, 0], &[0, 1, 0], 0b001, 0b011),
 ];

@@ -67,7 +67,8 @@ pub distances-le-top : (net : Network) (flow : Flow) (labels : List ℕ) → Are
     → (v : ℕ) → v < nodes net → slice_index labels v ≤ top net
 distances-le-top net flow labels are v l = exact-le-top net flow v (slice_index labels v) (are.exact v l)
 
-rises_to : (net : Network) (flow : Flow) (old : List ℕ) (v label : ℕ) → IsLabelling net flow old → slice_index old v ≤ top net
+-- no label that fits is above an exact one
+pub rises_to : (net : Network) (flow : Flow) (old : List ℕ) (v label : ℕ) → IsLabelling net flow old → slice_index old v ≤ top net
     → IsExactLabel net flow v label → slice_index old v ≤ label
 rises_to net flow old v label fits below (inl near) = label-le-path net flow old fits label v near.1.leads
 rises_to net flow old v label fits below (inr far) = omega (arith, below, far.0)

@@ -1,8 +1,8 @@
 -- What a search keeps of its order while it labels nodes.
-use Rattle.std.proofs.Common.{◌≡◌, ◌≢◌, ℕ, ◌+◌, ◌<◌, ◌≤◌, ◌⊎◌, inl, inr, ◌==◌, List, length, set, slice_index, sum_by, sym, ◌∙◌, ap, arith, get_or-set_same, get_or-set_other}
+use Rattle.std.proofs.Common.{◌≡◌, ◌≢◌, ℕ, ◌+◌, ◌<◌, ◌≤◌, ◌⊎◌, inl, inr, Bool, true, false, ◌==◌, List, [], ◌∷◌, length, set, slice_index, sum_by, sym, ◌∙◌, ap, arith, get_or-set_same, get_or-set_other}
 use Rattle.std.proofs.lemmas.Bool.{cases_lt, cases_eq}
 use Rattle.std.proofs.lemmas.List.{length-set, get_or_past}
-use Rattle.std.proofs.lemmas.List.Sums.{sum_by-set}
+use Rattle.std.proofs.lemmas.List.Sums.{sum_by-set, sum_by-cons}
 use Rattle.sums.specs.Sums.{count_if}
 use Rattle.sums.proofs.SumLemmas.{counted-same, counted-other}
 use Rattle.flow_network.specs.Progress.{top_label}
@@ -19,6 +19,19 @@ label-le-count s o i l = omega (arith, o.short i l)
 -- a node in the order has a label
 pub listed_labelled : (s : Search) → IsOrder s → (i : ℕ) → i < s.count → search_label s (node_at s i) ≢ top_label (length s.labels)
 listed_labelled s o i l e = omega (arith, label-le-count s o i l, count-le-length s o, e)
+
+one_counted : (b : Bool) → count_if b 1 ≤ 1
+one_counted true = omega arith
+one_counted false = omega arith
+
+few_counted : (labels : List ℕ) (top : ℕ) → sum_by (λ label. count_if (label == top) 1) labels ≤ length labels
+few_counted [] top = omega arith
+few_counted (label ∷ labels) top =
+    omega (arith, sum_by-cons (λ other. count_if (other == top) 1) label labels, one_counted (label == top), few_counted labels top)
+
+-- no more nodes are without a label than there are
+pub unlabelled-le-length : (s : Search) → count_unlabelled s ≤ length s.labels
+unlabelled-le-length s = few_counted s.labels (top_label (length s.labels))
 
 -- ---- one more label
 
@@ -114,14 +127,35 @@ mark_rising s v label m i j le l = elim (mark_at s v label m j l) [
   | inr new ↦ omega (arith, new.1, mark_below s v label m i (omega (arith, le, l)))
 ]
 
+mark_once : (s : Search) (v label : ℕ) → IsMark s v label → (i j : ℕ) → i < s.count + 1 → j < s.count + 1
+    → node_at (after_mark s v label) i ≡ node_at (after_mark s v label) j → i ≡ j
+mark_once s v label m i j li lj same =
+    let t = after_mark s v label in
+    let other : (k : ℕ) → k < s.count → node_at s k ≢ v = λ k l e. listed_labelled s m.order k l (ap (search_label s) e ∙ m.none) in
+    elim (cases_lt i s.count) [
+      | inl low ↦ elim (cases_lt j s.count) [
+        | inl below ↦ m.order.once i j low below (sym (mark_kept s v label i low) ∙ (same ∙ mark_kept s v label j below))
+        | inr last ↦
+            let at : j ≡ s.count = omega (arith, last, lj) in
+            absurd (other i low (sym (mark_kept s v label i low) ∙ (same ∙ (ap (node_at t) at ∙ mark_last s v label m))))
+      ]
+      | inr high ↦
+          let here : i ≡ s.count = omega (arith, high, li) in
+          elim (cases_lt j s.count) [
+            | inl below ↦ absurd (other j below (sym (mark_kept s v label j below) ∙ (sym same ∙ (ap (node_at t) here ∙ mark_last s v label m))))
+            | inr last ↦ omega (arith, here, last, lj)
+          ]
+    ]
+
 mark_listed : (s : Search) (v label : ℕ) → IsMark s v label → (u : ℕ) → u < length (set s.labels v label)
+    → search_label (after_mark s v label) u ≢ 0
     → (search_label (after_mark s v label) u ≡ top_label (length (after_mark s v label).labels))
     ⊎ ((i : ℕ) × (i < s.count + 1) × (node_at (after_mark s v label) i ≡ u))
-mark_listed s v label m u l =
+mark_listed s v label m u l some =
     let len = length-set s.labels v label in
     elim (cases_eq u v) [
       | inl same ↦ inr (s.count, omega arith, mark_last s v label m ∙ sym same)
-      | inr other ↦ elim (m.order.listed u (omega (arith, l, len))) [
+      | inr other ↦ elim (m.order.listed u (omega (arith, l, len)) (λ none. some (mark_other s v label u other ∙ none))) [
         | inl none ↦ inl (omega (arith, len, none, mark_other s v label u other))
         | inr place ↦ inr (place.0, omega (arith, place.1), mark_kept s v label place.0 place.1 ∙ place.2)
       ]
@@ -135,6 +169,7 @@ grows_mark s v label m = record {
     room = omega (arith, length-set s.labels v label, mark_fewer s v label m, m.order.room);
     places = mark_places s v label m;
     short = mark_short s v label m;
+    once = mark_once s v label m;
     listed = mark_listed s v label m;
     rising = mark_rising s v label m;
   };

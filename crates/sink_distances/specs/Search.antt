@@ -1,9 +1,10 @@
-use Rattle.std.specs.Prelude.{◌≡◌, ℕ, ◌+◌, ◌<◌, ◌≤◌, ◌⊎◌, ◌==◌, List, [], length, slice_index, sum_by}
+use Rattle.std.specs.Prelude.{◌≡◌, ◌≢◌, ℕ, ◌+◌, ◌<◌, ◌≤◌, ◌⊎◌, ◌==◌, List, [], length}
+use Rattle.std.specs.Prelude.{slice_index, sum_by}
 use Rattle.sums.specs.Sums.{count_if}
 use Rattle.flow_network.specs.Cut.{Network, nodes}
 use Rattle.flow_network.specs.Preflow.{Flow, IsResidual, ReachesIn}
 use Rattle.flow_network.specs.Progress.{top_label, top}
-use Rattle.sink_distances.specs.Distances.{AreDistances}
+use Rattle.sink_distances.specs.Distances.{IsExactLabel}
 
 -- labels, and the labelled nodes in the order in which they were found: the first `count` of a list
 pub record Search : Type 0 where
@@ -25,13 +26,16 @@ abbrev pub count_unlabelled : Search → ℕ
 count_unlabelled found = sum_by
     (λ label. count_if (label == top_label (length found.labels)) 1) found.labels
 
--- the order lists each labelled node once, by rising labels
+-- the order lists nodes that have a label, each once and by rising labels, and leaves out at most
+-- those of label 0
 pub record IsOrder (found : Search) : Type 0 where
   pub order_len : length found.order ≡ length found.labels
-  pub room : found.count + count_unlabelled found ≡ length found.labels
+  pub room : found.count + count_unlabelled found ≤ length found.labels
   pub places : (i : ℕ) → i < found.count → node_at found i < length found.labels
   pub short : (i : ℕ) → i < found.count → search_label found (node_at found i) ≤ i + 1
-  pub listed : (v : ℕ) → v < length found.labels
+  pub once : (i j : ℕ) → i < found.count → j < found.count → node_at found i ≡ node_at found j
+      → i ≡ j
+  pub listed : (v : ℕ) → v < length found.labels → search_label found v ≢ 0
       → (search_label found v ≡ top_label (length found.labels))
       ⊎ ((i : ℕ) × (i < found.count) × (node_at found i ≡ v))
   pub rising : (i j : ℕ) → i ≤ j → j < found.count
@@ -74,17 +78,38 @@ pub record AreStarts (net : Network) (rooms : List ℕ) (v : ℕ) (found : Searc
   pub sinks : (u : ℕ) → u < v → u < nodes net → 0 < slice_index rooms u
       → search_label found u ≤ 1
 
--- labels of a search that may have ended early: those below the limit are lengths of paths; those
--- of nodes that can give the sink more, and of nodes with a residual direction to one whose label
--- is more than 1 below the limit, are right; and all are where the limit is the top label
+-- each node is without a label, or has the label 0
+abbrev pub AreUnlabelledOrZero : Network → List ℕ → Type 0
+AreUnlabelledOrZero net labels =
+    (v : ℕ) → v < nodes net → (slice_index labels v ≡ 0) ⊎ (slice_index labels v ≡ top net)
+
+-- starts as those, but that the nodes of label 0 have kept it
+pub record AreStartsButZeros (net : Network) (rooms old : List ℕ) (v : ℕ)
+    (found : Search) : Type 0 where
+  pub len : length found.labels ≡ nodes net
+  pub order : IsOrder found
+  pub below : IsAtMost 1 found
+  pub zeros : (u : ℕ) → u < nodes net → slice_index old u ≡ 0 → search_label found u ≡ 0
+  pub leads : (u : ℕ) → u < nodes net → slice_index old u ≢ 0
+      → (search_label found u ≡ top net)
+      ⊎ ((search_label found u ≡ 1) × (0 < slice_index rooms u))
+  pub sinks : (u : ℕ) → u < v → u < nodes net → 0 < slice_index rooms u
+      → search_label found u ≤ 1
+
+-- labels of a search that may have ended early, where those that were 0 still are. Of the others
+-- those below the limit are lengths of paths; those of nodes that can give the sink more, and of
+-- nodes with a residual direction to one whose label is more than 1 below the limit, are right; and
+-- all are where the limit is the top label
 pub record AreDistancesUpTo (net : Network) (flow : Flow) (limit : ℕ)
-    (found : List ℕ) : Type 0 where
+    (old found : List ℕ) : Type 0 where
   pub len : length found ≡ nodes net
   pub fits : limit ≤ top net
-  pub leads : (v : ℕ) → v < nodes net → slice_index found v < limit
+  pub zeros : (v : ℕ) → v < nodes net → slice_index old v ≡ 0 → slice_index found v ≡ 0
+  pub leads : (v : ℕ) → v < nodes net → slice_index old v ≢ 0 → slice_index found v < limit
       → ReachesIn net flow (slice_index found v) v
   pub sinks : (v : ℕ) → v < nodes net → slice_index flow.sinks v < slice_index net.sinks v
       → slice_index found v ≤ 1
   pub falls : (v w : ℕ) → IsResidual net flow v w → slice_index found w + 1 < limit
       → slice_index found v ≤ slice_index found w + 1
-  pub full : limit ≡ top net → AreDistances net flow found
+  pub full : limit ≡ top net → (v : ℕ) → v < nodes net → slice_index old v ≢ 0
+      → IsExactLabel net flow v (slice_index found v)

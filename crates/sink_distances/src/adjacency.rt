@@ -1,3 +1,4 @@
+//! The arcs of a net by the nodes that they leave and enter.
 ghost use Rattle.std.specs.Prelude.{◌≡◌, IfOk, map};
 ghost use Rattle.sink_distances.specs.Adjacency.{IsAdjacency};
 

@@ -1,3 +1,4 @@
+//! The label of a node that is cut off from the sink.
 ghost use Rattle.std.specs.Prelude.{◌≡◌};
 ghost use Rattle.flow_network.specs.Cut.{IsNet};
 ghost use Rattle.flow_network.specs.Progress.{top};

@@ -1,10 +1,12 @@
-ghost use Rattle.std.specs.Prelude.{◌≡◌, ◌<◌, ◌≤◌, ℕ, length, max, min, slice_index, sum};
-ghost use Rattle.flow_network.specs.Limits.{capacity_limit};
+//! A search that ends early.
+ghost use Rattle.std.specs.Prelude.{◌≡◌, ◌≢◌, ◌+◌, ◌<◌, ◌≤◌, ◌^◌, ℕ, IsTrue, length, max, min};
+ghost use Rattle.std.specs.Prelude.{slice_index};
 ghost use Rattle.flow_network.specs.Cut.{nodes, IsNet};
 ghost use Rattle.flow_network.specs.Preflow.{flow_by, sink_flows, AreRooms};
 ghost use Rattle.flow_network.specs.Labels.{IsLabelling};
 ghost use Rattle.flow_network.specs.Progress.{top};
-ghost use Rattle.sink_distances.specs.Distances.{AreDistances, AreExactBelow};
+ghost use Rattle.sink_distances.specs.Distances.{AreDistancesButZeros, AreExactBelow};
+ghost use Rattle.sink_distances.specs.Distances.{AreZerosUnreached};
 ghost use Rattle.sink_distances.specs.Laws.{AreLow};
 ghost use Rattle.sink_distances.specs.Rows.{carried_flow, IsRows};
 ghost use Rattle.sink_distances.specs.Search.{AreDistancesUpTo};
@@ -22,12 +24,40 @@ pub struct Extent {
     pub count: usize,
 }
 
-/// So many times what the rooms are together, or the greatest number there is.
-fn room_times(rooms: &[u64], times: u64) -> u64
-    requires { sum rooms.now ≤ capacity_limit }
+/// When a search ends early: once the nodes that were found have more than enough excess. A whole
+/// search does not.
+#[derive(Clone, Copy)]
+struct Stop<'a> {
+    excess: &'a [u64],
+    enough: u64,
+    whole: bool,
+}
+
+/// So many times what the rooms of the nodes are together whose label is not 0, or the greatest
+/// number there is.
+fn room_times(labels: &[u32], rooms: &[u64], times: u64) -> u64
+    requires { length labels.now ≡ length rooms.now }
 {
-    let room: u64 = rooms.iter().sum();
+    let mut room = 0u64;
+    'nodes: for v in 0..rooms.len() {
+        if labels[v] > 0 {
+            room = room.saturating_add(rooms[v]);
+        }
+    }
     room.saturating_mul(times)
+}
+
+/// Begins a search: a node of label 0 keeps it, and the others have none.
+fn clear(labels: &[u32], found: &mut [u32], none: u32)
+    requires { length found.old ≡ length labels.now }
+    ensures zeros { (v : ℕ) → v < length labels.now → slice_index labels.now v ≡ 0 →
+        slice_index found.new v ≡ 0 }
+    ensures others { (v : ℕ) → v < length labels.now → slice_index labels.now v ≢ 0 →
+        slice_index found.new v ≡ none }
+{
+    'nodes: for v in 0..labels.len() {
+        found[v] = if labels[v] > 0 { none } else { 0 };
+    }
 }
 
 /// An amount and what the nodes at these places of the order have, or the greatest number there is.
@@ -43,37 +73,41 @@ fn with_excess(seen: u64, excess: &[u64], order: &[u32]) -> u64 {
     sum
 }
 
-/// Searches as `write_row_distances` does, and ends at the level by which the nodes that were found
-/// have more than so many times as much excess as there is room to the sink: that level is the last
+/// Searches as `write_row_distances` does, but passes over the nodes of label 0. It ends at the
+/// level by which the nodes that were found have more than enough excess: that level is the last
 /// that was found, and one above it the limit.
 fn search_near(
     net: &Outline,
     rows: &Rows,
     rooms: &[u64],
-    excess: &[u64],
-    times: u64,
+    labels: &[u32],
+    stop: &Stop<'_>,
     found: &mut [u32],
     order: &mut [u32],
 ) -> Extent
     requires rows { IsRows net.now rows.now }
     requires rooms { AreRooms net.now rooms.now }
-    requires small { sum rooms.now ≤ capacity_limit }
+    requires labels_len { length labels.now ≡ nodes net.now }
+    requires unreached { AreZerosUnreached net.now
+        (flow_by (carried_flow rows.now) (sink_flows net.now rooms.now)) labels.now }
     requires found_len { length found.old ≡ nodes net.now }
     requires order_len { length order.old ≡ nodes net.now }
     ensures limits { IsNet net.now }
     ensures near { AreDistancesUpTo net.now
-        (flow_by (carried_flow rows.now) (sink_flows net.now rooms.now)) result.limit found.new }
+        (flow_by (carried_flow rows.now) (sink_flows net.now rooms.now))
+        result.limit labels.now found.new }
     ensures count { result.count ≤ length order.new }
+    ensures whole { IsTrue stop.now.whole → result.limit ≡ top net.now }
 {
-    let enough = room_times(rooms, times);
+    clear(labels, found, net.top_label());
     let mut count = mark_starts(net, rooms, found, order);
-    let mut seen = with_excess(0, excess, &order[..count]);
+    let mut seen = with_excess(0, stop.excess, &order[..count]);
     let mut level = 1;
     let mut next = 0;
     'levels: while next < count {
         let w = order[next] as usize;
         let label = found[w];
-        if label > level && seen > enough {
+        if label > level && seen > stop.enough && !stop.whole {
             return Extent {
                 limit: label + 1,
                 count,
@@ -82,7 +116,7 @@ fn search_near(
         level = label;
         let first = count;
         count = mark_behind(net, rows, found, order, count, w);
-        seen = with_excess(seen, excess, &order[first..count]);
+        seen = with_excess(seen, stop.excess, &order[first..count]);
         next += 1;
     }
     Extent {
@@ -106,6 +140,10 @@ fn raise_to(labels: &mut [u32], found: &[u32], limit: u32)
 /// Raises labels by a search that ends early: once the nearest nodes have more than `times` as much
 /// excess as there is room to the sink, none beyond their level is looked for. Labels below the
 /// limit that it answers are then exact distances, and where the limit is the top label all are.
+/// Where `times` is the greatest number there is, the search is a full one.
+///
+/// Nodes of label 0 count as the sink itself: they keep that label, are passed over by the search,
+/// and their room is not counted. No residual direction may lead to them from other nodes.
 ///
 /// `found` and `order` are room for the search, one place for each node. Takes no memory.
 pub fn raise_labels(
@@ -123,6 +161,8 @@ pub fn raise_labels(
     requires labels { IsLabelling net.now
         (flow_by (carried_flow rows.now) (sink_flows net.now rooms.now)) labels.old }
     requires low { AreLow net.now labels.old }
+    requires unreached { AreZerosUnreached net.now
+        (flow_by (carried_flow rows.now) (sink_flows net.now rooms.now)) labels.old }
     requires found_len { length found.old ≡ nodes net.now }
     requires order_len { length order.old ≡ nodes net.now }
     ensures labelling { IsLabelling net.now
@@ -130,16 +170,25 @@ pub fn raise_labels(
     ensures rises { (v : ℕ) → v < nodes net.now
         → slice_index labels.old v ≤ slice_index labels.new v }
     ensures low { AreLow net.now labels.new }
+    ensures zeros { (v : ℕ) → v < nodes net.now → slice_index labels.old v ≡ 0 →
+        slice_index labels.new v ≡ 0 }
     ensures fits { result.limit ≤ top net.now }
     ensures count { result.count ≤ length order.new }
     ensures near { AreExactBelow net.now
         (flow_by (carried_flow rows.now) (sink_flows net.now rooms.now)) result.limit labels.new }
     ensures full { result.limit ≡ top net.now →
-        AreDistances net.now (flow_by (carried_flow rows.now)
+        AreDistancesButZeros net.now (flow_by (carried_flow rows.now)
         (sink_flows net.now rooms.now)) labels.new }
+    ensures whole { times + 1 ≡ 2 ^ 64 → result.limit ≡ top net.now }
 {
     let _nodes = net.nodes();
-    let extent = search_near(net, rows, rooms, excess, times, found, order);
+    let enough = room_times(labels, rooms, times);
+    let stop = Stop {
+        excess,
+        enough,
+        whole: times == u64::MAX,
+    };
+    let extent = search_near(net, rows, rooms, labels, &stop, found, order);
     raise_to(labels, found, extent.limit);
     extent
 }

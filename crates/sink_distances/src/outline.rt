@@ -1,3 +1,4 @@
+//! A net without its arcs.
 ghost use Rattle.std.specs.Prelude.{◌≡◌};
 ghost use Rattle.flow_network.specs.Cut.{nodes, IsNet};
 ghost use Rattle.flow_network.specs.Progress.{top};

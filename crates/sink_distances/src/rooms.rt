@@ -1,3 +1,4 @@
+//! Whether numbers can be what nodes can still give the sink.
 ghost use Rattle.std.specs.Prelude.{◌↔◌, IsTrue};
 ghost use Rattle.flow_network.specs.Preflow.{AreRooms};
 

@@ -1,10 +1,13 @@
+//! Breadth-first searches from the sink backwards.
 ghost use Rattle.std.specs.Prelude.{◌≡◌, ◌+◌, ◌<◌, ◌≤◌, ℕ, length, slice_index};
 ghost use Rattle.flow_network.specs.Cut.{nodes, IsNet};
 ghost use Rattle.flow_network.specs.Preflow.{arc_at, flow_by, sink_flows, AreRooms};
 ghost use Rattle.sink_distances.specs.Adjacency.{IsAdjacency};
 ghost use Rattle.sink_distances.specs.Distances.{AreDistances};
-ghost use Rattle.sink_distances.specs.Rows.{carried_flow, head_at, opposite_at, residual_at, IsPlace, IsRows};
-ghost use Rattle.sink_distances.specs.Search.{found_of, AreStarts, IsBefore, IsNextLabel, Grows};
+ghost use Rattle.sink_distances.specs.Rows.{carried_flow, head_at, opposite_at, residual_at};
+ghost use Rattle.sink_distances.specs.Rows.{IsPlace, IsRows};
+ghost use Rattle.sink_distances.specs.Search.{found_of, AreStartsButZeros, AreUnlabelledOrZero};
+ghost use Rattle.sink_distances.specs.Search.{IsBefore, IsNextLabel, Grows};
 
 use crate::{Adjacency, Outline, Rows};
 use flow_network::Graph;
@@ -22,7 +25,7 @@ struct Carried<'a> {
 ///
 /// `labels` has a number for each node, two more than there are nodes where a node has no label.
 /// The first `count` places of `order` are the labelled nodes in the order in which they were
-/// found, by rising labels.
+/// found, by rising labels; nodes of label 0 may be left out.
 pub fn mark(labels: &mut [u32], order: &mut [u32], count: usize, v: u32, label: u32) -> usize
     requires node { v < length labels.old }
     requires ready { IsNextLabel label (found_of labels.old order.old count) }
@@ -38,7 +41,8 @@ pub fn mark(labels: &mut [u32], order: &mut [u32], count: usize, v: u32, label: 
     count + 1
 }
 
-/// Labels the nodes that can give the sink more.
+/// Labels the nodes that can give the sink more, but for those of label 0: these count as the sink
+/// itself, and the search passes them over.
 pub(crate) fn mark_starts(
     net: &Outline,
     rooms: &[u64],
@@ -48,11 +52,11 @@ pub(crate) fn mark_starts(
     requires len { length labels.old ≡ nodes net.now }
     requires order_len { length order.old ≡ nodes net.now }
     requires rooms_len { length rooms.now ≡ nodes net.now }
+    requires labels { AreUnlabelledOrZero net.now labels.old }
     ensures limits { IsNet net.now }
-    ensures starts { AreStarts net.now rooms.now (nodes net.now)
+    ensures starts { AreStartsButZeros net.now rooms.now labels.old (nodes net.now)
         (found_of labels.new order.new result) }
 {
-    labels.fill(net.top_label());
     let mut count = 0;
     for v in 0..net.nodes() {
         if rooms[v] > 0 {
@@ -242,6 +246,7 @@ pub fn write_distances(
         arc_flow,
     };
     let outline = Outline::of(net);
+    labels.fill(outline.top_label());
     let mut count = mark_starts(&outline, rooms, labels, order);
     let mut next = 0;
     'search: while next < count {
@@ -346,6 +351,7 @@ pub fn write_row_distances(
     ensures { AreDistances net.now
         (flow_by (carried_flow rows.now) (sink_flows net.now rooms.now)) labels.new }
 {
+    labels.fill(net.top_label());
     let mut count = mark_starts(net, rooms, labels, order);
     let mut next = 0;
     'levels: while next < count {

@@ -1,4 +1,5 @@
-ghost use Rattle.std.specs.Prelude.{◌≡◌, ℕ, IfOk, length, map, nat_lt, slice_index_or, false};
+//! The nodes that reach the sink.
+ghost use Rattle.std.specs.Prelude.{◌≡◌, IfOk, length, map, nat_lt, slice_index_or, false};
 ghost use Rattle.flow_network.specs.Preflow.{Flow, flow_by, sink_flows, AreRooms, IsReach};
 ghost use Rattle.flow_network.specs.Progress.{top};
 ghost use Rattle.sink_distances.specs.Distances.{AreDistances};

@@ -1,3 +1,4 @@
+//! Why a net was not cut.
 use thiserror::Error;
 
 /// Why a net was not cut.

@@ -22,9 +22,8 @@ add_term-requires-clause-regular c =
 pub loop-index-preserved : goal.loop-index-preserved
 loop-index-preserved c =
     let here : c.loop-index.index < length c.args.energy.now.terms = omega (arith, c.loop-index-test.true, c.term_count-index-end.ensures.value) in
-    let bounded = c.in_ok-add_term.ensures.bounded c.loop-index.index c.loop-index.invariant.bounded in
     step c.args.energy.now c.loop-index.index c.term.result c.loop-index.form c.add_term.new.self here c.term.ensures.value c.term.ensures.within
-    c.loop-index.invariant c.in_ok-add_term.ensures.value bounded c.in_ok-add_term.ensures.len
+    c.loop-index.invariant c.in_ok-add_term.ensures
 
 pub returns-clause-values : goal.returns-clause-values
 returns-clause-values c =

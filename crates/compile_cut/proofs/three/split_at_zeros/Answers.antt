@@ -3,18 +3,22 @@ use Rattle.pseudo_bool.specs.Energies.{entry}
 use Rattle.compile_cut.proofs.PartLemmas.{passed_is}
 use Rattle.compile_cut.proofs.three.split_at_zeros.Goals as goal
 
-pub returns-clause-first : goal.returns-clause-first
-returns-clause-first c = passed_is c.difference.result (omega (arith, c.difference.ensures.small)) ∙ c.difference.ensures.value
-
-pub returns-clause-second : goal.returns-clause-second
-returns-clause-second c = passed_is c.difference-2.result (omega (arith, c.difference-2.ensures.small)) ∙ c.difference-2.ensures.value
-
-pub returns-clause-third : goal.returns-clause-third
-returns-clause-third c =
+pub returns-clause-value : goal.returns-clause-value
+returns-clause-value c =
+    let zero : unsigned_abs (entry c.args.table.now 0) ≤ 1000000000 = c.requires.values 0 (pos 0) (omega (arith, c.told-table)) in
     let one = passed_is c.balance.result (omega (arith, c.balance.ensures.small)) in
     let other = passed_is c.difference-3.result (omega (arith, c.difference-3.ensures.small)) in
     let both = passed_is c.sum.result (omega (arith, c.sum.ensures.small)) in
-    cc (one, other, both, c.sum.ensures.value, c.balance.ensures.value, c.difference-3.ensures.value)
+    record {
+      constant = passed_is (entry c.args.table.now 0) (omega (arith, zero));
+      first = passed_is c.difference.result (omega (arith, c.difference.ensures.small)) ∙ c.difference.ensures.value;
+      second = passed_is c.difference-2.result (omega (arith, c.difference-2.ensures.small)) ∙ c.difference-2.ensures.value;
+      third = cc (one, other, both, c.sum.ensures.value, c.balance.ensures.value, c.difference-3.ensures.value);
+      first_second = c.arcs_at_zeros.ensures.first_second;
+      first_third = c.arcs_at_zeros.ensures.first_third;
+      second_third = c.arcs_at_zeros.ensures.second_third;
+      hidden = passed_is c.args.hidden (omega (arith, c.requires.hidden));
+    }
 
 pub sum-requires-clause-a : goal.sum-requires-clause-a
 sum-requires-clause-a c = rw (passed_is c.balance.result (omega (arith, c.balance.ensures.small))) c.balance.ensures.small

@@ -1,14 +1,10 @@
-use Rattle.std.proofs.Common.{◌≡◌, ℕ, ◌+◌, ◌*◌, ◌<◌, Bool, not, ◌&&◌, All, take}
+use Rattle.std.proofs.Common.{◌*◌, not, ◌&&◌, ◌∷◌, take}
 use Rattle.std.specs.List.{sum_by}
 use Rattle.sums.specs.Sums.{count_if}
-use Rattle.flow_network.specs.Cut.{IsArc}
-use Rattle.compile_cut.specs.Weights.{arcs_value, arcs_size, IsAbove}
+use Rattle.compile_cut.specs.Weights.{AddsArcs}
 use Rattle.compile_cut.proofs.tied.add_arcs_to.Given as goal
 
 abbrev pub invariant-loop-index : goal.invariant-loop-index
-invariant-loop-index l = record {
-  value : (x : ℕ → Bool) → arcs_value l.arcs.items x ≡ arcs_value l.initial.arcs.items x + sum_by (λ node. count_if (x l.to && not (x node)) l.capacity) (take l.index l.nodes);
-  size : arcs_size l.arcs.items ≡ arcs_size l.initial.arcs.items + l.capacity * l.index;
-  nodes : (n : ℕ) → l.to < n → All (λ node. node < n) l.nodes → All (IsArc n) l.initial.arcs.items → All (IsArc n) l.arcs.items;
-  above : All IsAbove l.initial.arcs.items → All IsAbove l.arcs.items;
-}
+invariant-loop-index l =
+    AddsArcs l.initial.arcs.items l.arcs.items (l.to ∷ l.nodes) (l.capacity * l.index)
+    (λ x. sum_by (λ node. count_if (x l.to && not (x node)) l.capacity) (take l.index l.nodes))

@@ -5,6 +5,7 @@ use Rattle.flow_network.specs.Cut.{set_of}
 use Rattle.flow_network.specs.Preflow.{IsReach}
 use Rattle.flow_network.specs.Progress.{top}
 use Rattle.plain_cut.specs.State.{work_flow}
+use Rattle.plain_cut.proofs.Zeros.{zeros_reach}
 use Rattle.plain_cut.proofs.Solving.{solved_smallest}
 use Rattle.plain_cut.proofs.solver.least_side.Goals as goal
 
@@ -13,8 +14,10 @@ returns c =
     let net = c.args.net.now in
     let w = c.args.work.now in
     let exact = c.requires.exact in
+    let labels = c.as_slice.ensures.value in
     let reach : IfOk c.side_below.result (λ side. IsReach net (work_flow net w) (set_of side.items)) =
-    IfOk-weaker c.side_below.result _ _ (λ side known. known (work_flow net w) (rw c.as_slice.ensures.value exact)) c.side_below.ensures.reach in
+    IfOk-weaker c.side_below.result _ _ (λ side known.
+    zeros_reach net (work_flow net w) w.excess.items w.labels.items side.items c.requires.work.zeros exact (rw labels at known)) c.side_below.ensures.bits in
     record {
       bits = IfOk-weaker c.side_below.result _ _ (λ side known.
           ap (length {A = Bool}) known ∙ (length-map c.as_slice.result.now (λ label. nat_lt label (top net)) ∙ (ap (length {A = ℕ}) c.as_slice.ensures.value ∙ exact.len))) c.side_below.ensures.bits;

@@ -1,7 +1,7 @@
 use Rattle.std.proofs.Common.{◌≡◌, ◌+◌, ◌*◌, ◌≤◌, cond, ltb}
 use Rattle.flow_network.specs.Cut.{nodes}
 use Rattle.flow_network.specs.Progress.{top}
-use Rattle.sink_distances.specs.Distances.{AreDistances}
+use Rattle.sink_distances.specs.Distances.{AreDistancesButZeros}
 use Rattle.plain_cut.specs.State.{work_flow, IsWork, work_measure}
 use Rattle.plain_cut.proofs.solver.settle.Given as goal
 
@@ -10,7 +10,7 @@ invariant-rounds l = record {
   work : IsWork l.net l.work;
   fits : l.extent.limit ≤ top l.net;
   count : l.extent.count ≤ nodes l.net;
-  exact : l.extent.limit ≡ top l.net → AreDistances l.net (work_flow l.net l.work) l.work.labels.items;
+  exact : l.extent.limit ≡ top l.net → AreDistancesButZeros l.net (work_flow l.net l.work) l.work.labels.items;
   counted : l.work.relabels ≡ 0;
 }
 

@@ -13,3 +13,7 @@ returns-clause-raised c =
     (rw labels (rw c.as_slice.ensures.value at made.labelling))
     (rw labels (rw c.as_mut_slice.ensures.value at made.rises))
     (rw labels made.low)
+    (rw labels (rw c.as_mut_slice.ensures.value at made.zeros))
+
+pub raise_labels-requires-clause-unreached : goal.raise_labels-requires-clause-unreached
+raise_labels-requires-clause-unreached c = rw c.as_mut_slice.ensures.value c.requires.work.zeros.unreached

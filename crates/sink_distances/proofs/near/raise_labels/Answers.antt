@@ -1,11 +1,9 @@
 use Rattle.std.proofs.Common.{arith, ◌∙◌}
+use Rattle.std.proofs.lemmas.Bool.{eq-eqb}
 use Rattle.flow_network.specs.Preflow.{Flow, flow_by, sink_flows}
 use Rattle.sink_distances.specs.Rows.{carried_flow}
-use Rattle.sink_distances.proofs.Nearing.{rooms-small, raised_labelling, raised_low, raised_near, raised_exact, AreRaisedTo}
+use Rattle.sink_distances.proofs.Nearing.{raised_labelling, raised_zeros, raised_low, raised_near, raised_exact, AreRaisedTo}
 use Rattle.sink_distances.proofs.near.raise_labels.Goals as goal
-
-pub search_near-extent-requires-clause-small : goal.search_near-extent-requires-clause-small
-search_near-extent-requires-clause-small c = rooms-small c.args.net.now c.args.rooms.now c.nodes-nodes.ensures.limits c.requires.rooms
 
 pub returns : goal.returns
 returns c =
@@ -23,9 +21,11 @@ returns c =
     record {
       labelling = made;
       rises = λ v l. omega (arith, told v l);
+      zeros = raised_zeros net flow limit found old new near told;
       low = raised_low net flow limit found old new c.requires.low near told;
       fits = near.fits;
       count = c.search_near-extent.ensures.count;
       near = raised_near net flow limit found old new c.requires.labels near made told;
       full = raised_exact net flow limit found old new c.requires.labels c.requires.low near len told;
+      whole = λ most. c.search_near-extent.ensures.whole (eq-eqb c.args.times 18446744073709551615 (omega (arith, most)));
     }

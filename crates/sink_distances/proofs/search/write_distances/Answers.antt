@@ -1,12 +1,24 @@
+use Rattle.std.proofs.Common.{inr, length}
+use Rattle.flow_network.specs.Cut.{nodes}
 use Rattle.flow_network.specs.Preflow.{Flow, flow_by, sink_flows}
 use Rattle.sink_distances.specs.Search.{found_of}
-use Rattle.sink_distances.proofs.Searching.{searched_begins, searched_more, searched_exact}
+use Rattle.sink_distances.proofs.Searching.{all_unlabelled, all_starts, searched_begins, searched_more, searched_exact}
 use Rattle.sink_distances.proofs.search.write_distances.Goals as goal
 
 pub search-init : goal.search-init
 search-init c =
-    searched_begins c.args.net.now c.args.arc_flow.now c.args.rooms.now (found_of c.mark_starts-count.new.labels c.mark_starts-count.new.order c.mark_starts-count.result)
-    (rw c.of-outline.ensures at c.mark_starts-count.ensures.limits) c.requires.rooms (rw c.of-outline.ensures at c.mark_starts-count.ensures.starts)
+    let net = c.args.net.now in
+    let s = found_of c.mark_starts-count.new.labels c.mark_starts-count.new.order c.mark_starts-count.result in
+    let top = rw c.of-outline.ensures at c.top_label.ensures.value in
+    let none = all_unlabelled net (length c.args.labels.now) c.top_label.result c.fill.new.self (c.fill.ensures.after (λ y e. e)) c.requires.labels_len top in
+    searched_begins net c.args.arc_flow.now c.args.rooms.now s (rw c.of-outline.ensures at c.mark_starts-count.ensures.limits) c.requires.rooms
+    (all_starts net c.args.rooms.now c.fill.new.self (nodes net) s (rw c.of-outline.ensures at c.mark_starts-count.ensures.starts) none)
+
+pub mark_starts-count-requires-clause-labels : goal.mark_starts-count-requires-clause-labels
+mark_starts-count-requires-clause-labels c =
+    let top = rw c.of-outline.ensures at c.top_label.ensures.value in
+    rw c.of-outline.ensures (λ v l.
+    inr (all_unlabelled c.args.net.now (length c.args.labels.now) c.top_label.result c.fill.new.self (c.fill.ensures.after (λ y e. e)) c.requires.labels_len top v l))
 
 pub search-preserved : goal.search-preserved
 search-preserved c =

@@ -2,7 +2,7 @@ use Rattle.std.proofs.Common.{arith, ◌≤◌, unsigned_abs}
 use Rattle.sums.proofs.IntegerSumLemmas.{abs-add}
 use Rattle.compile_cut.specs.Weights.{weights_value, arcs_value}
 use Rattle.compile_cut.proofs.PartLemmas.{constant_is, passed_is}
-use Rattle.compile_cut.proofs.WeightLemmas.{pair_more}
+use Rattle.compile_cut.proofs.WeightLemmas.{both_below, pair_more}
 use Rattle.compile_cut.proofs.quadratic.Quadratic.add_pair.Goals as goal
 
 pub returns-clause-bounded : goal.returns-clause-bounded
@@ -16,7 +16,7 @@ returns-clause-bounded c k b =
       constant = rw (constant_is c.args.self.now.constant part.result.constant constant small)
           (omega (arith, abs-add c.args.self.now.constant part.result.constant, b.constant, part.ensures.small_constant));
       size = omega (arith, b.size, first, second, c.in_ok-add_arc.ensures.size, part.ensures.small_first, part.ensures.small_second, part.ensures.small_arc);
-      arcs = rw (c.add_weight-2.ensures.len, c.add_weight.ensures.len) (c.in_ok-add_arc.ensures.nodes _ c.requires.first c.requires.second b.arcs);
+      arcs = rw (c.add_weight-2.ensures.len, c.add_weight.ensures.len) (c.in_ok-add_arc.ensures.nodes _ (both_below _ c.args.first c.args.second c.requires.first c.requires.second) b.arcs);
       above = c.in_ok-add_arc.ensures.above b.above;
     }
 

@@ -2,7 +2,7 @@ use Rattle.std.proofs.Common.{arith, ◌≡◌, ◌≤◌, ◌<◌, ◌+◌, ◌
 use Rattle.std.specs.List.{list_all, sum_by}
 use Rattle.std.proofs.lemmas.Int.{ints}
 use Rattle.std.proofs.lemmas.List.Sums.{sum_by_push}
-use Rattle.std.proofs.lemmas.List.Elements.{All-weaker}
+use Rattle.std.proofs.lemmas.List.Elements.{All-weaker, All-cons}
 use Rattle.sums.specs.Sums.{count_if}
 use Rattle.flow_network.specs.Cut.{IsArc}
 use Rattle.compile_cut.specs.declared.quadratic.Quadratic.{Quadratic}
@@ -35,7 +35,8 @@ returns-clause-tied c =
         arcs = rw len (
             let n = vec_len old.weights + 1 in
             let own : c.len-hidden.result < n = omega (arith, c.len-hidden.ensures) in
-            c.in_ok-add_arcs_to.ensures.nodes n own (All-weaker (λ v. v < vec_len old.weights) (λ v. v < n) (λ v l. omega (arith, l)) nodes c.requires.nodes)
+            c.in_ok-add_arcs_to.ensures.nodes n (All-cons (λ v. v < n) c.len-hidden.result nodes own
+            (All-weaker (λ v. v < vec_len old.weights) (λ v. v < n) (λ v l. omega (arith, l)) nodes c.requires.nodes))
             (All-weaker (IsArc (vec_len old.weights)) (IsArc n) (λ arc. arc_weaker (vec_len old.weights) n arc (omega arith)) old.arcs.items b.arcs)
             );
         above = c.in_ok-add_arcs_to.ensures.above b.above;
