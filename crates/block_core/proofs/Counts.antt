@@ -13,8 +13,7 @@ use Rattle.block_events.specs.Soundness.{opening_state}
 use Rattle.block_events.proofs.Opening.{map_at, opened_sound}
 use Rattle.block_net.specs.Split.{CanSplit}
 use Rattle.block_core.specs.Mails.{room_at, IsHeld}
-use Rattle.block_events.specs.Effects.{BlocksView, state_of}
-use Rattle.laid_blocks.specs.Views.{opening_blocks}
+use Rattle.block_events.specs.Effects.{BlocksView, opening_blocks, state_of}
 use Rattle.block_core.specs.Counting.{put_room, IsSquareOf, directions_between, IsCounted}
 
 room_same : (n : ℕ) (rooms : List (List ℕ)) (b c y : ℕ) → IsSquareOf n rooms → b < n → c < n → room_at (put_room rooms b c y) b c ≡ y

@@ -1,4 +1,5 @@
-ghost use Rattle.std.specs.Prelude.{◌≡◌, ◌≤◌, IfOk, OnOk, OnErr};
+//! A state that goes from event to event.
+ghost use Rattle.std.specs.Prelude.{◌≡◌, IfOk, OnOk, OnErr};
 ghost use Rattle.block_events.specs.Events.{IsEnabled, Happens};
 ghost use Rattle.block_events.specs.Soundness.{opening_state};
 ghost use Rattle.block_net.specs.Split.{CanSplit};

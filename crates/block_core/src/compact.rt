@@ -1,3 +1,4 @@
+//! A message in 24 bytes.
 ghost use Rattle.std.specs.Prelude.{◌≡◌, ◌<◌, ◌^◌};
 ghost use Rattle.block_events.specs.Soundness.{direction_of};
 ghost use Rattle.block_core.specs.Compact.{message_of};

@@ -1,5 +1,6 @@
+//! The messages on the ways between blocks.
 ghost use Rattle.std.specs.Prelude.{IfOk, map, ◌≡◌, ◌↔◌, ◌^◌, ◌<◌, ◌≤◌, ℕ, IsTrue, MatchOption};
-ghost use Rattle.std.specs.Prelude.{Some, length, slice_get, slice_index, slice_index_or, [], ◌∷◌};
+ghost use Rattle.std.specs.Prelude.{Some, length, slice_get, slice_index_or, [], ◌∷◌};
 ghost use Rattle.std.specs.Prelude.{drop};
 ghost use Rattle.std.specs.VecDeque.{deque_capacity};
 ghost use Rattle.block_events.specs.States.{way_at, put_way, put_message};

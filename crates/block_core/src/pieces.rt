@@ -1,3 +1,4 @@
+//! A state in its pieces.
 ghost use Rattle.std.specs.Prelude.{◌≡◌, ◌+◌, ◌<◌, ◌≤◌, ℕ, length, slice_index, sum};
 ghost use Rattle.flow_network.specs.Cut.{nodes};
 ghost use Rattle.block_events.specs.States.{room_of};

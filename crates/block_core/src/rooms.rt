@@ -1,4 +1,6 @@
-ghost use Rattle.std.specs.Prelude.{◌≡◌, ◌+◌, ◌<◌, ◌≤◌, IfOk, OnOk, length, replicate, slice_index_or, []};
+//! For how many messages each way has room.
+ghost use Rattle.std.specs.Prelude.{◌≡◌, ◌+◌, ◌<◌, ◌≤◌, IfOk, OnOk, length, replicate};
+ghost use Rattle.std.specs.Prelude.{slice_index_or, []};
 ghost use Rattle.flow_network.specs.Cut.{nodes};
 ghost use Rattle.block_events.specs.States.{block_of};
 ghost use Rattle.block_net.specs.Split.{homes_made};

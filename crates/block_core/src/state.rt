@@ -1,9 +1,12 @@
+//! Sound states: a net in blocks with the messages between them.
 ghost use Rattle.std.specs.Prelude.{IfOk, length, slice_get, Some, IfSome, IfNone, [], ◌∷◌, drop};
-ghost use Rattle.std.specs.Prelude.{◌≡◌, ◌↔◌, ◌<◌, ◌≤◌, ◌+◌, ℕ, IsTrue};
-ghost use Rattle.flow_network.specs.Cut.{nodes, IsNet};
-ghost use Rattle.block_events.specs.declared.message.Message.TheVariants.{Parcel, Accepted, Refused};
+ghost use Rattle.std.specs.Prelude.{◌≡◌, ◌↔◌, ◌<◌, ◌≤◌, ◌+◌, IsTrue};
+ghost use Rattle.flow_network.specs.Cut.{nodes};
+ghost use Rattle.block_events.specs.declared.message.Message.TheVariants.{Parcel, Accepted};
+ghost use Rattle.block_events.specs.declared.message.Message.TheVariants.{Refused};
 ghost use Rattle.block_events.specs.Directions.{IsDirection, far};
-ghost use Rattle.block_events.specs.States.{IsWay, way_at, excess_of, label_of, room_of, residual_of};
+ghost use Rattle.block_events.specs.States.{IsWay, way_at, excess_of, label_of, room_of};
+ghost use Rattle.block_events.specs.States.{residual_of};
 ghost use Rattle.block_events.specs.States.{known_of, flight_of};
 ghost use Rattle.block_events.specs.Reach.{AreExact};
 ghost use Rattle.block_events.specs.Soundness.{IsSound, opening_state};
@@ -197,8 +200,10 @@ impl State {
         self.got
     }
 
-    ghost use Rattle.block_events.specs.declared.event.Event.TheVariants.{PushInner, PushSink, Relabel};
-    ghost use Rattle.block_events.specs.declared.event.Event.TheVariants.{Send, Accept, Refuse, Settle};
+    ghost use Rattle.block_events.specs.declared.event.Event.TheVariants.{PushInner, PushSink};
+    ghost use Rattle.block_events.specs.declared.event.Event.TheVariants.{Relabel};
+    ghost use Rattle.block_events.specs.declared.event.Event.TheVariants.{Send, Accept, Refuse};
+    ghost use Rattle.block_events.specs.declared.event.Event.TheVariants.{Settle};
     ghost use Rattle.block_events.specs.declared.event.Event.TheVariants.{RaiseAll};
 
     /// Whether a node has excess and is not cut off.

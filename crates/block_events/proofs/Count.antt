@@ -27,7 +27,7 @@ use Rattle.block_events.specs.Events.{after_push, after_sink_push, after_relabel
 use Rattle.block_events.specs.Soundness.{labels_to_rise, weight, height, unit, potential}
 use Rattle.block_events.proofs.Lanes.{directions_changed}
 use Rattle.block_events.proofs.Replies.{messages_answered}
-use Rattle.block_events.proofs.Inside.{IsAllowed}
+use Rattle.block_events.proofs.Allowed.{IsAllowed}
 
 -- ---- parts of the count
 

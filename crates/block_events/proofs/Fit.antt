@@ -2,27 +2,24 @@
 use Rattle.std.proofs.Common.{◌≡◌, ℕ, ◌+◌, ◌-◌, ◌<◌, ◌≤◌, true, false, cond, eqb, max, List, [], ◌∷◌, ◌++◌, length, set, slice_index, sum, Some, None, Option, refl, sym, ◌∙◌, ap, inl, inr, ◌⊎◌, arith}
 use Rattle.std.specs.Option.{is_some}
 use Rattle.std.proofs.lemmas.List.{length-set}
-use Rattle.std.proofs.lemmas.Bool.{cases_eq, cases_Bool}
 use Rattle.sums.specs.Sums.{count_if}
-use Rattle.sums.proofs.SumLemmas.{counted-same, counted-other}
 use Rattle.flow_network.specs.Cut.{nodes}
+use Rattle.flow_network.specs.Preflow.{arc_at}
 use Rattle.flow_network.specs.Progress.{top}
 use Rattle.block_events.specs.declared.direction.Direction.{Direction}
 use Rattle.block_events.specs.declared.flight.Flight.{Flight}
 use Rattle.block_events.specs.declared.message.Message.{Message}
 use Rattle.block_events.specs.declared.message.Message.TheVariants.{Parcel, Accepted, Refused}
-use Rattle.block_events.specs.Directions.{opposite, IsDirection, near, far, sum_leaving}
-use Rattle.block_events.specs.States.{State, Lane, lane_at, put_lane, way_at, excess_of, label_of, room_of, flight_of, residual_of, known_of, near_block, far_block, is_border, seen_label}
+use Rattle.block_events.specs.Directions.{opposite, forward, backward, IsDirection, near, far, sum_leaving}
+use Rattle.block_events.specs.States.{State, Lane, lane_at, put_lane, way_at, over_messages, excess_of, label_of, room_of, flight_of, residual_of, known_of, near_block, far_block, is_border, seen_label}
 use Rattle.block_events.specs.Effects.{lane_after_accept}
 use Rattle.block_events.specs.Events.{after_push, after_sink_push, after_relabel, after_send, after_accept, after_refuse, after_settle, highest_label}
-use Rattle.block_events.specs.Soundness.{IsSized, IsSound, first_residual}
+use Rattle.block_events.specs.Soundness.{IsSized, IsSound, HasMessages, carries, carries_on, first_residual}
 use Rattle.block_events.proofs.Lanes.{long_put, near_opposite, far_opposite, border_opposite}
-use Rattle.block_events.proofs.Ways.{square_put}
-use Rattle.block_events.proofs.Local.{counted_none, set_at, set_less, set_more, set_rises, sum_less, each_lane, leaving_changed, long}
+use Rattle.block_events.proofs.Ways.{square_put, square_answered}
+use Rattle.block_events.proofs.Local.{counted_none, set_less, set_more, set_rises, sum_less, each_lane, leaving_changed, long}
 use Rattle.block_events.proofs.Ends.{near_in, far_in}
-use Rattle.block_events.proofs.Replies.{square_answered}
-use Rattle.block_events.proofs.Inside.{IsAllowed, highest-le-top, highest-le-one, highest-le-seen, open_residual}
-use Rattle.block_events.proofs.Kept.{cases_flight, open_flight}
+use Rattle.block_events.proofs.Allowed.{IsAllowed, label_at, highest-le-top, highest-le-one, highest-le-seen, open_residual, seen_rises, cases_flight, open_flight}
 
 pub record IsFit (s : State) : Type 0 where
   pub sized : IsSized s
@@ -49,8 +46,28 @@ sound_fit s sound = record {
   flights = sound.flights;
 }
 
+-- what is left of a sound state: what its blocks and its ways hold together
+pub record IsJoint (s : State) : Type 0 where
+  pub arcs : (k : ℕ) → k < length s.net.arcs
+      → residual_of s (forward k) + residual_of s (backward k) + over_messages (carries_on k) s.ways ≡ (arc_at s.net k).capacity
+  pub total : sum s.excess + over_messages carries s.ways + s.got ≡ sum s.net.sources
+  pub known : (x : Direction) → IsDirection s.net x → is_border s.net s.blocks x ≡ true → known_of s x ≤ label_of s (far s.net x)
+  pub messages : HasMessages s
+
+pub fit_sound : (s : State) → IsFit s → IsJoint s → IsSound s
+fit_sound s fit joint = record {
+  sized = fit.sized;
+  flow = record { arcs = joint.arcs; total = joint.total; got = fit.got; rooms = fit.rooms; balance = fit.balance };
+  labels = record { top = fit.top; sink = fit.sink; steep = fit.steep; known = joint.known };
+  flights = fit.flights;
+  messages = joint.messages;
+}
+
 abbrev pub Steep : State → Direction → Lane → Type 0
 Steep s y l = 0 < l.residual → label_of s (near s.net y) ≤ cond (is_border s.net s.blocks y) l.known (label_of s (far s.net y)) + 1
+
+abbrev pub Known : State → Direction → Lane → Type 0
+Known s y l = is_border s.net s.blocks y ≡ true → l.known ≤ label_of s (far s.net y)
 
 abbrev pub Level : State → Direction → Lane → Type 0
 Level s y l = (f : Flight) → l.flight ≡ Some f → (is_border s.net s.blocks y ≡ true) × (label_of s (near s.net y) ≡ l.known + 1) × (label_of s (near s.net y) ≡ f.label)
@@ -58,9 +75,9 @@ Level s y l = (f : Flight) → l.flight ≡ Some f → (is_border s.net s.blocks
 -- ---- within a block
 
 pub pushed_fit : (s : State) (x : Direction) (a : ℕ) → IsFit s → IsDirection s.net x → is_border s.net s.blocks x ≡ false
-    → a ≤ excess_of s (near s.net x) → 0 < residual_of s x → a ≤ residual_of s x → label_of s (near s.net x) ≡ label_of s (far s.net x) + 1
+    → a ≤ excess_of s (near s.net x) → a ≤ residual_of s x → label_of s (far s.net x) ≤ label_of s (near s.net x) + 1
     → IsFit (after_push s x a)
-pushed_fit s x a fit lx inner enough some fits level =
+pushed_fit s x a fit lx inner enough fits level =
     let v = near s.net x in
     let w = far s.net x in
     let opp = opposite x in
@@ -80,7 +97,7 @@ pushed_fit s x a fit lx inner enough some fits level =
     let label_near = ap (label_of s) near_is in
     let label_far = ap (label_of s) far_is in
     let inner' : is_border s.net s.blocks opp ≡ false = border_opposite s.net s.blocks x ∙ inner in
-    let steep = each_lane arcs s.lanes x lane (Steep s) lng lx (λ y off ly. fit.steep y ly) (λ left. fit.steep x lx some) in
+    let steep = each_lane arcs s.lanes x lane (Steep s) lng lx (λ y off ly. fit.steep y ly) (λ left. fit.steep x lx (omega (arith, left))) in
     let flights = each_lane arcs s.lanes x lane (Level s) lng lx (λ y off ly. fit.flights y ly) (fit.flights x lx) in
     record {
       sized = record {
@@ -114,8 +131,8 @@ pushed_fit s x a fit lx inner enough some fits level =
       flights = each_lane arcs taken opp back (Level s) lng1 lx (λ y off ly. flights y ly) (flights opp lx);
     }
 
-pub given_fit : (s : State) (v a : ℕ) → IsFit s → v < nodes s.net → a ≤ excess_of s v → a ≤ room_of s v → 0 < room_of s v → IsFit (after_sink_push s v a)
-given_fit s v a fit lv enough fits some =
+pub given_fit : (s : State) (v a : ℕ) → IsFit s → v < nodes s.net → a ≤ excess_of s v → a ≤ room_of s v → IsFit (after_sink_push s v a)
+given_fit s v a fit lv enough fits =
     let le : v < length s.excess = omega (arith, lv, fit.sized.excess) in
     let lr : v < length s.rooms = omega (arith, lv, fit.sized.rooms) in
     let room_at = λ (u : ℕ). set_less s.rooms v a u lr fits in
@@ -138,20 +155,6 @@ given_fit s v a fit lv enough fits some =
       steep = fit.steep;
       flights = fit.flights;
     }
-
--- the label at a node after one was written
-label_at : (s : State) (v d u : ℕ) → v < length s.labels → ((u ≡ v) × (slice_index (set s.labels v d) u ≡ d)) ⊎ ((u ≡ v → ⊥) × (slice_index (set s.labels v d) u ≡ label_of s u))
-label_at s v d u l = elim (cases_eq u v) [
-  | inl e ↦ inl (e, rw e (omega (arith, set_at s.labels v d v l, counted-same v d, counted-same v (label_of s v))))
-  | inr off ↦ inr (off, omega (arith, set_at s.labels v d u l, counted-other v u d off, counted-other v u (label_of s v) off))
-]
-
-seen_rises : (s : State) (labels : List ℕ) (x : Direction) → ((u : ℕ) → label_of s u ≤ slice_index labels u)
-    → seen_label s x ≤ cond (is_border s.net s.blocks x) (known_of s x) (slice_index labels (far s.net x))
-seen_rises s labels x up = elim (cases_Bool (is_border s.net s.blocks x)) [
-  | inl border ↦ rw border (omega arith)
-  | inr inner ↦ rw inner (up (far s.net x))
-]
 
 pub relabelled_fit : (s : State) (v d : ℕ) → IsFit s → IsAllowed s v d → IsFit (after_relabel s v d)
 relabelled_fit s v d fit may =
@@ -211,7 +214,7 @@ fit_allowed s v fit lv rises = record {
 
 -- ---- with messages
 
-flight_label : (d a : ℕ) (f : Flight) → Some (record { amount = a; label = d }) ≡ Some f → d ≡ f.label
+pub flight_label : (d a : ℕ) (f : Flight) → Some (record { amount = a; label = d }) ≡ Some f → d ≡ f.label
 flight_label d a f h = let e : record { amount = a; label = d } ≡ f = cc in ap (λ (q : Flight). q.label) e
 
 pub sent_fit : (s : State) (x : Direction) (a : ℕ) → IsFit s → IsDirection s.net x → is_border s.net s.blocks x ≡ true

@@ -1,17 +1,17 @@
 -- An answer that ends a flight, and a parcel that begins one, keep a state sound.
-use Rattle.std.proofs.Common.{◌≡◌, ℕ, ◌+◌, ◌-◌, ◌<◌, ◌≤◌, true, cond, eqb, List, [], ◌∷◌, ◌++◌, length, get_or, All, Some, None, refl, sym, ◌∙◌, ap, arith}
-use Rattle.std.proofs.lemmas.List.{length-set}
+use Rattle.std.proofs.Common.{◌≡◌, ℕ, ◌+◌, ◌-◌, ◌<◌, ◌≤◌, true, eqb, List, [], ◌∷◌, ◌++◌, length, get_or, All, Some, None, refl, sym, ◌∙◌, ap, arith}
 use Rattle.flow_network.specs.Cut.{Network}
 use Rattle.block_events.specs.declared.direction.Direction.{Direction}
 use Rattle.block_events.specs.declared.message.Message.{Message}
 use Rattle.block_events.specs.declared.message.Message.TheVariants.{Parcel, Accepted, Refused}
-use Rattle.block_events.specs.Directions.{IsDirection, near, far}
-use Rattle.block_events.specs.States.{State, Lane, Lanes, Flight, lane_at, put_lane, way_at, put_way, put_message, over_messages, excess_of, label_of, flight_of, residual_of, known_of, near_block, far_block, is_border, IsWay}
+use Rattle.block_events.specs.Directions.{IsDirection, near}
+use Rattle.block_events.specs.States.{State, Lane, Lanes, lane_at, put_lane, way_at, put_way, put_message, over_messages, excess_of, label_of, flight_of, residual_of, known_of, near_block, far_block, is_border, IsWay}
 use Rattle.block_events.specs.Soundness.{IsSound, IsOut, direction_of, names, carries, carries_on, out}
-use Rattle.block_events.proofs.Lanes.{lane_same, lane_other, long_put}
-use Rattle.block_events.proofs.Ways.{EachWay, each_put, square_put, messages_more, messages_less}
-use Rattle.block_events.proofs.Local.{counted_none, set_less, set_more, sum_less, sum_more, each_lane, arc_changed, leaving_changed, belongs_kept, behind_parcel, names_other, names_same, names_not, long}
+use Rattle.block_events.proofs.Lanes.{lane_same, lane_other}
+use Rattle.block_events.proofs.Ways.{EachWay, each_put, messages_more, messages_less}
+use Rattle.block_events.proofs.Local.{counted_none, sum_less, sum_more, each_lane, arc_changed, belongs_kept, behind_parcel, names_other, names_same, names_not, long}
 use Rattle.block_events.proofs.Ends.{near_in, near_block_in, far_block_in}
+use Rattle.block_events.proofs.Fit.{Known, sound_fit, fit_sound, taken_fit, returned_fit, sent_fit}
 use Rattle.block_events.proofs.Replies.{IsGoodWay, good_ways, good_rest, good_more, front_out}
 use Rattle.block_events.specs.Events.{after_settle, after_send}
 
@@ -49,43 +49,18 @@ taken_kept s b c x a rest sound way e =
     (each_put n (IsGoodWay s.net s.blocks s.lanes s.labels) s.ways b c rest sq way.0 way.1 (good_ways s s.lanes sound (λ y h. refl))
     (good_rest s.net s.blocks s.lanes s.labels b c m rest (way_at s.ways b c) e (good_ways s s.lanes sound (λ y h. refl) b c)))
     (names_other n ways x none) in
-    let long' = long_put arcs s.lanes x lane lng in
-    record {
-      sized = record {
-        net = sound.sized.net;
-        excess = sound.sized.excess;
-        labels = sound.sized.labels;
-        rooms = sound.sized.rooms;
-        forth = long'.forth;
-        back = long'.back;
-        blocks = sound.sized.blocks;
-        ways = square_put n s.ways b c rest sq;
-      };
-      flow = record {
-        arcs = λ k lk. omega (arith, sound.flow.arcs k lk, less (carries_on k), arc_changed arcs s.lanes x lane 0 0 k lng lx (omega arith), counted_none (eqb x.arc k));
-        total = omega (arith, sound.flow.total, less carries);
-        got = sound.flow.got;
-        rooms = sound.flow.rooms;
-        balance = λ u lu. omega (arith, sound.flow.balance u lu, leaving_changed s.net s.lanes x lane 0 0 u lng lx (omega arith));
-      };
-      labels = record {
-        top = sound.labels.top;
-        sink = sound.labels.sink;
-        steep = each_lane arcs s.lanes x lane (λ y l. 0 < l.residual → label_of s (near s.net y) ≤ cond (is_border s.net s.blocks y) l.known (label_of s (far s.net y)) + 1) lng lx
-            (λ y off ly. sound.labels.steep y ly) (sound.labels.steep x lx);
-        known = each_lane arcs s.lanes x lane (λ y l. is_border s.net s.blocks y ≡ true → l.known ≤ label_of s (far s.net y)) lng lx
-            (λ y off ly. sound.labels.known y ly) (sound.labels.known x lx);
-      };
-      flights = each_lane arcs s.lanes x lane
-          (λ y l. (f : Flight) → l.flight ≡ Some f → (is_border s.net s.blocks y ≡ true) × (label_of s (near s.net y) ≡ l.known + 1) × (label_of s (near s.net y) ≡ f.label)) lng lx
-          (λ y off ly. sound.flights y ly) (λ f h. absurd (cc));
+    fit_sound (after_settle s b c (Accepted x a ∷ rest)) (taken_fit s b c x a rest (sound_fit s sound) lx) (record {
+      arcs = λ k lk. omega (arith, sound.flow.arcs k lk, less (carries_on k), arc_changed arcs s.lanes x lane 0 0 k lng lx (omega arith), counted_none (eqb x.arc k));
+      total = omega (arith, sound.flow.total, less carries);
+      known = each_lane arcs s.lanes x lane (Known s) lng lx
+          (λ y off ly. sound.labels.known y ly) (sound.labels.known x lx);
       messages = record {
         named = each_lane arcs s.lanes x lane (λ y l. over_messages (names y) ways ≡ out l.flight) lng lx
             (λ y off ly. omega (arith, less (names y), names_not x y (λ h. off (sym h)), sound.messages.named y ly)) none;
         belong = λ b' c'. (good b' c').belong;
         order = λ b' c'. (good b' c').order;
       };
-    }
+    })
 
 -- ---- settled, what was sent back
 
@@ -105,7 +80,6 @@ returned_kept s b c x a d told rest sound way e =
     let lanes = put_lane s.lanes x lane in
     let ways = put_way s.ways b c rest in
     let lng = long s sound.sized in
-    let at_x = sound.flights x lx (record { amount = a; label = d }) o.flight in
     let less = λ (f : Message → ℕ). messages_less n f s.ways b c m rest sq way.0 way.1 e in
     let was : over_messages (names x) s.ways ≡ 1 = sound.messages.named x lx ∙ ap out o.flight in
     let none : over_messages (names x) ways ≡ 0 = omega (arith, less (names x), names_same x, was) in
@@ -113,48 +87,20 @@ returned_kept s b c x a d told rest sound way e =
     (each_put n (IsGoodWay s.net s.blocks s.lanes s.labels) s.ways b c rest sq way.0 way.1 (good_ways s s.lanes sound (λ y h. refl))
     (good_rest s.net s.blocks s.lanes s.labels b c m rest (way_at s.ways b c) e (good_ways s s.lanes sound (λ y h. refl) b c)))
     (names_other n ways x none) in
-    let long' = long_put arcs s.lanes x lane lng in
-    record {
-      sized = record {
-        net = sound.sized.net;
-        excess = length-set s.excess v (excess_of s v + a) ∙ sound.sized.excess;
-        labels = sound.sized.labels;
-        rooms = sound.sized.rooms;
-        forth = long'.forth;
-        back = long'.back;
-        blocks = sound.sized.blocks;
-        ways = square_put n s.ways b c rest sq;
-      };
-      flow = record {
-        arcs = λ k lk. omega (arith, sound.flow.arcs k lk, less (carries_on k), arc_changed arcs s.lanes x lane 0 a k lng lx (omega arith), counted_none (eqb x.arc k));
-        total = omega (arith, sound.flow.total, less carries, sum_more s.excess v a lv);
-        got = sound.flow.got;
-        rooms = sound.flow.rooms;
-        balance = λ u lu. omega (arith, sound.flow.balance u lu, set_more s.excess v a u lv, leaving_changed s.net s.lanes x lane 0 a u lng lx (omega arith), counted_none (eqb v u));
-      };
-      labels = record {
-        top = sound.labels.top;
-        sink = sound.labels.sink;
-        steep = each_lane arcs s.lanes x lane (λ y l. 0 < l.residual → label_of s (near s.net y) ≤ cond (is_border s.net s.blocks y) l.known (label_of s (far s.net y)) + 1) lng lx
-            (λ y off ly. sound.labels.steep y ly) (λ some. rw o.border (omega (arith, at_x.2, front.1)));
-        known = each_lane arcs s.lanes x lane (λ y l. is_border s.net s.blocks y ≡ true → l.known ≤ label_of s (far s.net y)) lng lx
-            (λ y off ly. sound.labels.known y ly) (λ h. front.2);
-      };
-      flights = each_lane arcs s.lanes x lane
-          (λ y l. (f : Flight) → l.flight ≡ Some f → (is_border s.net s.blocks y ≡ true) × (label_of s (near s.net y) ≡ l.known + 1) × (label_of s (near s.net y) ≡ f.label)) lng lx
-          (λ y off ly. sound.flights y ly) (λ f h. absurd (cc));
+    fit_sound (after_settle s b c (Refused x a d told ∷ rest)) (returned_fit s b c x a d told rest (sound_fit s sound) lx o.flight front.1) (record {
+      arcs = λ k lk. omega (arith, sound.flow.arcs k lk, less (carries_on k), arc_changed arcs s.lanes x lane 0 a k lng lx (omega arith), counted_none (eqb x.arc k));
+      total = omega (arith, sound.flow.total, less carries, sum_more s.excess v a lv);
+      known = each_lane arcs s.lanes x lane (Known s) lng lx
+          (λ y off ly. sound.labels.known y ly) (λ h. front.2);
       messages = record {
         named = each_lane arcs s.lanes x lane (λ y l. over_messages (names y) ways ≡ out l.flight) lng lx
             (λ y off ly. omega (arith, less (names y), names_not x y (λ h. off (sym h)), sound.messages.named y ly)) none;
         belong = λ b' c'. (good b' c').belong;
         order = λ b' c'. (good b' c').order;
       };
-    }
+    })
 
 -- ---- sent
-
-flight_label : (d a : ℕ) (f : Flight) → Some (record { amount = a; label = d }) ≡ Some f → d ≡ f.label
-flight_label d a f h = let e : record { amount = a; label = d } ≡ f = cc in ap (λ (q : Flight). q.label) e
 
 pub sent_kept : (s : State) (x : Direction) (a : ℕ) → IsSound s → IsDirection s.net x → is_border s.net s.blocks x ≡ true
     → 1 ≤ a → a ≤ excess_of s (near s.net x) → a ≤ residual_of s x → label_of s (near s.net x) ≡ known_of s x + 1 → flight_of s x ≡ None
@@ -188,40 +134,15 @@ sent_kept s x a sound lx border some enough fits level idle =
     } in
     let good = each_put n (IsGoodWay s.net s.blocks lanes s.labels) s.ways b c (way_at s.ways b c ++ m ∷ []) sq lb lc old
     (good_more s.net s.blocks lanes s.labels b c m (way_at s.ways b c) (old b c) here (λ k h. behind_parcel s.net s.labels k x a d)) in
-    let long' = long_put arcs s.lanes x lane lng in
-    record {
-      sized = record {
-        net = sound.sized.net;
-        excess = length-set s.excess v (excess_of s v - a) ∙ sound.sized.excess;
-        labels = sound.sized.labels;
-        rooms = sound.sized.rooms;
-        forth = long'.forth;
-        back = long'.back;
-        blocks = sound.sized.blocks;
-        ways = square_put n s.ways b c (way_at s.ways b c ++ m ∷ []) sq;
-      };
-      flow = record {
-        arcs = λ k lk. omega (arith, sound.flow.arcs k lk, more (carries_on k), arc_changed arcs s.lanes x lane a 0 k lng lx (omega arith), counted_none (eqb x.arc k));
-        total = omega (arith, sound.flow.total, more carries, sum_less s.excess v a lv enough);
-        got = sound.flow.got;
-        rooms = sound.flow.rooms;
-        balance = λ u lu. omega (arith, sound.flow.balance u lu, set_less s.excess v a u lv enough, leaving_changed s.net s.lanes x lane a 0 u lng lx (omega arith), counted_none (eqb v u));
-      };
-      labels = record {
-        top = sound.labels.top;
-        sink = sound.labels.sink;
-        steep = each_lane arcs s.lanes x lane (λ y l. 0 < l.residual → label_of s (near s.net y) ≤ cond (is_border s.net s.blocks y) l.known (label_of s (far s.net y)) + 1) lng lx
-            (λ y off ly. sound.labels.steep y ly) (λ some. rw border (omega (arith, level)));
-        known = each_lane arcs s.lanes x lane (λ y l. is_border s.net s.blocks y ≡ true → l.known ≤ label_of s (far s.net y)) lng lx
-            (λ y off ly. sound.labels.known y ly) (sound.labels.known x lx);
-      };
-      flights = each_lane arcs s.lanes x lane
-          (λ y l. (f : Flight) → l.flight ≡ Some f → (is_border s.net s.blocks y ≡ true) × (label_of s (near s.net y) ≡ l.known + 1) × (label_of s (near s.net y) ≡ f.label)) lng lx
-          (λ y off ly. sound.flights y ly) (λ f h. (border, level, flight_label d a f h));
+    fit_sound (after_send s x a) (sent_fit s x a (sound_fit s sound) lx border enough fits level) (record {
+      arcs = λ k lk. omega (arith, sound.flow.arcs k lk, more (carries_on k), arc_changed arcs s.lanes x lane a 0 k lng lx (omega arith), counted_none (eqb x.arc k));
+      total = omega (arith, sound.flow.total, more carries, sum_less s.excess v a lv enough);
+      known = each_lane arcs s.lanes x lane (Known s) lng lx
+          (λ y off ly. sound.labels.known y ly) (sound.labels.known x lx);
       messages = record {
         named = each_lane arcs s.lanes x lane (λ y l. over_messages (names y) ways ≡ out l.flight) lng lx
             (λ y off ly. omega (arith, more (names y), names_not x y (λ h. off (sym h)), sound.messages.named y ly)) (omega (arith, more (names x), names_same x, none));
         belong = λ b' c'. (good b' c').belong;
         order = λ b' c'. (good b' c').order;
       };
-    }
+    })

@@ -60,7 +60,7 @@ effect_own b old s (PushInner x) t own does =
     subst (λ (u : State). IsOwn b old u) (sym does.2) (record {
       net = own.net;
       blocks = own.blocks;
-      fit = pushed_fit s x _ own.fit on.0 on.1 (omega arith) on.3 (omega arith) on.4;
+      fit = pushed_fit s x _ own.fit on.0 on.1 (omega arith) (omega arith) (omega (arith, on.4));
       log = pushed_logged b old s x _ own.fit own.log on.0 on.1 (omega arith);
     })
 effect_own b old s (PushSink v) t own does =
@@ -68,7 +68,7 @@ effect_own b old s (PushSink v) t own does =
     subst (λ (u : State). IsOwn b old u) (sym does.2) (record {
       net = own.net;
       blocks = own.blocks;
-      fit = given_fit s v _ own.fit on.0.node (omega arith) (omega arith) on.1;
+      fit = given_fit s v _ own.fit on.0.node (omega arith) (omega arith);
       log = given_logged b old s v _ own.fit own.log on.0.node (omega arith) does.0;
     })
 effect_own b old s (Relabel v) t own does =

@@ -1,51 +1,24 @@
 -- Each event keeps a state sound.
-use Rattle.std.proofs.Common.{◌≡◌, ℕ, ◌<◌, Bool, true, false, ltb, List, [], ◌∷◌, Some, None, Option, refl, sym, ◌∙◌, ap, subst, inl, inr, ◌⊎◌, arith}
+use Rattle.std.proofs.Common.{◌≡◌, ℕ, ◌<◌, List, [], ◌∷◌, refl, sym, ◌∙◌, ap, subst, arith}
 use Rattle.flow_network.specs.Cut.{nodes}
-use Rattle.block_events.specs.declared.direction.Direction.{Direction}
 use Rattle.block_events.specs.declared.message.Message.{Message}
 use Rattle.block_events.specs.declared.message.Message.TheVariants.{Parcel, Accepted, Refused}
-use Rattle.block_events.specs.States.{State, Flight, way_at, label_of, flight_of, residual_of, known_of, is_border, seen_label, IsWay}
+use Rattle.block_events.specs.States.{State, way_at, label_of, IsWay}
 use Rattle.block_events.specs.Soundness.{IsSound}
-use Rattle.std.specs.Prelude.{◌||◌}
 use Rattle.block_events.specs.declared.event.Event.{Event}
 use Rattle.block_events.specs.declared.event.Event.TheVariants.{PushInner, PushSink, Relabel, Send, Accept, Refuse, Settle, RaiseAll}
-use Rattle.block_events.specs.Events.{after_accept, after_refuse, after_settle, after_raise_all, highest_label, is_open_direction, MayAccept, MayRefuse, MaySettle, IsEnabled, effect, Happens, IsRunOfEvents}
+use Rattle.block_events.specs.Events.{after_accept, after_refuse, after_settle, after_raise_all, highest_label, MayAccept, MayRefuse, MaySettle, IsEnabled, effect, Happens, IsRunOfEvents}
 use Rattle.block_events.proofs.Replies.{accepted_kept, refused_kept}
 use Rattle.block_events.proofs.Flights.{taken_kept, returned_kept, sent_kept}
-use Rattle.block_events.proofs.Inside.{pushed_kept, given_kept, relabelled_kept, IsAllowed, highest-le-top, highest-le-one, highest-le-seen, open_residual}
+use Rattle.block_events.proofs.Inside.{pushed_kept, given_kept, relabelled_kept}
+use Rattle.block_events.proofs.Allowed.{IsAllowed}
+use Rattle.block_events.proofs.Fit.{sound_fit, fit_allowed}
 use Rattle.block_events.proofs.Raising.{raised_kept, one_exact}
 
 -- ---- the new label
 
-pub cases_flight : (f : Option Flight) → (f ≡ None) ⊎ ((g : Flight) × (f ≡ Some g))
-cases_flight None = inl refl
-cases_flight (Some g) = inr (g, refl)
-
-or_true : (t : Bool) → (t || true) ≡ true
-or_true true = refl
-or_true false = refl
-
-pub open_flight : (s : State) (x : Direction) (f : Flight) → is_border s.net s.blocks x ≡ true → flight_of s x ≡ Some f → is_open_direction s x ≡ true
-open_flight s x f border is = rw (border, is) (or_true (ltb 0 (residual_of s x)))
-
--- a direction in flight holds the label of its near end
 pub highest_allowed : (s : State) (v : ℕ) → IsSound s → v < nodes s.net → label_of s v < highest_label s v → IsAllowed s v (highest_label s v)
-highest_allowed s v sound lv rises = record {
-  node = lv;
-  rises = rises;
-  top = highest-le-top s v;
-  sink = highest-le-one s v;
-  steep = λ x lx at_v some. highest-le-seen s v x lx at_v (open_residual s x some);
-  idle = λ x lx at_v. elim (cases_flight (flight_of s x)) [
-    | inl none ↦ none
-    | inr (f, is) ↦
-        let at = sound.flights x lx f is in
-        let low = highest-le-seen s v x lx at_v (open_flight s x f at.0 is) in
-        let seen_is : seen_label s x ≡ known_of s x = rw at.0 refl in
-        let label = ap (label_of s) at_v in
-        absurd (omega (arith, low, seen_is, label, at.1, rises))
-  ];
-}
+highest_allowed s v sound lv rises = fit_allowed s v (sound_fit s sound) lv rises
 
 -- ---- each event
 

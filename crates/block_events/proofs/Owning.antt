@@ -20,7 +20,7 @@ use Rattle.std.proofs.Common.{sum_by}
 use Rattle.std.proofs.lemmas.List.Sums.{sum_by-cons, sum_by-le-sum_by, get_or-le-sum_by}
 use Rattle.block_events.proofs.Lanes.{same_itself, not_same, same_means, opposite_twice, opposite_other}
 use Rattle.block_events.proofs.Ways.{message-le-messages}
-use Rattle.block_events.proofs.Kept.{cases_flight}
+use Rattle.block_events.proofs.Allowed.{cases_flight}
 use Rattle.block_events.specs.Soundness.{amount_out}
 
 -- ---- sums over messages

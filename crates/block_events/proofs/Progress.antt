@@ -22,7 +22,7 @@ use Rattle.block_events.specs.declared.event.Event.TheVariants.{PushInner, PushS
 use Rattle.block_events.specs.Reach.{ReachesSinkIn, ReachesSink}
 use Rattle.block_events.specs.Events.{IsActive, IsQuiet, is_open_direction, allowed_label, MayAccept, MayRefuse, IsEnabled}
 use Rattle.block_events.specs.Soundness.{IsFinished}
-use Rattle.block_events.proofs.Inside.{lt-least}
+use Rattle.block_events.proofs.Allowed.{lt-least}
 use Rattle.block_events.proofs.Raising.{quiet_idle, seen-le}
 
 -- ---- a search below a bound

@@ -1,31 +1,23 @@
 -- A parcel that is taken or sent back keeps a state sound.
-use Rattle.std.proofs.Common.{◌≡◌, ℕ, ◌+◌, ◌<◌, ◌≤◌, true, cond, eqb, max, List, [], ◌∷◌, ◌++◌, length, All, Some, None, Option, refl, sym, ◌∙◌, ap, inl, inr, ◌⊎◌, arith}
+use Rattle.std.proofs.Common.{◌≡◌, ℕ, ◌+◌, ◌<◌, ◌≤◌, true, eqb, List, [], ◌∷◌, ◌++◌, length, All, Some, refl, sym, ◌∙◌, ap, inl, inr, arith}
 use Rattle.std.specs.List.{AllPairs}
-use Rattle.std.specs.Option.{is_some}
-use Rattle.std.proofs.lemmas.List.{length-set}
 use Rattle.std.proofs.lemmas.List.Quantifiers.{all_pairs_push}
-use Rattle.sums.specs.Sums.{count_if}
 use Rattle.flow_network.specs.Cut.{Network}
 use Rattle.block_events.specs.declared.direction.Direction.{Direction}
 use Rattle.block_events.specs.declared.message.Message.{Message}
 use Rattle.block_events.specs.declared.message.Message.TheVariants.{Parcel, Accepted, Refused}
 use Rattle.block_events.specs.Directions.{opposite, IsDirection, near, far}
-use Rattle.block_events.specs.States.{State, Lanes, Flight, lane_at, put_lane, way_at, put_way, put_message, over_messages, excess_of, label_of, flight_of, is_border, IsWay}
+use Rattle.block_events.specs.States.{State, Lanes, lane_at, put_lane, way_at, put_way, over_messages, label_of, flight_of, is_border, IsWay}
 use Rattle.block_events.specs.Effects.{lane_after_accept}
 use Rattle.block_events.specs.Events.{after_accept, after_refuse}
 use Rattle.block_events.specs.Soundness.{IsSound, IsSquare, Belongs, IsBehind, names, carries, carries_on, out}
-use Rattle.block_events.proofs.Lanes.{long_put, near_opposite, far_opposite, border_opposite}
-use Rattle.block_events.proofs.Ways.{EachWay, each_put, square_put, messages_more, messages_less, all_rest, all_front, all_more, pairs_rest}
-use Rattle.block_events.proofs.Local.{counted_none, set_more, sum_more, each_lane, flights_put, arc_changed, leaving_changed, belongs_kept, behind_refused, out_kept, long}
+use Rattle.block_events.proofs.Lanes.{near_opposite, far_opposite, border_opposite}
+use Rattle.block_events.proofs.Ways.{EachWay, each_put, square_put, answered, messages_more, messages_less, all_rest, all_front, all_more, pairs_rest}
+use Rattle.block_events.proofs.Local.{counted_none, sum_more, each_lane, flights_put, arc_changed, belongs_kept, behind_refused, out_kept, long}
+use Rattle.block_events.proofs.Fit.{Known, sound_fit, fit_sound, learned_at, refused_fit, accepted_fit}
 use Rattle.block_events.proofs.Ends.{far_in}
 
 -- ---- the ways after an answer took the place of the message in front
-
-abbrev pub answered : List (List (List Message)) → ℕ → ℕ → List Message → Message → List (List (List Message))
-answered ways b c rest reply = put_message (put_way ways b c rest) c b reply
-
-pub square_answered : (n : ℕ) (ways : List (List (List Message))) (b c : ℕ) (rest : List Message) (reply : Message) → IsSquare n ways → IsSquare n (answered ways b c rest reply)
-square_answered n ways b c rest reply sq = square_put n (put_way ways b c rest) c b _ (square_put n ways b c rest sq)
 
 pub messages_answered : (n : ℕ) (f : Message → ℕ) (ways : List (List (List Message))) (b c : ℕ) (m : Message) (rest : List Message) (reply : Message)
     → IsSquare n ways → b < n → c < n → way_at ways b c ≡ m ∷ rest
@@ -89,43 +81,18 @@ refused_kept s b c x a d rest sound way e high =
     (good_ways s s.lanes sound (λ y h. refl))
     (good_rest s.net s.blocks s.lanes s.labels b c m rest (way_at s.ways b c) e (good_ways s s.lanes sound (λ y h. refl) b c))
     (λ w h. good_more s.net s.blocks s.lanes s.labels c b reply w h (o, high, omega arith) (λ k h. behind_refused s.net s.labels k x a d told)) in
-    record {
-      sized = record {
-        net = sound.sized.net;
-        excess = sound.sized.excess;
-        labels = sound.sized.labels;
-        rooms = sound.sized.rooms;
-        forth = sound.sized.forth;
-        back = sound.sized.back;
-        blocks = sound.sized.blocks;
-        ways = square_answered n s.ways b c rest reply sq;
-      };
-      flow = record {
-        arcs = λ k lk. omega (arith, sound.flow.arcs k lk, messages_answered n (carries_on k) s.ways b c m rest reply sq way.0 way.1 e);
-        total = omega (arith, sound.flow.total, messages_answered n carries s.ways b c m rest reply sq way.0 way.1 e);
-        got = sound.flow.got;
-        rooms = sound.flow.rooms;
-        balance = sound.flow.balance;
-      };
-      labels = record {
-        top = sound.labels.top;
-        sink = sound.labels.sink;
-        steep = sound.labels.steep;
-        known = sound.labels.known;
-      };
-      flights = sound.flights;
+    fit_sound (after_refuse s b c (Parcel x a d ∷ rest)) (refused_fit s b c x a d rest (sound_fit s sound)) (record {
+      arcs = λ k lk. omega (arith, sound.flow.arcs k lk, messages_answered n (carries_on k) s.ways b c m rest reply sq way.0 way.1 e);
+      total = omega (arith, sound.flow.total, messages_answered n carries s.ways b c m rest reply sq way.0 way.1 e);
+      known = sound.labels.known;
       messages = record {
         named = λ y ly. omega (arith, sound.messages.named y ly, messages_answered n (names y) s.ways b c m rest reply sq way.0 way.1 e);
         belong = λ b' c'. (good b' c').belong;
         order = λ b' c'. (good b' c').order;
       };
-    }
+    })
 
 -- ---- accepted
-
-learned_at : (f : Option Flight) (k d : ℕ) → ((f ≡ None) × (cond (is_some f) k (max k d) ≡ max k d)) ⊎ ((g : Flight) × (f ≡ Some g) × (cond (is_some f) k (max k d) ≡ k))
-learned_at None k d = inl (refl, refl)
-learned_at (Some g) k d = inr (g, refl, refl)
 
 -- a parcel that waits in the way of the answer is below the label of the node that the answer goes
 -- to
@@ -175,60 +142,25 @@ accepted_kept s b c x a d rest sound way e level =
     (good_rest s.net s.blocks lanes s.labels b c m rest (way_at s.ways b c) e (good_ways s lanes sound same b c))
     (λ q h. good_more s.net s.blocks lanes s.labels c b reply q h (d, out_kept s.net s.blocks s.lanes lanes x a d b c o (same x lx))
     (λ k h. behind_accepted s lanes c b x a d k sound same lx o.flight level h)) in
-    let long' = long_put arcs s.lanes opp lane lng in
-    record {
-      sized = record {
-        net = sound.sized.net;
-        excess = length-set s.excess w (excess_of s w + a) ∙ sound.sized.excess;
-        labels = sound.sized.labels;
-        rooms = sound.sized.rooms;
-        forth = long'.forth;
-        back = long'.back;
-        blocks = sound.sized.blocks;
-        ways = square_answered n s.ways b c rest reply sq;
-      };
-      flow = record {
-        arcs = λ k lk.
-            omega (
-              arith,
-              sound.flow.arcs k lk,
-              messages_answered n (carries_on k) s.ways b c m rest reply sq way.0 way.1 e,
-              arc_changed arcs s.lanes opp lane 0 a k lng lx (omega arith),
-              counted_none (eqb x.arc k),
-            );
-        total = omega (arith, sound.flow.total, messages_answered n carries s.ways b c m rest reply sq way.0 way.1 e, sum_more s.excess w a lw);
-        got = sound.flow.got;
-        rooms = sound.flow.rooms;
-        balance = λ u lu.
-            let turn = ap (λ q. count_if (eqb q u) a) near_is in
-            omega (arith, sound.flow.balance u lu, set_more s.excess w a u lw, leaving_changed s.net s.lanes opp lane 0 a u lng lx (omega arith), counted_none (eqb (near s.net opp) u), turn);
-      };
-      labels = record {
-        top = sound.labels.top;
-        sink = sound.labels.sink;
-        steep = each_lane arcs s.lanes opp lane (λ y l. 0 < l.residual → label_of s (near s.net y) ≤ cond (is_border s.net s.blocks y) l.known (label_of s (far s.net y)) + 1) lng lx
-            (λ y off ly. sound.labels.steep y ly)
-            (λ some. rw border (elim cases [
-              | inl none ↦ omega (arith, none.1, label_near, level)
-              | inr (g, is, kept) ↦ let at = sound.flights opp lx g is in omega (arith, kept, at.1)
-            ]));
-        known = each_lane arcs s.lanes opp lane (λ y l. is_border s.net s.blocks y ≡ true → l.known ≤ label_of s (far s.net y)) lng lx
-            (λ y off ly. sound.labels.known y ly)
-            (λ b. elim cases [
-              | inl none ↦ omega (arith, none.1, label_far, at_x.2, sound.labels.known opp lx border)
-              | inr (g, is, kept) ↦ omega (arith, kept, sound.labels.known opp lx border)
-            ]);
-      };
-      flights = each_lane arcs s.lanes opp lane
-          (λ y l. (f : Flight) → l.flight ≡ Some f → (is_border s.net s.blocks y ≡ true) × (label_of s (near s.net y) ≡ l.known + 1) × (label_of s (near s.net y) ≡ f.label)) lng lx
-          (λ y off ly. sound.flights y ly)
-          (λ f h. elim cases [
-            | inl none ↦ let clash : None ≡ Some f = sym none.0 ∙ h in absurd (cc)
-            | inr (g, is, kept) ↦ let at = sound.flights opp lx f h in (at.0, omega (arith, kept, at.1), at.2)
+    fit_sound (after_accept s b c (Parcel x a d ∷ rest)) (accepted_fit s b c x a d rest (sound_fit s sound) lx o.border level) (record {
+      arcs = λ k lk.
+          omega (
+            arith,
+            sound.flow.arcs k lk,
+            messages_answered n (carries_on k) s.ways b c m rest reply sq way.0 way.1 e,
+            arc_changed arcs s.lanes opp lane 0 a k lng lx (omega arith),
+            counted_none (eqb x.arc k),
+          );
+      total = omega (arith, sound.flow.total, messages_answered n carries s.ways b c m rest reply sq way.0 way.1 e, sum_more s.excess w a lw);
+      known = each_lane arcs s.lanes opp lane (Known s) lng lx
+          (λ y off ly. sound.labels.known y ly)
+          (λ b. elim cases [
+            | inl none ↦ omega (arith, none.1, label_far, at_x.2, sound.labels.known opp lx border)
+            | inr (g, is, kept) ↦ omega (arith, kept, sound.labels.known opp lx border)
           ]);
       messages = record {
         named = λ y ly. omega (arith, sound.messages.named y ly, messages_answered n (names y) s.ways b c m rest reply sq way.0 way.1 e, ap out (same y ly));
         belong = λ b' c'. (good b' c').belong;
         order = λ b' c'. (good b' c').order;
       };
-    }
+    })

@@ -117,3 +117,11 @@ all_more P way m all here k d l =
 
 pub pairs_rest : (R : Message → Message → Type 0) (m : Message) (rest : List Message) → AllPairs R (m ∷ rest) → AllPairs R rest
 pairs_rest R m rest all i j d l h = all (suc i) (suc j) d (omega arith) (omega arith)
+
+-- ---- the ways after an answer took the place of the message in front
+
+abbrev pub answered : List (List (List Message)) → ℕ → ℕ → List Message → Message → List (List (List Message))
+answered ways b c rest reply = put_message (put_way ways b c rest) c b reply
+
+pub square_answered : (n : ℕ) (ways : List (List (List Message))) (b c : ℕ) (rest : List Message) (reply : Message) → IsSquare n ways → IsSquare n (answered ways b c rest reply)
+square_answered n ways b c rest reply sq = square_put n (put_way ways b c rest) c b _ (square_put n ways b c rest sq)

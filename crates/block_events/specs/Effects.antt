@@ -1,9 +1,10 @@
 -- What all blocks of a net hold of its nodes and directions, and what each event does to that. What
 -- an event does to the messages on the way stands beside it in Events.
-use Rattle.std.specs.Prelude.{ℕ, ◌+◌, ◌-◌, cond, max, List, length, map, slice_index, slice_set, Some, None}
+use Rattle.std.specs.Prelude.{ℕ, ◌+◌, ◌-◌, cond, max, List, length, map, slice_index, slice_set}
+use Rattle.std.specs.Prelude.{Some, None, replicate}
 use Rattle.std.specs.Option.{is_some}
 use Rattle.std.specs.List.{range_with_len}
-use Rattle.flow_network.specs.Cut.{Network}
+use Rattle.flow_network.specs.Cut.{Network, nodes}
 use Rattle.block_events.specs.declared.direction.Direction.{Direction}
 use Rattle.block_events.specs.declared.message.Message.{Message}
 use Rattle.block_events.specs.Directions.{near, far, opposite, forward, backward}
@@ -39,6 +40,21 @@ view_of s = record {
   labels = s.labels;
   rooms = s.rooms;
   lanes = s.lanes;
+}
+
+-- before any event: each node has what its source sends it, each label is 0, and each arc can carry
+-- its capacity from tail to head
+abbrev pub opening_blocks : Network → ℕ → BlocksView
+opening_blocks net blocks = record {
+  net = net;
+  blocks = blocks;
+  excess = net.sources;
+  labels = replicate (nodes net) 0;
+  rooms = net.sinks;
+  lanes = record {
+    forth = map (λ arc. record { residual = arc.capacity; known = 0; flight = None }) net.arcs;
+    back = map (λ arc. record { residual = 0; known = 0; flight = None }) net.arcs;
+  };
 }
 
 -- ---- what each event does

@@ -1,5 +1,6 @@
 -- The laws of the core, over the definitions alone.
-use Rattle.std.specs.Prelude.{◌≡◌, ◌≢◌, ℕ, ◌+◌, ◌*◌, ◌<◌, ◌≤◌, ◌⊎◌, Bool, List, ◌∷◌, length, sum, Some}
+use Rattle.std.specs.Prelude.{◌≡◌, ◌≢◌, ℕ, ◌+◌, ◌*◌, ◌<◌, ◌≤◌, ◌⊎◌, Bool, List, ◌∷◌, length, sum}
+use Rattle.std.specs.Prelude.{Some}
 use Rattle.flow_network.specs.Cut.{Network, nodes, IsNet, capacity_of, IsSmallestLeastCut}
 use Rattle.flow_network.specs.Progress.{top}
 use Rattle.block_events.specs.declared.event.Event.{Event}
@@ -13,7 +14,8 @@ use Rattle.block_events.specs.States.{State, way_at, label_of, excess_of, residu
 use Rattle.block_events.specs.Reach.{IsReachOf}
 use Rattle.block_events.specs.Flows.{shown_flow}
 use Rattle.block_events.specs.Events.{IsQuiet, IsEnabled, Happens, IsRunOfEvents, steps}
-use Rattle.block_events.specs.Soundness.{IsSound, IsFinished, opening_state, borders, unit, potential, room_between, amount_out, carries}
+use Rattle.block_events.specs.Soundness.{IsSound, IsFinished, opening_state, borders, unit}
+use Rattle.block_events.specs.Soundness.{potential, room_between, amount_out, carries}
 
 -- an event leads to one state
 abbrev pub HasOneEffect : Type 0

@@ -1,5 +1,6 @@
 -- Paths of residual directions to the sink (Goldberg, Tarjan 1988, section 2), in a state.
-use Rattle.std.specs.Prelude.{◌≡◌, ℕ, zero, suc, ◌<◌, ◌≤◌, ◌⊎◌, Bool, true, List, length, slice_index}
+use Rattle.std.specs.Prelude.{◌≡◌, ℕ, zero, suc, ◌<◌, ◌≤◌, ◌⊎◌, Bool, true, List, length}
+use Rattle.std.specs.Prelude.{slice_index}
 use Rattle.flow_network.specs.Cut.{nodes}
 use Rattle.flow_network.specs.Progress.{top}
 use Rattle.block_events.specs.declared.direction.Direction.{Direction}

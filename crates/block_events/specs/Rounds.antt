@@ -5,7 +5,8 @@ use Rattle.flow_network.specs.Cut.{nodes}
 use Rattle.block_events.specs.declared.direction.Direction.{Direction}
 use Rattle.block_events.specs.declared.event.Event.{Event}
 use Rattle.block_events.specs.Directions.{IsDirection}
-use Rattle.block_events.specs.States.{State, lane_at, way_at, excess_of, label_of, room_of, block_of, near_block}
+use Rattle.block_events.specs.States.{State, lane_at, way_at, excess_of, label_of, room_of}
+use Rattle.block_events.specs.States.{block_of, near_block}
 use Rattle.block_events.specs.Soundness.{IsSquare}
 use Rattle.block_events.specs.Workers.{IsHistory, MayStart}
 

@@ -1,5 +1,7 @@
 -- What every reachable state keeps.
-use Rattle.std.specs.Prelude.{◌≡◌, ℕ, ◌+◌, ◌*◌, ◌-◌, ◌<◌, ◌≤◌, true, cond, ◌==◌, ◌&&◌, ◌||◌, Bool, List, [], length, slice_index, slice_index_or, sum, Option, Some, None, All, map, replicate}
+use Rattle.std.specs.Prelude.{◌≡◌, ℕ, ◌+◌, ◌*◌, ◌-◌, ◌<◌, ◌≤◌, true, cond, ◌==◌, ◌&&◌, ◌||◌, Bool}
+use Rattle.std.specs.Prelude.{List, [], length, slice_index, slice_index_or, sum, Option, Some}
+use Rattle.std.specs.Prelude.{None, All, replicate}
 use Rattle.std.specs.List.{AllPairs}
 use Rattle.sums.specs.Sums.{sum_below, count_if}
 use Rattle.flow_network.specs.Cut.{Network, nodes, IsNet}
@@ -8,8 +10,12 @@ use Rattle.flow_network.specs.Progress.{top}
 use Rattle.block_events.specs.declared.direction.Direction.{Direction}
 use Rattle.block_events.specs.declared.message.Message.{Message}
 use Rattle.block_events.specs.declared.message.Message.TheVariants.{Parcel, Accepted, Refused}
-use Rattle.block_events.specs.Directions.{IsDirection, near, far, opposite, forward, backward, is_same, sum_leaving, over_directions}
-use Rattle.block_events.specs.States.{State, Lanes, Flight, lane_at, way_at, over_messages, excess_of, label_of, room_of, residual_of, known_of, flight_of, near_block, far_block, is_border, seen_label}
+use Rattle.block_events.specs.Directions.{IsDirection, near, far, opposite, forward, backward}
+use Rattle.block_events.specs.Directions.{is_same, sum_leaving, over_directions}
+use Rattle.block_events.specs.States.{State, Lanes, Flight, lane_at, way_at, over_messages}
+use Rattle.block_events.specs.States.{excess_of, label_of, room_of, residual_of, known_of}
+use Rattle.block_events.specs.States.{flight_of, near_block, far_block, is_border, seen_label}
+use Rattle.block_events.specs.Effects.{state_of, opening_blocks}
 use Rattle.block_events.specs.Events.{IsQuiet}
 use Rattle.block_events.specs.Reach.{ReachesSink}
 
@@ -150,19 +156,8 @@ pub record IsFinished (s : State) : Type 0 where
 -- ---- the opening
 
 abbrev pub opening_state : Network → ℕ → State
-opening_state net blocks = record {
-  net = net;
-  blocks = blocks;
-  excess = net.sources;
-  labels = replicate (nodes net) 0;
-  rooms = net.sinks;
-  lanes = record {
-    forth = map (λ arc. record { residual = arc.capacity; known = 0; flight = None }) net.arcs;
-    back = map (λ arc. record { residual = 0; known = 0; flight = None }) net.arcs;
-  };
-  ways = replicate blocks (replicate blocks []);
-  got = 0;
-}
+opening_state net blocks =
+    state_of (opening_blocks net blocks) (replicate blocks (replicate blocks [])) 0
 
 -- ---- the count
 

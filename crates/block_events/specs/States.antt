@@ -1,5 +1,6 @@
 -- A state of the core: a net in blocks, and the messages between them.
-use Rattle.std.specs.Prelude.{ℕ, ◌*◌, ◌/◌, ◌<◌, Bool, not, cond, ◌==◌, List, [], ◌∷◌, ◌++◌, slice_index, slice_index_or, slice_set, sum_by, Option, None}
+use Rattle.std.specs.Prelude.{ℕ, ◌*◌, ◌/◌, ◌<◌, Bool, not, cond, ◌==◌, List, [], ◌∷◌, ◌++◌}
+use Rattle.std.specs.Prelude.{slice_index, slice_index_or, slice_set, sum_by, Option, None}
 use Rattle.flow_network.specs.Cut.{Network, nodes}
 pub use Rattle.block_events.specs.declared.flight.Flight.{Flight}
 pub use Rattle.block_events.specs.declared.lane.Lane.{Lane}

@@ -11,10 +11,13 @@ use Rattle.block_events.specs.declared.direction.Direction.{Direction}
 use Rattle.block_events.specs.declared.message.Message.{Message}
 use Rattle.block_events.specs.declared.message.Message.TheVariants.{Parcel, Accepted, Refused}
 use Rattle.block_events.specs.declared.event.Event.{Event}
-use Rattle.block_events.specs.declared.event.Event.TheVariants.{PushInner, PushSink, Relabel, Send, Accept, Refuse, Settle, RaiseAll}
+use Rattle.block_events.specs.declared.event.Event.TheVariants.{PushInner, PushSink, Relabel, Send}
+use Rattle.block_events.specs.declared.event.Event.TheVariants.{Accept, Refuse, Settle, RaiseAll}
 use Rattle.block_events.specs.Directions.{IsDirection, opposite}
-use Rattle.block_events.specs.States.{State, way_at, residual_of, flight_of, block_of, near_block, far_block, is_border}
-use Rattle.block_events.specs.Events.{IsEnabled, MayAccept, MayRefuse, effect, after_accept, after_refuse, after_settle}
+use Rattle.block_events.specs.States.{State, way_at, residual_of, flight_of, block_of, near_block}
+use Rattle.block_events.specs.States.{far_block, is_border}
+use Rattle.block_events.specs.Events.{IsEnabled, MayAccept, MayRefuse, effect, after_accept}
+use Rattle.block_events.specs.Events.{after_refuse, after_settle}
 use Rattle.block_events.specs.Soundness.{amount_out}
 
 -- ---- messages

@@ -1,3 +1,5 @@
+//! The directions of an arc.
+
 /// One of the two directions of an arc: from its tail to its head, or back.
 #[derive(Clone, Copy, PartialEq, Eq, Debug)]
 pub struct Direction {

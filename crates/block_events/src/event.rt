@@ -1,3 +1,5 @@
+//! The steps of the method.
+
 use crate::direction::Direction;
 
 /// One step of the method. A node is named by its number in the net, a way by the block that puts

@@ -1,3 +1,5 @@
+//! Parcels that are out.
+
 /// The parcel that is out on a border direction: sent, and its answer not yet taken.
 #[derive(Clone, Copy, PartialEq, Eq, Debug)]
 pub struct Flight {

@@ -1,3 +1,5 @@
+//! What a block holds of a direction.
+
 use crate::flight::Flight;
 
 /// What the block of a direction's near end holds of the direction.

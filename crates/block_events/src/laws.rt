@@ -1,6 +1,9 @@
 //! Laws of the events. These functions do nothing: the contract of each is a law.
 
-ghost use Rattle.block_events.specs.Laws.{HasOneEffect, EventKeeps, EventLowers, RaiseNeverRaises, OpeningIsSound, OpeningCount, EveryList, GoesOn, FinishedIsSmallest, FinishedIsCertified, WayFits, AcceptFits, SettleFits, ExcessFits, SinkGotAtMostEachCut};
+ghost use Rattle.block_events.specs.Laws.{HasOneEffect, EventKeeps, EventLowers, RaiseNeverRaises};
+ghost use Rattle.block_events.specs.Laws.{OpeningIsSound, OpeningCount, EveryList, GoesOn};
+ghost use Rattle.block_events.specs.Laws.{FinishedIsSmallest, FinishedIsCertified, WayFits};
+ghost use Rattle.block_events.specs.Laws.{AcceptFits, SettleFits, ExcessFits, SinkGotAtMostEachCut};
 
 /// An event that happens in a state leads to one state.
 pub fn has_one_effect()

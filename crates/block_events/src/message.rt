@@ -1,3 +1,5 @@
+//! What one block tells another.
+
 use crate::direction::Direction;
 
 /// What one block tells another about a border direction. A parcel goes along its direction, an

@@ -1,6 +1,7 @@
 //! Laws of rounds. These functions do nothing: the contract of each is a law.
 
-ghost use Rattle.block_events.specs.RoundLaws.{RoundKeeps, HistoryGoesOn, HistoryRuns, OwnTermsHold, QuietIsEmpty, HistoriesGather};
+ghost use Rattle.block_events.specs.RoundLaws.{RoundKeeps, HistoryGoesOn, HistoryRuns};
+ghost use Rattle.block_events.specs.RoundLaws.{OwnTermsHold, QuietIsEmpty, HistoriesGather};
 
 /// A round that began in a sound state with no message on the way ends in a sound state: each block
 /// did events of its own, enabled by what it then held, and what one block put for another is what

@@ -4,3 +4,5 @@ pub mod Whole
 pub mod Split
 pub mod Circles
 pub mod Standing
+pub mod CellsInside
+pub mod Slots

@@ -1,5 +1,7 @@
 -- How a net is split into blocks.
-use Rattle.std.specs.Prelude.{◌≡◌, ℕ, ◌+◌, ◌-◌, ◌*◌, ◌/◌, ◌<◌, ◌≤◌, Bool, true, false, not, cond, nat_lt, List, [], drop, length, map, replicate, slice_index, slice_index_or, slice_range, ◌==◌, None}
+use Rattle.std.specs.Prelude.{◌≡◌, ℕ, ◌+◌, ◌-◌, ◌*◌, ◌/◌, ◌<◌, ◌≤◌, Bool, true, false, not, cond}
+use Rattle.std.specs.Prelude.{nat_lt, List, [], drop, length, map, replicate, slice_index}
+use Rattle.std.specs.Prelude.{slice_index_or, slice_range, ◌==◌, None}
 use Rattle.std.specs.List.{position_or_len}
 use Rattle.flow_network.specs.Cut.{Network, nodes}
 use Rattle.flow_network.specs.Preflow.{arc_at}

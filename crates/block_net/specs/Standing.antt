@@ -1,5 +1,6 @@
 -- Nodes that stand in buckets, each in one row.
-use Rattle.std.specs.Prelude.{◌≡◌, ℕ, ◌+◌, ◌-◌, ◌^◌, ◌<◌, ◌≤◌, min, List, length, replicate, slice_index, slice_index_or, slice_set}
+use Rattle.std.specs.Prelude.{◌≡◌, ℕ, ◌+◌, ◌-◌, ◌^◌, ◌<◌, ◌≤◌, min, List, length, replicate}
+use Rattle.std.specs.Prelude.{slice_index, slice_index_or, slice_set}
 use Rattle.block_net.specs.Circles.{AreCircles}
 
 -- how many buckets there are, and the row of each node: that of its bucket, after those the row of

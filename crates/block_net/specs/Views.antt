@@ -1,5 +1,7 @@
 -- A block as plain lists, and what its lists keep.
-use Rattle.std.specs.Prelude.{◌≡◌, ℕ, zero, suc, ◌+◌, ◌-◌, ◌^◌, ◌<◌, ◌≤◌, ◌||◌, false, cond, nat_lt, min, max, List, length, slice_index, slice_index_or, slice_set, Option, Some, None, All, sum, sum_by}
+use Rattle.std.specs.Prelude.{◌≡◌, ℕ, zero, suc, ◌+◌, ◌-◌, ◌^◌, ◌<◌, ◌≤◌, ◌||◌, false, cond, nat_lt}
+use Rattle.std.specs.Prelude.{min, max, List, length, slice_index, slice_index_or, slice_set}
+use Rattle.std.specs.Prelude.{Option, Some, None, All, sum, sum_by}
 use Rattle.std.specs.Option.{is_some}
 use Rattle.flow_network.specs.Limits.{node_limit}
 use Rattle.flow_network.specs.Progress.{top_label}

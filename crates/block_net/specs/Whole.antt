@@ -1,5 +1,6 @@
 -- What a whole of blocks shows: a state.
-use Rattle.std.specs.Prelude.{◌≡◌, ℕ, ◌+◌, ◌-◌, ◌*◌, ◌<◌, ◌≤◌, Bool, false, true, cond, List, [], length, map, slice_index, slice_index_or, slice_set, None}
+use Rattle.std.specs.Prelude.{◌≡◌, ℕ, ◌+◌, ◌-◌, ◌*◌, ◌<◌, ◌≤◌, Bool, false, true, cond, List, []}
+use Rattle.std.specs.Prelude.{length, map, slice_index, slice_index_or, slice_set, None}
 use Rattle.std.specs.List.{range_with_len}
 use Rattle.flow_network.specs.Cut.{Network, nodes}
 use Rattle.flow_network.specs.Preflow.{arc_at}
@@ -12,7 +13,8 @@ use Rattle.block_events.specs.States as core
 use Rattle.block_net.specs.declared.parts.Parts.{Parts}
 use Rattle.block_net.specs.declared.lanes.InnerLane.{InnerLane}
 use Rattle.block_net.specs.declared.lanes.Border.{Border}
-use Rattle.block_net.specs.Views.{CellsView, count, excess_in, label_in, room_in, lane_in, border_in, first_lane, first_border}
+use Rattle.block_net.specs.Views.{CellsView, count, excess_in, label_in, room_in, lane_in}
+use Rattle.block_net.specs.Views.{border_in, first_lane, first_border}
 
 -- a net in blocks: the net, the first node of each block, the place of each direction in its block
 -- ("slot"), the blocks, the messages on the way, and what the sink got

@@ -1,5 +1,9 @@
-ghost use Rattle.std.specs.Prelude.{◌≡◌, ◌↔◌, IsTrue, IsFalse, ◌+◌, ◌-◌, ◌^◌, ◌<◌, ◌≤◌, IfOk, MatchOption, length, replicate};
-ghost use Rattle.block_net.specs.Standing.{BucketsView, row_count, row_in, aside, nowhere, bucket_of, with_node_in_row, without_nodes, IsEmpty, IsHighest, AreBucketsEmpty, IsRestored};
+//! Nodes in buckets, the highest first, and nodes that are set aside.
+ghost use Rattle.std.specs.Prelude.{◌≡◌, ◌↔◌, IsTrue, IsFalse, ◌+◌, ◌-◌, ◌^◌, ◌<◌, ◌≤◌, IfOk};
+ghost use Rattle.std.specs.Prelude.{MatchOption, length, replicate};
+ghost use Rattle.block_net.specs.Standing.{BucketsView, row_count, row_in, aside, nowhere};
+ghost use Rattle.block_net.specs.Standing.{bucket_of, with_node_in_row, without_nodes, IsEmpty};
+ghost use Rattle.block_net.specs.Standing.{IsHighest, AreBucketsEmpty, IsRestored};
 
 use crate::circles::{alone, part, relink, unlink};
 use std::alloc::{AllocError, Global};

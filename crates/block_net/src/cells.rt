@@ -1,10 +1,17 @@
-ghost use Rattle.std.specs.Prelude.{◌≡◌, ◌≢◌, ◌↔◌, IsTrue, ◌+◌, ◌^◌, ◌<◌, ◌≤◌, min, All, IfOk, None, length};
+//! A block of a net: its nodes and the directions that leave them.
+ghost use Rattle.std.specs.Prelude.{◌≡◌, ◌≢◌, ◌↔◌, IsTrue, ◌+◌, ◌^◌, ◌<◌, ◌≤◌, min, All, IfOk};
+ghost use Rattle.std.specs.Prelude.{None, length};
 ghost use Rattle.flow_network.specs.Limits.{node_limit};
 ghost use Rattle.flow_network.specs.Progress.{top_label};
 ghost use Rattle.block_events.specs.declared.message.Message.TheVariants.{Accepted, Refused};
 ghost use Rattle.block_events.specs.Directions.{opposite};
 ghost use Rattle.block_net.specs.Split.{CanSplit, starts_made, rows_made, block_rows, block_made};
-ghost use Rattle.block_net.specs.Views.{CellsView, count, excess_in, label_in, room_in, lane_in, border_in, first_lane, first_border, out_of, MayPush, MaySend, cells_after_push, cells_after_sink_push, cells_after_relabel, cells_after_send, cells_after_accept, cells_after_settle, cells_after_return, cells_with_known, parcel_of, lane_allows, border_allows, highest};
+ghost use Rattle.block_net.specs.Views.{CellsView, count, excess_in, label_in, room_in, lane_in};
+ghost use Rattle.block_net.specs.Views.{border_in, first_lane, first_border, out_of, MayPush};
+ghost use Rattle.block_net.specs.Views.{MaySend, cells_after_push, cells_after_sink_push};
+ghost use Rattle.block_net.specs.Views.{cells_after_relabel, cells_after_send, cells_after_accept};
+ghost use Rattle.block_net.specs.Views.{cells_after_settle, cells_after_return, cells_with_known};
+ghost use Rattle.block_net.specs.Views.{parcel_of, lane_allows, border_allows, highest};
 
 use crate::buckets::Buckets;
 use crate::by_node::outer_starts;
@@ -39,27 +46,11 @@ impl Model for Cells {
 
     ghost Value = { CellsView };
 
-    ghost view = { λ c. record {
-      top = c.top;
-      excess = c.excess.items;
-      labels = c.labels.items;
-      rooms = c.rooms.items;
-      starts = c.starts.items;
-      lanes = c.lanes.items;
-      border_starts = c.border_starts.items;
-      borders = c.borders.items;
-    } };
+    ghost use Rattle.block_net.specs.CellsInside.{cells_view};
 
-    ghost invariant = { λ c. IsBlock (record {
-      top = c.top;
-      excess = c.excess.items;
-      labels = c.labels.items;
-      rooms = c.rooms.items;
-      starts = c.starts.items;
-      lanes = c.lanes.items;
-      border_starts = c.border_starts.items;
-      borders = c.borders.items;
-    }) };
+    ghost view = { cells_view };
+
+    ghost invariant = { λ c. IsBlock (cells_view c) };
 }
 
 impl Cells {

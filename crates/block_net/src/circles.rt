@@ -1,5 +1,7 @@
-ghost use Rattle.std.specs.Prelude.{◌≡◌, ◌≢◌, ◌<◌, ◌^◌, IfOk, length, slice_index};
-ghost use Rattle.block_net.specs.Circles.{AreCircles, AreAlone, without_link, with_link, after_left};
+//! Circles of places, linked both ways in two lists.
+ghost use Rattle.std.specs.Prelude.{◌≡◌, ◌<◌, ◌^◌, IfOk, length, slice_index};
+ghost use Rattle.block_net.specs.Circles.{AreCircles, AreAlone, without_link, with_link};
+ghost use Rattle.block_net.specs.Circles.{after_left};
 
 use std::alloc::{AllocError, Global};
 

@@ -1,3 +1,4 @@
+//! A direction to another block in 48 bytes.
 ghost use Rattle.std.specs.Prelude.{◌≡◌, ◌<◌, ◌^◌};
 ghost use Rattle.block_net.specs.Limits.{block_limit};
 

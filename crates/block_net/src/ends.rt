@@ -1,3 +1,4 @@
+//! The ends of directions, and the first nodes of blocks.
 ghost use Rattle.std.specs.Prelude.{◌≡◌, ◌+◌, ◌*◌, ◌<◌, ◌≤◌, length};
 ghost use Rattle.flow_network.specs.Limits.{node_limit};
 ghost use Rattle.flow_network.specs.Cut.{nodes, IsNet};

@@ -1,3 +1,4 @@
+//! Each direction of a net, put into the block of the node that it leaves.
 ghost use Rattle.std.specs.Prelude.{◌≡◌, ◌+◌, ◌-◌, ◌<◌, ◌≤◌, IfOk, length, slice_index, slice_set};
 ghost use Rattle.flow_network.specs.Cut.{nodes, IsNet};
 ghost use Rattle.block_events.specs.Directions.{IsDirection, near, far};
@@ -5,7 +6,9 @@ ghost use Rattle.block_events.specs.States.{block_of};
 ghost use Rattle.block_events.specs.Soundness.{first_residual};
 ghost use Rattle.block_net.specs.Limits.{arc_limit, block_limit};
 ghost use Rattle.block_net.specs.Whole.{table};
-ghost use Rattle.block_net.specs.Split.{CanSplit, homes_made, firsts_made, rows_made, ranks_made, starts_made, lane_by, border_by, all_rows, blank_rows, AreHeld, AreWritten};
+ghost use Rattle.block_net.specs.Split.{CanSplit, homes_made, firsts_made, rows_made, ranks_made};
+ghost use Rattle.block_net.specs.Split.{starts_made, lane_by, border_by, all_rows, blank_rows};
+ghost use Rattle.block_net.specs.Slots.{AreNumbersMade, HasSlotsWritten, HasListsHeld, split_rows};
 
 use crate::by_node::directions_by_node;
 use crate::ends::{far, near};
@@ -117,32 +120,37 @@ fn put_border(
     );
 }
 
-/// Both directions of an arc stand at their slots, which take the place of their ranks.
-fn put_arc(
-    net: &Net,
+/// A net that is split into so many blocks, and the numbers by which its directions find their
+/// slots.
+#[derive(Clone, Copy)]
+struct NetInBlocks<'a> {
+    net: &'a Net,
     blocks: usize,
-    homes: &[u8],
-    firsts: &[usize],
-    starts: &[u32],
-    arc: usize,
-    slots: &mut [u32],
-    lists: &mut [Leaving],
-)
-    requires net { IsNet net.now }
-    requires split { CanSplit net.now blocks }
-    requires homes { homes.now ≡ homes_made net.now blocks }
-    requires firsts { firsts.now ≡ firsts_made net.now blocks }
-    requires starts { starts.now ≡ starts_made net.now blocks }
-    requires arc { arc < length net.now.arcs }
-    requires slots { AreWritten net.now (rows_made net.now blocks).slots
-        (ranks_made net.now blocks) arc slots.old }
-    requires lists { AreHeld net.now blocks (rows_made net.now blocks)
-        (λ x. x.arc < arc) lists.old }
-    ensures slots { AreWritten net.now (rows_made net.now blocks).slots (ranks_made net.now blocks)
-        (arc + 1) slots.new }
-    ensures lists { AreHeld net.now blocks (rows_made net.now blocks)
-        (λ x. x.arc < arc + 1) lists.new }
+    /// The block of each node.
+    homes: &'a [u8],
+    /// The first node of each block.
+    firsts: &'a [usize],
+    /// Where the directions of each node begin: those within blocks, and after them those to
+    /// others.
+    starts: &'a [u32],
+}
+
+/// Both directions of an arc stand at their slots, which take the place of their ranks.
+fn put_arc(split: &NetInBlocks, arc: usize, slots: &mut [u32], lists: &mut [Leaving])
+    requires split { AreNumbersMade split.now }
+    requires arc { arc < length split.now.net.now.arcs }
+    requires slots { HasSlotsWritten split.now arc slots.old }
+    requires lists { HasListsHeld split.now arc lists.old }
+    ensures slots { HasSlotsWritten split.now (arc + 1) slots.new }
+    ensures lists { HasListsHeld split.now (arc + 1) lists.new }
 {
+    let NetInBlocks {
+        net,
+        blocks,
+        homes,
+        firsts,
+        starts,
+    } = *split;
     let forth = Direction { arc, back: false };
     let back = Direction { arc, back: true };
     let arcs = net.arcs().len();
@@ -174,28 +182,17 @@ fn put_arc(
 }
 
 /// The directions of all blocks stand at their slots, which take the place of the ranks.
-pub(crate) fn put_arcs(
-    net: &Net,
-    blocks: usize,
-    homes: &[u8],
-    firsts: &[usize],
-    starts: &[u32],
-    slots: &mut [u32],
-    lists: &mut [Leaving],
-)
-    requires net { IsNet net.now }
-    requires split { CanSplit net.now blocks }
-    requires homes { homes.now ≡ homes_made net.now blocks }
-    requires firsts { firsts.now ≡ firsts_made net.now blocks }
-    requires starts { starts.now ≡ starts_made net.now blocks }
-    requires slots { slots.old ≡ ranks_made net.now blocks }
-    requires lists { lists.old
-        ≡ table blocks (blank_rows net.now blocks (rows_made net.now blocks)) }
-    ensures slots { slots.new ≡ (rows_made net.now blocks).slots }
-    ensures lists { lists.new ≡ all_rows net.now blocks (rows_made net.now blocks) }
+fn put_arcs(split: &NetInBlocks, slots: &mut [u32], lists: &mut [Leaving])
+    requires split { AreNumbersMade split.now }
+    requires slots { slots.old ≡ ranks_made split.now.net.now split.now.blocks }
+    requires lists { lists.old ≡ table split.now.blocks
+        (blank_rows split.now.net.now split.now.blocks (split_rows split.now)) }
+    ensures slots { slots.new ≡ (split_rows split.now).slots }
+    ensures lists { lists.new
+        ≡ all_rows split.now.net.now split.now.blocks (split_rows split.now) }
 {
-    for arc in 0..net.arcs().len() {
-        put_arc(net, blocks, homes, firsts, starts, arc, slots, lists);
+    for arc in 0..split.net.arcs().len() {
+        put_arc(split, arc, slots, lists);
     }
 }
 
@@ -231,15 +228,14 @@ pub(crate) fn fill_blocks(
     let Ranked { starts, ranks } = directions_by_node(alloc, net, blocks, homes.as_slice())?;
     let mut slots = ranks;
     let mut lists = blanks(alloc, net, blocks, starts.as_slice())?;
-    put_arcs(
+    let split = NetInBlocks {
         net,
         blocks,
-        homes.as_slice(),
+        homes: homes.as_slice(),
         firsts,
-        starts.as_slice(),
-        slots.as_mut_slice(),
-        lists.as_mut_slice(),
-    );
+        starts: starts.as_slice(),
+    };
+    put_arcs(&split, slots.as_mut_slice(), lists.as_mut_slice());
     Ok(Filling {
         starts,
         slots,

@@ -1,3 +1,4 @@
+//! Room for the directions that leave the nodes of a block.
 ghost use Rattle.std.specs.Prelude.{◌≡◌, ◌<◌, ◌^◌, IfOk, length, replicate, slice_set};
 ghost use Rattle.block_net.specs.Limits.{block_limit};
 ghost use Rattle.block_net.specs.Views.{no_row, no_border};

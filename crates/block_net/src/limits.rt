@@ -1,3 +1,5 @@
+//! The greatest sizes of a net in blocks.
+
 /// The most blocks that a net is split into, more than there are processors to work on them.
 pub const BLOCK_LIMIT: usize = 256;
 

@@ -1,6 +1,6 @@
+//! Room for the directions of each block.
 ghost use Rattle.std.specs.Prelude.{◌≡◌, ◌+◌, ◌<◌, ◌≤◌, ℕ, IfOk, length, slice_index};
 ghost use Rattle.flow_network.specs.Limits.{node_limit};
-ghost use Rattle.flow_network.specs.Cut.{IsNet};
 ghost use Rattle.block_net.specs.Whole.{table};
 ghost use Rattle.block_net.specs.Split.{CanSplit, starts_from, starts_made, rows_made, blank_rows};
 

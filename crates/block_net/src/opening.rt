@@ -1,3 +1,4 @@
+//! The nodes of a block at the opening.
 ghost use Rattle.std.specs.Prelude.{◌≡◌, ◌-◌, ◌≤◌, IfOk, length, replicate, slice_range};
 ghost use Rattle.flow_network.specs.Cut.{nodes};
 

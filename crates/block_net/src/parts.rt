@@ -1,6 +1,8 @@
-ghost use Rattle.std.specs.Prelude.{◌≡◌, ◌≤◌, IfOk};
+//! A net split into blocks.
+ghost use Rattle.std.specs.Prelude.{◌≡◌, IfOk};
 ghost use Rattle.flow_network.specs.Cut.{IsNet};
-ghost use Rattle.block_net.specs.Split.{CanSplit, IsSplit, blocks_made, firsts_made, starts_made, rows_made, all_rows};
+ghost use Rattle.block_net.specs.Split.{CanSplit, IsSplit, blocks_made, firsts_made, starts_made};
+ghost use Rattle.block_net.specs.Split.{rows_made, all_rows};
 
 use crate::cells::Cells;
 use crate::ends::first_of;

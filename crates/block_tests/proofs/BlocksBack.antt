@@ -10,7 +10,7 @@ use Rattle.block_events.proofs.Opening.{opened_sound}
 use Rattle.discharge.specs.Views.{count, first_lane, first_border}
 use Rattle.parcel.specs.Whole.{block_at, block_with, home, place, near_home, slot, is_outer, IsInnerAt, IsBorderAt, StandsAt, LiesAt, IsPlaced, IsFilled, with_blocks}
 use Rattle.parcel.specs.Views.{IsLaid}
-use Rattle.discharge.specs.Steps.{TurnView, Rise, Send, DoesMany}
+use Rattle.discharge.specs.Steps.{TurnView, Relabel, Send, DoesMany}
 use Rattle.block_cut.specs.Rounds.{fresh}
 use Rattle.block_tests.specs.Seats.{whole_before, blocks_after, left_on_the_way, BlocksComeBack}
 
@@ -115,7 +115,7 @@ came b = record { block = block_at (with_blocks whole_before blocks_after) b; se
 
 does0 : DoesMany (fresh (block_at whole_before 0)) 2 (came 0)
 does0 = (
-  Rise 0 ∷ Send 0 0 ∷ [],
+  Relabel 0 ∷ Send 0 0 ∷ [],
   (
     (record { node = omega arith; excess = omega arith; below = omega arith }, omega arith),
     (
@@ -132,7 +132,7 @@ does0 = (
 
 does1 : DoesMany (fresh (block_at whole_before 1)) 1 (came 1)
 does1 = (
-  Rise 0 ∷ [],
+  Relabel 0 ∷ [],
   ((record { node = omega arith; excess = omega arith; below = omega arith }, omega arith), refl),
   refl,
 )

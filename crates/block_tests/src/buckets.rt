@@ -1,3 +1,4 @@
+//! Nodes in buckets and set aside.
 ghost use Rattle.std.specs.Prelude.{◌≡◌, IfOk};
 ghost use Rattle.discharge.specs.Views.{count};
 ghost use Rattle.block_net.specs.Standing.{row_count};

@@ -1,3 +1,5 @@
+//! Cuts by orders of nodes, against values from every cut.
+
 use crate::building::{Row, core_of, net_of};
 use crate::rows::expect_tried;
 use flow_network::{Net, Solved, check_cut};

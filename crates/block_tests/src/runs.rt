@@ -1,3 +1,5 @@
+//! Runs of events, and what each counts for.
+
 use crate::building::{core_of, net_of};
 use crate::rows::expect;
 use discharge::finish;

@@ -1,3 +1,5 @@
+//! Nets split into blocks.
+
 use crate::building::net_of;
 use crate::rows::expect;
 use block_net::{ARC_LIMIT, BLOCK_LIMIT, Parts};

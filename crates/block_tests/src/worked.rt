@@ -2,12 +2,14 @@
 //! two blocks, joined by an arc of capacity 4. These functions do nothing: the contract of each
 //! says what comes out, and so shows that the definitions mean what a calculation by hand gives.
 
-ghost use Rattle.std.specs.Prelude.{◌≡◌, ℕ, List, [], ◌∷◌};
+ghost use Rattle.std.specs.Prelude.{◌≡◌, [], ◌∷◌};
 ghost use Rattle.parcel.specs.Directions.{forward};
 ghost use Rattle.parcel.specs.States.{known_of};
 ghost use Rattle.parcel.specs.Soundness.{opening_state};
 ghost use Rattle.parcel.specs.Rounds.{RoundOf};
-ghost use Rattle.block_tests.specs.Runs.{counts, after_events, AllEnabled, one_source_net, two_source_net, two_blocks_run, refused_parcel_run, sent_again_run};
+ghost use Rattle.block_tests.specs.Runs.{counts, after_events, AllEnabled, one_source_net};
+ghost use Rattle.block_tests.specs.Runs.{two_source_net, two_blocks_run, refused_parcel_run};
+ghost use Rattle.block_tests.specs.Runs.{sent_again_run};
 ghost use Rattle.block_tests.specs.Rounds.{opened_blocks, parcel_on_the_way};
 ghost use Rattle.block_tests.specs.Seats.{BlocksComeBack};
 

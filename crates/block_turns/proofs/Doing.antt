@@ -7,7 +7,7 @@ use Rattle.block_events.specs.declared.message.Message.{Message}
 use Rattle.block_net.specs.declared.lanes.Border.{Border}
 use Rattle.block_net.specs.Views.{MayPush, MaySend, CellsView, excess_in, label_in, room_in, lane_in, border_in, no_border, cells_after_push, cells_after_sink_push, cells_after_relabel, cells_after_send, parcel_of, highest}
 use Rattle.block_turns.specs.Seen.{WaysView, IsLook, IsPut, add_to}
-use Rattle.block_turns.specs.Steps.{Push, Give, Rise, Send, IsOfNode, IsBorderOfNode, turn_view}
+use Rattle.block_turns.specs.Steps.{Push, Give, Relabel, Send, IsOfNode, IsBorderOfNode, turn_view}
 use Rattle.block_turns.specs.Active.{IsActiveInBlock}
 use Rattle.block_turns.specs.Calls.{Performs}
 use Rattle.block_turns.specs.Works.{IsAlike, DoesEvents}
@@ -97,7 +97,7 @@ does_send b b' s t u v j x m active border may is_x is_m made look put =
 
 -- ---- a label
 
-pub done_rise : (b b' : CellsView) (s : WaysView) (v d : ℕ) → IsActiveInBlock b v → label_in b v < d → d ≡ highest b v → b' ≡ cells_after_relabel b v d → Performs b s (Rise v) b' s
+pub done_rise : (b b' : CellsView) (s : WaysView) (v d : ℕ) → IsActiveInBlock b v → label_in b v < d → d ≡ highest b v → b' ≡ cells_after_relabel b v d → Performs b s (Relabel v) b' s
 done_rise b b' s v d active high is made =
     record { enabled = (active, omega (arith, high, is)); effect = ap (λ (x : CellsView). turn_view x s) (made ∙ ap (cells_after_relabel b v) is) }
 
@@ -106,4 +106,4 @@ does_rise b b' s v d active high is made =
     let at : b' ≡ cells_after_relabel b v (highest b v) = made ∙ ap (cells_after_relabel b v) is in
     let alike : IsAlike b (cells_after_relabel b v (highest b v)) = record { top = refl; count = refl; starts = refl; lanes = refl; border_starts = refl; borders = refl; tos = λ i. refl } in
     let done = done_rise b b' s v d active high is made in
-    does_one b b' s s (Rise v) done.enabled done.effect (subst (IsAlike b) (sym at) alike)
+    does_one b b' s s (Relabel v) done.enabled done.effect (subst (IsAlike b) (sym at) alike)

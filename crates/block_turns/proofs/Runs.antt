@@ -6,7 +6,7 @@ use Rattle.block_events.specs.declared.message.Message.{Message}
 use Rattle.block_turns.specs.declared.letter.Letter.{Letter}
 use Rattle.block_net.specs.Views.{CellsView}
 use Rattle.block_turns.specs.Seen.{WaysView, IsLook}
-use Rattle.block_turns.specs.Steps.{Step, Push, Give, Rise, Send, TurnView, turn_view, IsStepEnabled, turn_after, IsRunOfSteps, DoesMany, IsSure}
+use Rattle.block_turns.specs.Steps.{Step, Push, Give, Relabel, Send, TurnView, turn_view, IsStepEnabled, turn_after, IsRunOfSteps, DoesMany, IsSure}
 use Rattle.block_turns.specs.Active.{IsActiveInBlock}
 use Rattle.block_turns.specs.Works.{IsAlike, DoesEvents, IsIdle, IsStuckInBlock, IsIdleFrom}
 
@@ -131,7 +131,7 @@ push_stuck a b c d s t k l m v limit first second third gift pushes sends none s
 
 -- the two parts of a visit
 pub visit_idle : (a b c : CellsView) (s t : WaysView) (m n v limit : ℕ) → DoesEvents a s m b t → (m ≡ 0 → 0 < limit → IsStuckInBlock a s v)
-    → (n ≡ 0 → 0 < limit - m → ¬ IsStepEnabled b (Rise v)) → m + n ≡ 0 → 0 < limit → IsIdle a s v
+    → (n ≡ 0 → 0 < limit - m → ¬ IsStepEnabled b (Relabel v)) → m + n ≡ 0 → 0 < limit → IsIdle a s v
 visit_idle a b c s t m n v limit first stuck rise none some =
     let m0 : m ≡ 0 = omega arith in
     let n0 : n ≡ 0 = omega arith in
@@ -139,7 +139,7 @@ visit_idle a b c s t m n v limit first stuck rise none some =
     record {
       pushes = held.pushes;
       gift = held.gift;
-      rise = subst (λ (x : CellsView). ¬ IsStepEnabled x (Rise v)) (first.still m0).0 (rise n0 (omega arith));
+      rise = subst (λ (x : CellsView). ¬ IsStepEnabled x (Relabel v)) (first.still m0).0 (rise n0 (omega arith));
       sends = held.sends;
     }
 

@@ -5,7 +5,7 @@ use Rattle.block_events.specs.declared.message.Message.{Message}
 use Rattle.block_events.specs.declared.message.Message.TheVariants.{Parcel, Accepted, Refused}
 use Rattle.block_net.specs.Views.{CellsView, border_in}
 use Rattle.block_turns.specs.Seen.{WaysView}
-use Rattle.block_turns.specs.Steps.{Step, Push, Give, Rise, Send, Accept, Refuse, Settle, IsFrom, MayAcceptAt, MayRefuseAt, MaySettleAt, IsSure}
+use Rattle.block_turns.specs.Steps.{Step, Push, Give, Relabel, Send, Accept, Refuse, Settle, IsFrom, MayAcceptAt, MayRefuseAt, MaySettleAt, IsSure}
 use Rattle.block_turns.specs.Works.{IsIdle, IsIdleFrom}
 use Rattle.block_turns.specs.Turns.{IsKnown}
 
@@ -35,7 +35,7 @@ pub none_sure : (b : CellsView) (s : WaysView) (others : List ℕ) → IsKnown b
     → ((k : ℕ) → k < length others → IsIdleFrom b s (slice_index others k)) → ((v : ℕ) → IsIdle b s v) → (e : Step) → ¬ IsSure b s e
 none_sure b s others known each idle (Push v j) on = (idle v).pushes j on
 none_sure b s others known each idle (Give v) on = (idle v).gift on
-none_sure b s others known each idle (Rise v) on = (idle v).rise on
+none_sure b s others known each idle (Relabel v) on = (idle v).rise on
 none_sure b s others known each idle (Send v j) on = (idle v).sends j on
 none_sure b s others known each idle (Accept c l) on = (from_known b s others c l.place known each (accept_from b c l.place l.message on.0)).accepts l on
 none_sure b s others known each idle (Refuse c l) on = (from_known b s others c l.place known each (refuse_from b c l.place l.message on.0)).refuses l on

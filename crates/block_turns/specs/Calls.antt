@@ -3,7 +3,8 @@ use Rattle.std.specs.Prelude.{◌≡◌, ◌⊎◌, ℕ, Some}
 use Rattle.block_net.specs.Views.{CellsView}
 use Rattle.block_turns.specs.declared.letter.Letter.{Letter}
 use Rattle.block_turns.specs.Seen.{WaysView, IsLook}
-use Rattle.block_turns.specs.Steps.{Step, Accept, Refuse, Settle, IsStepEnabled, turn_view, turn_after}
+use Rattle.block_turns.specs.Steps.{Step, Accept, Refuse, Settle, IsStepEnabled, turn_view}
+use Rattle.block_turns.specs.Steps.{turn_after}
 
 -- the event was enabled, and led from what the block held with its ways to what it holds now
 pub record Performs (b : CellsView) (s : WaysView) (e : Step) (b' : CellsView)

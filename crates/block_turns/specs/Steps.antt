@@ -5,7 +5,11 @@ use Rattle.block_events.specs.declared.message.Message.{Message}
 use Rattle.block_events.specs.declared.message.Message.TheVariants.{Parcel, Accepted, Refused}
 use Rattle.block_events.specs.Directions.{opposite}
 use Rattle.block_events.specs.Workers.{IsFair}
-use Rattle.block_net.specs.Views.{CellsView, excess_in, label_in, room_in, lane_in, border_in, first_lane, first_border, out_of, MayPush, MaySend, cells_after_push, cells_after_sink_push, cells_after_relabel, cells_after_send, cells_after_accept, cells_after_settle, cells_after_return, parcel_of, highest}
+use Rattle.block_net.specs.Views.{CellsView, excess_in, label_in, room_in, lane_in, border_in}
+use Rattle.block_net.specs.Views.{first_lane, first_border, out_of, MayPush, MaySend}
+use Rattle.block_net.specs.Views.{cells_after_push, cells_after_sink_push, cells_after_relabel}
+use Rattle.block_net.specs.Views.{cells_after_send, cells_after_accept, cells_after_settle}
+use Rattle.block_net.specs.Views.{cells_after_return, parcel_of, highest}
 use Rattle.block_turns.specs.Active.{IsActiveInBlock}
 use Rattle.block_turns.specs.declared.letter.Letter.{Letter}
 use Rattle.block_turns.specs.Seen.{WaysView, add_to}
@@ -15,7 +19,7 @@ use Rattle.block_turns.specs.Seen.{WaysView, add_to}
 pub data Step : Type 0 where
   Push : ℕ → ℕ → Step
   Give : ℕ → Step
-  Rise : ℕ → Step
+  Relabel : ℕ → Step
   Send : ℕ → ℕ → Step
   Accept : ℕ → Letter → Step
   Refuse : ℕ → Letter → Step
@@ -69,7 +73,7 @@ MaySettleAt b c j (Refused x a d told) =
 abbrev pub IsStepEnabled : CellsView → Step → Type 0
 IsStepEnabled b (Push v j) = IsActiveInBlock b v × IsOfNode b v j × MayPush b v j
 IsStepEnabled b (Give v) = IsActiveInBlock b v × (0 < room_in b v) × (label_in b v ≡ 1)
-IsStepEnabled b (Rise v) = IsActiveInBlock b v × (label_in b v < highest b v)
+IsStepEnabled b (Relabel v) = IsActiveInBlock b v × (label_in b v < highest b v)
 IsStepEnabled b (Send v j) = IsActiveInBlock b v × IsBorderOfNode b v j × MaySend b v j
 IsStepEnabled b (Accept c l) = MayAcceptAt b c l.place l.message
 IsStepEnabled b (Refuse c l) = MayRefuseAt b c l.place l.message
@@ -121,7 +125,7 @@ turn_after h (Push v j) =
     }
 turn_after h (Give v) = record h
     { block = cells_after_sink_push h.block v (min (excess_in h.block v) (room_in h.block v)) }
-turn_after h (Rise v) = record h { block = cells_after_relabel h.block v (highest h.block v) }
+turn_after h (Relabel v) = record h { block = cells_after_relabel h.block v (highest h.block v) }
 turn_after h (Send v j) = record h {
   block = cells_after_send h.block v j (min (excess_in h.block v) (border_in h.block j).residual);
   sent = add_to h.sent (border_in h.block j).to (parcel_of h.block v j);
@@ -145,7 +149,7 @@ DoesMany h n g = (es : List Step) × IsRunOfSteps h es g × (length es ≡ n)
 abbrev pub IsSure : CellsView → WaysView → Step → Type 0
 IsSure b s (Push v j) = IsStepEnabled b (Push v j)
 IsSure b s (Give v) = IsStepEnabled b (Give v)
-IsSure b s (Rise v) = IsStepEnabled b (Rise v)
+IsSure b s (Relabel v) = IsStepEnabled b (Relabel v)
 IsSure b s (Send v j) = IsStepEnabled b (Send v j) × (s.room (border_in b j).to ≡ true)
 IsSure b s (Accept c l) = IsStepEnabled b (Accept c l) × (s.front c ≡ Some l) × (s.room c ≡ true)
 IsSure b s (Refuse c l) = IsStepEnabled b (Refuse c l) × (s.front c ≡ Some l) × (s.room c ≡ true)

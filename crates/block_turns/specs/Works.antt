@@ -1,9 +1,11 @@
 -- What a part of a turn does to the block and its ways.
-use Rattle.std.specs.Prelude.{◌≡◌, ℕ, length}
-use Rattle.block_net.specs.Views.{CellsView, border_in}
+use Rattle.std.specs.Prelude.{◌≡◌, ℕ, ◌<◌, length}
+use Rattle.block_net.specs.Views.{CellsView, border_in, count}
 use Rattle.block_turns.specs.declared.letter.Letter.{Letter}
 use Rattle.block_turns.specs.Seen.{WaysView, IsLook}
-use Rattle.block_turns.specs.Steps.{turn_view, DoesMany, IsSure, Push, Give, Rise, Send, Accept, Refuse, Settle}
+use Rattle.block_turns.specs.Standing.{BucketedView, IsAside}
+use Rattle.block_turns.specs.Steps.{turn_view, DoesMany, IsSure, Push, Give, Relabel, Send, Accept}
+use Rattle.block_turns.specs.Steps.{Refuse, Settle}
 
 -- what no event changes
 pub record IsAlike (a b : CellsView) : Type 0 where
@@ -28,8 +30,12 @@ pub record DoesEvents (b : CellsView) (s : WaysView) (n : ℕ) (b' : CellsView)
 pub record IsIdle (b : CellsView) (s : WaysView) (v : ℕ) : Type 0 where
   pub pushes : (j : ℕ) → ¬ IsSure b s (Push v j)
   pub gift : ¬ IsSure b s (Give v)
-  pub rise : ¬ IsSure b s (Rise v)
+  pub rise : ¬ IsSure b s (Relabel v)
   pub sends : (j : ℕ) → ¬ IsSure b s (Send v j)
+
+-- no event of any node is sure, of those that take no message, if no node is set aside
+abbrev pub AreIdle : BucketedView → WaysView → Type 0
+AreIdle b s = ((v : ℕ) → v < count b.block → ¬ IsAside b v) → (v : ℕ) → IsIdle b.block s v
 
 -- no event of node v is sure by which it passes on what it has
 pub record IsStuckInBlock (b : CellsView) (s : WaysView) (v : ℕ) : Type 0 where

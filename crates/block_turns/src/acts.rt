@@ -1,8 +1,10 @@
-ghost use Rattle.std.specs.Prelude.{◌≡◌, ◌<◌, ◌≤◌, ℕ, length};
+//! One event of a node, tried.
+ghost use Rattle.std.specs.Prelude.{◌≡◌, ◌<◌, ◌≤◌, length};
 ghost use Rattle.block_net.specs.Views.{label_in, room_in, MayPush, highest};
 ghost use Rattle.block_turns.specs.Seen.{WaysView};
 ghost use Rattle.block_turns.specs.Active.{IsActiveInBlock};
-ghost use Rattle.block_turns.specs.Steps.{IsOfNode, IsBorderOfNode, IsSure, Push, Give, Rise, Send};
+ghost use Rattle.block_turns.specs.Steps.{IsOfNode, IsBorderOfNode, IsSure, Push, Give, Relabel};
+ghost use Rattle.block_turns.specs.Steps.{Send};
 ghost use Rattle.block_turns.specs.Calls.{Performs};
 ghost use Rattle.block_turns.specs.Works.{DoesEvents};
 
@@ -75,13 +77,13 @@ pub(crate) fn try_send<W: Ways>(cells: &mut Bucketed, ways: &mut W, v: usize, j:
 }
 
 /// An active node gets the highest label that it may have, where that is higher.
-pub(crate) fn try_rise(cells: &mut Bucketed, v: usize) -> u32
+pub(crate) fn try_relabel(cells: &mut Bucketed, v: usize) -> u32
     requires { IsActiveInBlock cells.old.block v }
     ensures few { result ≤ 1 }
     ensures still { result ≡ 0 → cells.new ≡ cells.old }
     ensures does { (s : WaysView) → DoesEvents cells.old.block s result cells.new.block s }
     ensures done { 0 < result → (s : WaysView)
-        → Performs cells.old.block s (Rise v) cells.new.block s }
+        → Performs cells.old.block s (Relabel v) cells.new.block s }
     ensures idle { result ≡ 0 → ¬ (label_in cells.old.block v < highest cells.old.block v) }
 {
     let label = cells.highest_label(v);

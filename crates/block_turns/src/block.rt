@@ -1,10 +1,11 @@
+//! A block with what its turns need, and its turn.
 ghost use Rattle.std.specs.Prelude.{◌≡◌, ◌<◌, ◌≤◌, IfOk};
 ghost use Rattle.block_net.specs.Views.{count};
 ghost use Rattle.block_turns.specs.Steps.{IsSure, Step, DoesMany, turn_view};
 ghost use Rattle.block_turns.specs.Turns.{IsKnown};
 
+use crate::active_nodes::{push_wave, work};
 use crate::messages::receive_all;
-use crate::passes::{push_wave, work};
 use crate::{Bucketed, Ways};
 use block_net::Cells;
 use std::alloc::{AllocError, Global};

@@ -1,11 +1,13 @@
-ghost use Rattle.std.specs.Prelude.{◌≡◌, ℕ, MatchBool};
+//! The events of a block, one call each.
+ghost use Rattle.std.specs.Prelude.{◌≡◌, MatchBool};
 ghost use Rattle.block_turns.specs.declared.letter.Letter.{Letter};
 ghost use Rattle.block_turns.specs.Seen.{WaysView};
-ghost use Rattle.block_turns.specs.Steps.{IsStepEnabled, IsSure, Push, Give, Rise, Send, Accept, Refuse};
+ghost use Rattle.block_turns.specs.Steps.{IsStepEnabled, IsSure, Push, Give, Relabel, Send, Accept};
+ghost use Rattle.block_turns.specs.Steps.{Refuse};
 ghost use Rattle.block_turns.specs.Steps.{Settle};
 ghost use Rattle.block_turns.specs.Calls.{Performs, IsUnchanged, HasReceived, HasSettled};
 
-use crate::acts::{try_give, try_push, try_rise, try_send};
+use crate::acts::{try_give, try_push, try_relabel, try_send};
 use crate::messages::{receive_accepted, receive_parcel, receive_refused};
 use crate::{Block, Ways};
 use block_events::{Flight, Message};
@@ -48,13 +50,13 @@ pub fn push_sink(block: &mut Block, v: usize) -> bool
 /// memory.
 pub fn relabel(block: &mut Block, v: usize) -> bool
     ensures { MatchBool result
-        ((s : WaysView) → Performs block.old s (Rise v) block.new s)
-        ((¬ IsStepEnabled block.old (Rise v)) × (block.new ≡ block.old)) }
+        ((s : WaysView) → Performs block.old s (Relabel v) block.new s)
+        ((¬ IsStepEnabled block.old (Relabel v)) × (block.new ≡ block.old)) }
 {
     if v >= block.cells.len() || !block.cells.is_active(v) {
         return false;
     }
-    try_rise(&mut block.cells, v) > 0
+    try_relabel(&mut block.cells, v) > 0
 }
 
 /// Excess of a node leaves in a parcel along one of its directions to other blocks: as much as the

@@ -1,3 +1,5 @@
+//! A message with the place that it is about.
+
 use block_events::Message;
 
 /// A message, and where the block that takes it looks for the direction that the message is about.

@@ -15,20 +15,20 @@
 //! enabled by what the block holds and the message that it takes.
 #![tactic(auto)]
 
+mod active_nodes;
 mod acts;
 mod block;
+mod bucket_places;
 mod bucketed;
 mod calls;
 mod letter;
 mod messages;
-mod passes;
-mod renewing;
-mod visits;
+mod one_node;
 mod ways;
 
 pub use block::{Block, turn};
+pub use bucket_places::is_active;
 pub use bucketed::Bucketed;
 pub use calls::{push_inner, push_sink, receive, relabel, send, settle};
 pub use letter::Letter;
-pub use renewing::is_active;
 pub use ways::Ways;

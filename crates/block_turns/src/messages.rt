@@ -1,5 +1,7 @@
-ghost use Rattle.std.specs.Prelude.{◌≡◌, ◌↔◌, ◌<◌, ◌≤◌, ℕ, List, Some, IsTrue, length, slice_index};
-ghost use Rattle.block_events.specs.declared.message.Message.TheVariants.{Parcel, Accepted, Refused};
+//! Messages that a block takes.
+ghost use Rattle.std.specs.Prelude.{◌≡◌, ◌↔◌, ◌<◌, ◌≤◌, ℕ, Some, IsTrue, length, slice_index};
+ghost use Rattle.block_events.specs.declared.message.Message.TheVariants.{Parcel, Accepted};
+ghost use Rattle.block_events.specs.declared.message.Message.TheVariants.{Refused};
 ghost use Rattle.block_events.specs.Directions.{opposite};
 ghost use Rattle.block_turns.specs.Steps.{IsFrom, MayAcceptAt, MayRefuseAt, MaySettleAt, Settle};
 ghost use Rattle.block_turns.specs.Calls.{Performs, TakesParcel};

@@ -1,4 +1,5 @@
-ghost use Rattle.std.specs.Prelude.{◌≡◌, ◌<◌, ◌^◌, ℕ, true, Some, is_some};
+//! A block's ends of the ways to and from the other blocks.
+ghost use Rattle.std.specs.Prelude.{◌≡◌, ◌<◌, ◌^◌, true, Some, is_some};
 ghost use Rattle.block_events.specs.Soundness.{direction_of};
 ghost use Rattle.block_events.specs.Workers.{IsFair};
 ghost use Rattle.block_turns.specs.declared.letter.Letter.{Letter};

@@ -8,7 +8,7 @@ use Rattle.block_events.specs.declared.direction.Direction.{Direction}
 use Rattle.block_events.specs.Directions.{IsDirection, forward, backward, near, far}
 use Rattle.block_events.specs.States as core
 use Rattle.block_events.specs.Events.{least_below, is_open_direction, allowed_label, highest_label}
-use Rattle.block_events.proofs.Inside.{least-le-start, least-le}
+use Rattle.block_events.proofs.Allowed.{least-le-start, least-le}
 use Rattle.block_net.specs.Views.{CellsView, lane_in, label_in, room_in, first_lane, first_border, least_span, lane_allows, border_allows, highest}
 use Rattle.block_net.specs.Whole.{Whole, block_at, block_with, home, place, slot, is_outer, StandsAt}
 use Rattle.block_events.specs.Effects.{BlocksView, state_of}

@@ -6,8 +6,8 @@ use Rattle.block_net.specs.Whole.{Whole, whole_of}
 use Rattle.block_net.specs.declared.parts.Parts.{Parts}
 use Rattle.block_net.specs.Split.{CanSplit, IsSplit}
 use Rattle.block_net.proofs.Tables.{length_table}
-use Rattle.block_events.specs.Effects.{BlocksView}
-use Rattle.laid_blocks.specs.Views.{blocks_in, IsLaid, IsLong, opening_blocks}
+use Rattle.block_events.specs.Effects.{BlocksView, opening_blocks}
+use Rattle.laid_blocks.specs.Views.{blocks_in, IsLaid, IsLong}
 
 -- what a state shows of its blocks
 abbrev blocks_shown : core.State → BlocksView

@@ -1,26 +1,18 @@
 -- What the blocks of a net show of its nodes and directions.
-use Rattle.std.specs.Prelude.{Bool, true, false, cond, min, replicate, ℕ, ◌≡◌, ◌<◌, ◌≤◌, List, length, map, slice_index, None}
-use Rattle.flow_network.specs.declared.arc.Arc.{Arc}
-use Rattle.flow_network.specs.Cut.{Network, nodes, IsNet}
+use Rattle.std.specs.Prelude.{Bool, true, false, min, ℕ, ◌≡◌, ◌<◌, ◌≤◌, List, length, slice_index}
+use Rattle.flow_network.specs.Cut.{nodes, IsNet}
 use Rattle.flow_network.specs.Progress.{top}
-use Rattle.block_events.specs.declared.lane.Lane.{Lane}
 use Rattle.block_events.specs.declared.direction.Direction.{Direction}
 use Rattle.block_events.specs.Directions.{IsDirection, near, far}
 use Rattle.block_events.specs.States.{lane_at, is_border}
-use Rattle.block_events.specs.Effects.{BlocksView}
+use Rattle.block_events.specs.Effects.{BlocksView, view_of}
 use Rattle.block_net.specs.Limits.{arc_limit, block_limit}
-use Rattle.block_net.specs.Whole.{Whole, home, place, near_home, slot, is_outer, state_shown, IsPlaced, IsFilled}
+use Rattle.block_net.specs.Whole.{Whole, home, place, near_home, slot, is_outer, state_shown}
+use Rattle.block_net.specs.Whole.{IsPlaced, IsFilled}
 
 -- what a whole of blocks shows, without the messages on the way
 abbrev pub blocks_in : Whole → BlocksView
-blocks_in w = record {
-  net = w.net;
-  blocks = length w.blocks;
-  excess = (state_shown w).excess;
-  labels = (state_shown w).labels;
-  rooms = (state_shown w).rooms;
-  lanes = (state_shown w).lanes;
-}
+blocks_in w = view_of (state_shown w)
 
 -- what is kept of the blocks of a net
 pub record IsLaid (w : Whole) : Type 0 where
@@ -85,20 +77,3 @@ sink_amount b v = min (slice_index b.excess v) (slice_index b.rooms v)
 pub record AreLabels (b : BlocksView) (labels : List ℕ) : Type 0 where
   pub len : length labels ≡ nodes b.net
   pub limit : (v : ℕ) → v < nodes b.net → slice_index labels v ≤ top b.net
-
--- ---- the opening
-
--- the lanes of the arcs in one sense
-abbrev pub first_lanes : Bool → List Arc → List Lane
-first_lanes back arcs =
-    map (λ arc. record { residual = cond back 0 arc.capacity; known = 0; flight = None }) arcs
-
-abbrev pub opening_blocks : Network → ℕ → BlocksView
-opening_blocks net blocks = record {
-  net = net;
-  blocks = blocks;
-  excess = net.sources;
-  labels = replicate (nodes net) 0;
-  rooms = net.sinks;
-  lanes = record { forth = first_lanes false net.arcs; back = first_lanes true net.arcs };
-}

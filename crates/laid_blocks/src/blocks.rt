@@ -1,19 +1,26 @@
-ghost use Rattle.std.specs.Prelude.{IfOk, ◌≡◌, ◌≢◌, ◌↔◌, ◌+◌, ◌*◌, ◌/◌, ◌<◌, ◌≤◌, IsTrue, None, [], length, slice_index};
+//! The blocks of a net, read and written by node and by direction.
+ghost use Rattle.std.specs.Prelude.{IfOk, ◌≡◌, ◌≢◌, ◌↔◌, ◌+◌, ◌*◌, ◌/◌, ◌<◌, ◌≤◌, IsTrue, None, []};
+ghost use Rattle.std.specs.Prelude.{length, slice_index};
 ghost use Rattle.flow_network.specs.Limits.{node_limit};
 ghost use Rattle.flow_network.specs.Cut.{nodes, IsNet};
 ghost use Rattle.flow_network.specs.Preflow.{arc_at};
 ghost use Rattle.flow_network.specs.Progress.{top};
-ghost use Rattle.block_events.specs.declared.message.Message.TheVariants.{Parcel, Accepted, Refused};
+ghost use Rattle.block_events.specs.declared.message.Message.TheVariants.{Parcel, Accepted};
+ghost use Rattle.block_events.specs.declared.message.Message.TheVariants.{Refused};
 ghost use Rattle.block_events.specs.Directions.{IsDirection, near, far, opposite};
-ghost use Rattle.block_events.specs.States.{lane_at, put_lane, block_of, is_border};
+ghost use Rattle.block_events.specs.States.{lane_at, block_of, is_border};
 ghost use Rattle.block_events.specs.Soundness.{amount_out};
 ghost use Rattle.block_events.specs.Events.{highest_label};
 ghost use Rattle.block_net.specs.Limits.{arc_limit, block_limit};
 ghost use Rattle.block_net.specs.Split.{CanSplit, homes_made};
 ghost use Rattle.block_net.specs.Whole.{index_of, is_outer, whole_of};
-ghost use Rattle.block_events.specs.Effects.{state_of, blocks_after_sink_push, blocks_after_relabel, blocks_after_push, blocks_after_send, blocks_after_accept, blocks_after_settle, blocks_after_return};
-ghost use Rattle.laid_blocks.specs.Views.{blocks_in, IsLaid, IsLong, IsSpot, IsRow, opening_blocks};
-ghost use Rattle.laid_blocks.specs.Views.{IsInside, IsCrossing, AreLabels, label_near, label_far, push_amount, sink_amount};
+ghost use Rattle.block_events.specs.Effects.{state_of, opening_blocks, blocks_after_sink_push};
+ghost use Rattle.block_events.specs.Effects.{blocks_after_relabel, blocks_after_push};
+ghost use Rattle.block_events.specs.Effects.{blocks_after_send, blocks_after_accept};
+ghost use Rattle.block_events.specs.Effects.{blocks_after_settle, blocks_after_return};
+ghost use Rattle.laid_blocks.specs.Views.{blocks_in, IsLaid, IsLong, IsSpot, IsRow};
+ghost use Rattle.laid_blocks.specs.Views.{IsInside, IsCrossing, AreLabels, label_near, label_far};
+ghost use Rattle.laid_blocks.specs.Views.{push_amount, sink_amount};
 ghost use Rattle.laid_blocks.specs.ByBlock.{IsToldFrom, IsRelabelled};
 
 use crate::by_block::{label_block, tell_block};

@@ -1,12 +1,12 @@
-ghost use Rattle.std.specs.Prelude.{◌≡◌, ◌+◌, ◌<◌, ◌≤◌, ℕ, false, List, length, slice_index};
+//! Exact labels for all nodes of a net in blocks.
+ghost use Rattle.std.specs.Prelude.{◌≡◌, ◌+◌, ◌<◌, ℕ, false, List, length};
 ghost use Rattle.flow_network.specs.Cut.{nodes};
 ghost use Rattle.flow_network.specs.Progress.{top};
 ghost use Rattle.block_events.specs.Reach.{AreExact};
 ghost use Rattle.block_events.specs.Directions.{IsDirection, forward, backward};
-ghost use Rattle.block_events.specs.States.{lane_at};
 ghost use Rattle.block_events.specs.Effects.{blocks_with_known_labels};
-ghost use Rattle.laid_blocks.specs.Raising.{bare, AreLengths, IsCutOff, IsLowered, IsStableAt, IsStableAlong, IsStable};
-ghost use Rattle.block_events.specs.Effects.{BlocksView};
+ghost use Rattle.laid_blocks.specs.Raising.{bare, IsCutOff, IsLowered, IsStableAt, IsStableAlong};
+ghost use Rattle.laid_blocks.specs.Raising.{IsStable};
 ghost use Rattle.laid_blocks.specs.Views.{AreLabels};
 
 use crate::blocks::Blocks;

@@ -14,16 +14,16 @@ use Rattle.block_net.proofs.filling.put_arc.Goals as goal
 
 pub bounds-firsts-from : goal.bounds-firsts-from
 bounds-firsts-from c =
-    omega (arith, c.home_of-from.ensures.below, ap (length {A = ℕ}) c.requires.firsts, length_table c.args.blocks (first_node (nodes c.args.net.now) c.args.blocks))
+    omega (arith, c.home_of-from.ensures.below, ap (length {A = ℕ}) c.requires.split.firsts_are, length_table c.args.split.now.blocks (first_node (nodes c.args.split.now.net.now) c.args.split.now.blocks))
 
 pub bounds-firsts-to : goal.bounds-firsts-to
 bounds-firsts-to c =
-    omega (arith, c.home_of-to.ensures.below, ap (length {A = ℕ}) c.requires.firsts, length_table c.args.blocks (first_node (nodes c.args.net.now) c.args.blocks))
+    omega (arith, c.home_of-to.ensures.below, ap (length {A = ℕ}) c.requires.split.firsts_are, length_table c.args.split.now.blocks (first_node (nodes c.args.split.now.net.now) c.args.split.now.blocks))
 
 pub offset_bounds-starts-tail : goal.offset_bounds-starts-tail
 offset_bounds-starts-tail c =
-    let net = c.args.net.now in
-    let blocks = c.args.blocks in
+    let net = c.args.split.now.net.now in
+    let blocks = c.args.split.now.blocks in
     let n = nodes net in
     let k = c.args.arc in
     let x = forward k in
@@ -33,20 +33,20 @@ offset_bounds-starts-tail c =
     let to = c.home_of-to.result in
     let ex : from ≡ block_of net blocks (near net x) = c.home_of-from.ensures.value ∙ ap (block_of net blocks) c.near.ensures.value in
     let ey : to ≡ block_of net blocks (near net y) = c.home_of-to.ensures.value ∙ ap (block_of net blocks) c.far.ensures.value in
-    let fx = first_read net blocks (near net x) from c.args.firsts.now c.requires.firsts ex c.home_of-from.ensures.below in
-    let fy = first_read net blocks (near net y) to c.args.firsts.now c.requires.firsts ey c.home_of-to.ensures.below in
+    let fx = first_read net blocks (near net x) from c.args.split.now.firsts.now c.requires.split.firsts_are ex c.home_of-from.ensures.below in
+    let fy = first_read net blocks (near net y) to c.args.split.now.firsts.now c.requires.split.firsts_are ey c.home_of-to.ensures.below in
     let kx = inside net blocks x from to ex ey c.if-from-to.true in
     let ky = inside net blocks y to from ey ex (sym c.if-from-to.true) in
-    let sx = step_of net blocks false x c.requires.net c.requires.split c.requires.arc kx in
-    let sy = step_of net blocks false y c.requires.net c.requires.split c.requires.arc ky in
-    let bx = inner_base net blocks (block_of net blocks (near net x)) (slice_index c.args.firsts.now from) c.args.starts.now c.requires.starts fx in
-    let bz = inner_base net blocks (block_of net blocks (near net y)) (slice_index c.args.firsts.now from) c.args.starts.now c.requires.starts (fx ∙ ap (first_node n blocks) (sym ex ∙ (c.if-from-to.true ∙ ey))) in
-    omega (arith, fx, sx.first, sx.node, c.requires.net.count)
+    let sx = step_of net blocks false x c.requires.split.is_net c.requires.split.can_split c.requires.arc kx in
+    let sy = step_of net blocks false y c.requires.split.is_net c.requires.split.can_split c.requires.arc ky in
+    let bx = inner_base net blocks (block_of net blocks (near net x)) (slice_index c.args.split.now.firsts.now from) c.args.split.now.starts.now c.requires.split.starts_are fx in
+    let bz = inner_base net blocks (block_of net blocks (near net y)) (slice_index c.args.split.now.firsts.now from) c.args.split.now.starts.now c.requires.split.starts_are (fx ∙ ap (first_node n blocks) (sym ex ∙ (c.if-from-to.true ∙ ey))) in
+    omega (arith, fx, sx.first, sx.node, c.requires.split.is_net.count)
 
 pub bounds-starts-tail : goal.bounds-starts-tail
 bounds-starts-tail c =
-    let net = c.args.net.now in
-    let blocks = c.args.blocks in
+    let net = c.args.split.now.net.now in
+    let blocks = c.args.split.now.blocks in
     let n = nodes net in
     let k = c.args.arc in
     let x = forward k in
@@ -56,20 +56,20 @@ bounds-starts-tail c =
     let to = c.home_of-to.result in
     let ex : from ≡ block_of net blocks (near net x) = c.home_of-from.ensures.value ∙ ap (block_of net blocks) c.near.ensures.value in
     let ey : to ≡ block_of net blocks (near net y) = c.home_of-to.ensures.value ∙ ap (block_of net blocks) c.far.ensures.value in
-    let fx = first_read net blocks (near net x) from c.args.firsts.now c.requires.firsts ex c.home_of-from.ensures.below in
-    let fy = first_read net blocks (near net y) to c.args.firsts.now c.requires.firsts ey c.home_of-to.ensures.below in
+    let fx = first_read net blocks (near net x) from c.args.split.now.firsts.now c.requires.split.firsts_are ex c.home_of-from.ensures.below in
+    let fy = first_read net blocks (near net y) to c.args.split.now.firsts.now c.requires.split.firsts_are ey c.home_of-to.ensures.below in
     let kx = inside net blocks x from to ex ey c.if-from-to.true in
     let ky = inside net blocks y to from ey ex (sym c.if-from-to.true) in
-    let sx = step_of net blocks false x c.requires.net c.requires.split c.requires.arc kx in
-    let sy = step_of net blocks false y c.requires.net c.requires.split c.requires.arc ky in
-    let bx = inner_base net blocks (block_of net blocks (near net x)) (slice_index c.args.firsts.now from) c.args.starts.now c.requires.starts fx in
-    let bz = inner_base net blocks (block_of net blocks (near net y)) (slice_index c.args.firsts.now from) c.args.starts.now c.requires.starts (fx ∙ ap (first_node n blocks) (sym ex ∙ (c.if-from-to.true ∙ ey))) in
-    omega (arith, fx, sx.first, sx.node, starts_length net blocks c.args.starts.now c.requires.starts)
+    let sx = step_of net blocks false x c.requires.split.is_net c.requires.split.can_split c.requires.arc kx in
+    let sy = step_of net blocks false y c.requires.split.is_net c.requires.split.can_split c.requires.arc ky in
+    let bx = inner_base net blocks (block_of net blocks (near net x)) (slice_index c.args.split.now.firsts.now from) c.args.split.now.starts.now c.requires.split.starts_are fx in
+    let bz = inner_base net blocks (block_of net blocks (near net y)) (slice_index c.args.split.now.firsts.now from) c.args.split.now.starts.now c.requires.split.starts_are (fx ∙ ap (first_node n blocks) (sym ex ∙ (c.if-from-to.true ∙ ey))) in
+    omega (arith, fx, sx.first, sx.node, starts_length net blocks c.args.split.now.starts.now c.requires.split.starts_are)
 
 pub take_slot-forth_slot-requires-clause-base : goal.take_slot-forth_slot-requires-clause-base
 take_slot-forth_slot-requires-clause-base c =
-    let net = c.args.net.now in
-    let blocks = c.args.blocks in
+    let net = c.args.split.now.net.now in
+    let blocks = c.args.split.now.blocks in
     let n = nodes net in
     let k = c.args.arc in
     let x = forward k in
@@ -79,21 +79,21 @@ take_slot-forth_slot-requires-clause-base c =
     let to = c.home_of-to.result in
     let ex : from ≡ block_of net blocks (near net x) = c.home_of-from.ensures.value ∙ ap (block_of net blocks) c.near.ensures.value in
     let ey : to ≡ block_of net blocks (near net y) = c.home_of-to.ensures.value ∙ ap (block_of net blocks) c.far.ensures.value in
-    let fx = first_read net blocks (near net x) from c.args.firsts.now c.requires.firsts ex c.home_of-from.ensures.below in
-    let fy = first_read net blocks (near net y) to c.args.firsts.now c.requires.firsts ey c.home_of-to.ensures.below in
+    let fx = first_read net blocks (near net x) from c.args.split.now.firsts.now c.requires.split.firsts_are ex c.home_of-from.ensures.below in
+    let fy = first_read net blocks (near net y) to c.args.split.now.firsts.now c.requires.split.firsts_are ey c.home_of-to.ensures.below in
     let kx = inside net blocks x from to ex ey c.if-from-to.true in
     let ky = inside net blocks y to from ey ex (sym c.if-from-to.true) in
-    let sx = step_of net blocks false x c.requires.net c.requires.split c.requires.arc kx in
-    let sy = step_of net blocks false y c.requires.net c.requires.split c.requires.arc ky in
-    let bx = inner_base net blocks (block_of net blocks (near net x)) (slice_index c.args.firsts.now from) c.args.starts.now c.requires.starts fx in
-    let bz = inner_base net blocks (block_of net blocks (near net y)) (slice_index c.args.firsts.now from) c.args.starts.now c.requires.starts (fx ∙ ap (first_node n blocks) (sym ex ∙ (c.if-from-to.true ∙ ey))) in
+    let sx = step_of net blocks false x c.requires.split.is_net c.requires.split.can_split c.requires.arc kx in
+    let sy = step_of net blocks false y c.requires.split.is_net c.requires.split.can_split c.requires.arc ky in
+    let bx = inner_base net blocks (block_of net blocks (near net x)) (slice_index c.args.split.now.firsts.now from) c.args.split.now.starts.now c.requires.split.starts_are fx in
+    let bz = inner_base net blocks (block_of net blocks (near net y)) (slice_index c.args.split.now.firsts.now from) c.args.split.now.starts.now c.requires.split.starts_are (fx ∙ ap (first_node n blocks) (sym ex ∙ (c.if-from-to.true ∙ ey))) in
     let rx = c.requires.slots.rest x c.requires.arc (omega arith) in
     omega (arith, bx, rx, sx.base)
 
 pub take_slot-back_slot-requires-clause-base : goal.take_slot-back_slot-requires-clause-base
 take_slot-back_slot-requires-clause-base c =
-    let net = c.args.net.now in
-    let blocks = c.args.blocks in
+    let net = c.args.split.now.net.now in
+    let blocks = c.args.split.now.blocks in
     let n = nodes net in
     let k = c.args.arc in
     let x = forward k in
@@ -103,14 +103,14 @@ take_slot-back_slot-requires-clause-base c =
     let to = c.home_of-to.result in
     let ex : from ≡ block_of net blocks (near net x) = c.home_of-from.ensures.value ∙ ap (block_of net blocks) c.near.ensures.value in
     let ey : to ≡ block_of net blocks (near net y) = c.home_of-to.ensures.value ∙ ap (block_of net blocks) c.far.ensures.value in
-    let fx = first_read net blocks (near net x) from c.args.firsts.now c.requires.firsts ex c.home_of-from.ensures.below in
-    let fy = first_read net blocks (near net y) to c.args.firsts.now c.requires.firsts ey c.home_of-to.ensures.below in
+    let fx = first_read net blocks (near net x) from c.args.split.now.firsts.now c.requires.split.firsts_are ex c.home_of-from.ensures.below in
+    let fy = first_read net blocks (near net y) to c.args.split.now.firsts.now c.requires.split.firsts_are ey c.home_of-to.ensures.below in
     let kx = inside net blocks x from to ex ey c.if-from-to.true in
     let ky = inside net blocks y to from ey ex (sym c.if-from-to.true) in
-    let sx = step_of net blocks false x c.requires.net c.requires.split c.requires.arc kx in
-    let sy = step_of net blocks false y c.requires.net c.requires.split c.requires.arc ky in
-    let bx = inner_base net blocks (block_of net blocks (near net x)) (slice_index c.args.firsts.now from) c.args.starts.now c.requires.starts fx in
-    let bz = inner_base net blocks (block_of net blocks (near net y)) (slice_index c.args.firsts.now from) c.args.starts.now c.requires.starts (fx ∙ ap (first_node n blocks) (sym ex ∙ (c.if-from-to.true ∙ ey))) in
+    let sx = step_of net blocks false x c.requires.split.is_net c.requires.split.can_split c.requires.arc kx in
+    let sy = step_of net blocks false y c.requires.split.is_net c.requires.split.can_split c.requires.arc ky in
+    let bx = inner_base net blocks (block_of net blocks (near net x)) (slice_index c.args.split.now.firsts.now from) c.args.split.now.starts.now c.requires.split.starts_are fx in
+    let bz = inner_base net blocks (block_of net blocks (near net y)) (slice_index c.args.split.now.firsts.now from) c.args.split.now.starts.now c.requires.split.starts_are (fx ∙ ap (first_node n blocks) (sym ex ∙ (c.if-from-to.true ∙ ey))) in
     let ry = c.requires.slots.rest y c.requires.arc (omega arith) in
     let em : length c.arcs-arcs.result.now ≡ length net.arcs = ap length c.arcs-arcs.ensures.value in
     let there = back_read net c.args.slots.now c.take_slot-forth_slot.new.slots k _ (length c.arcs-arcs.result.now) em c.requires.arc c.take_slot-forth_slot.ensures.slots in
@@ -118,8 +118,8 @@ take_slot-back_slot-requires-clause-base c =
 
 pub put_lane-requires-clause-far : goal.put_lane-requires-clause-far
 put_lane-requires-clause-far c =
-    let net = c.args.net.now in
-    let blocks = c.args.blocks in
+    let net = c.args.split.now.net.now in
+    let blocks = c.args.split.now.blocks in
     let n = nodes net in
     let k = c.args.arc in
     let x = forward k in
@@ -129,20 +129,20 @@ put_lane-requires-clause-far c =
     let to = c.home_of-to.result in
     let ex : from ≡ block_of net blocks (near net x) = c.home_of-from.ensures.value ∙ ap (block_of net blocks) c.near.ensures.value in
     let ey : to ≡ block_of net blocks (near net y) = c.home_of-to.ensures.value ∙ ap (block_of net blocks) c.far.ensures.value in
-    let fx = first_read net blocks (near net x) from c.args.firsts.now c.requires.firsts ex c.home_of-from.ensures.below in
-    let fy = first_read net blocks (near net y) to c.args.firsts.now c.requires.firsts ey c.home_of-to.ensures.below in
+    let fx = first_read net blocks (near net x) from c.args.split.now.firsts.now c.requires.split.firsts_are ex c.home_of-from.ensures.below in
+    let fy = first_read net blocks (near net y) to c.args.split.now.firsts.now c.requires.split.firsts_are ey c.home_of-to.ensures.below in
     let kx = inside net blocks x from to ex ey c.if-from-to.true in
     let ky = inside net blocks y to from ey ex (sym c.if-from-to.true) in
-    let sx = step_of net blocks false x c.requires.net c.requires.split c.requires.arc kx in
-    let sy = step_of net blocks false y c.requires.net c.requires.split c.requires.arc ky in
-    let bx = inner_base net blocks (block_of net blocks (near net x)) (slice_index c.args.firsts.now from) c.args.starts.now c.requires.starts fx in
-    let bz = inner_base net blocks (block_of net blocks (near net y)) (slice_index c.args.firsts.now from) c.args.starts.now c.requires.starts (fx ∙ ap (first_node n blocks) (sym ex ∙ (c.if-from-to.true ∙ ey))) in
-    omega (arith, fx, far_above net blocks x c.requires.net c.requires.split.some c.requires.arc kx)
+    let sx = step_of net blocks false x c.requires.split.is_net c.requires.split.can_split c.requires.arc kx in
+    let sy = step_of net blocks false y c.requires.split.is_net c.requires.split.can_split c.requires.arc ky in
+    let bx = inner_base net blocks (block_of net blocks (near net x)) (slice_index c.args.split.now.firsts.now from) c.args.split.now.starts.now c.requires.split.starts_are fx in
+    let bz = inner_base net blocks (block_of net blocks (near net y)) (slice_index c.args.split.now.firsts.now from) c.args.split.now.starts.now c.requires.split.starts_are (fx ∙ ap (first_node n blocks) (sym ex ∙ (c.if-from-to.true ∙ ey))) in
+    omega (arith, fx, far_above net blocks x c.requires.split.is_net c.requires.split.can_split.some c.requires.arc kx)
 
 pub put_lane-requires-clause-slot : goal.put_lane-requires-clause-slot
 put_lane-requires-clause-slot c =
-    let net = c.args.net.now in
-    let blocks = c.args.blocks in
+    let net = c.args.split.now.net.now in
+    let blocks = c.args.split.now.blocks in
     let n = nodes net in
     let k = c.args.arc in
     let x = forward k in
@@ -152,14 +152,14 @@ put_lane-requires-clause-slot c =
     let to = c.home_of-to.result in
     let ex : from ≡ block_of net blocks (near net x) = c.home_of-from.ensures.value ∙ ap (block_of net blocks) c.near.ensures.value in
     let ey : to ≡ block_of net blocks (near net y) = c.home_of-to.ensures.value ∙ ap (block_of net blocks) c.far.ensures.value in
-    let fx = first_read net blocks (near net x) from c.args.firsts.now c.requires.firsts ex c.home_of-from.ensures.below in
-    let fy = first_read net blocks (near net y) to c.args.firsts.now c.requires.firsts ey c.home_of-to.ensures.below in
+    let fx = first_read net blocks (near net x) from c.args.split.now.firsts.now c.requires.split.firsts_are ex c.home_of-from.ensures.below in
+    let fy = first_read net blocks (near net y) to c.args.split.now.firsts.now c.requires.split.firsts_are ey c.home_of-to.ensures.below in
     let kx = inside net blocks x from to ex ey c.if-from-to.true in
     let ky = inside net blocks y to from ey ex (sym c.if-from-to.true) in
-    let sx = step_of net blocks false x c.requires.net c.requires.split c.requires.arc kx in
-    let sy = step_of net blocks false y c.requires.net c.requires.split c.requires.arc ky in
-    let bx = inner_base net blocks (block_of net blocks (near net x)) (slice_index c.args.firsts.now from) c.args.starts.now c.requires.starts fx in
-    let bz = inner_base net blocks (block_of net blocks (near net y)) (slice_index c.args.firsts.now from) c.args.starts.now c.requires.starts (fx ∙ ap (first_node n blocks) (sym ex ∙ (c.if-from-to.true ∙ ey))) in
+    let sx = step_of net blocks false x c.requires.split.is_net c.requires.split.can_split c.requires.arc kx in
+    let sy = step_of net blocks false y c.requires.split.is_net c.requires.split.can_split c.requires.arc ky in
+    let bx = inner_base net blocks (block_of net blocks (near net x)) (slice_index c.args.split.now.firsts.now from) c.args.split.now.starts.now c.requires.split.starts_are fx in
+    let bz = inner_base net blocks (block_of net blocks (near net y)) (slice_index c.args.split.now.firsts.now from) c.args.split.now.starts.now c.requires.split.starts_are (fx ∙ ap (first_node n blocks) (sym ex ∙ (c.if-from-to.true ∙ ey))) in
     let rx = c.requires.slots.rest x c.requires.arc (omega arith) in
     let ry = c.requires.slots.rest y c.requires.arc (omega arith) in
     let em : length c.arcs-arcs.result.now ≡ length net.arcs = ap length c.arcs-arcs.ensures.value in
@@ -174,8 +174,8 @@ put_lane-requires-clause-slot c =
 
 pub put_lane-requires-then-from-to-clause-far : goal.put_lane-requires-then-from-to-clause-far
 put_lane-requires-then-from-to-clause-far c =
-    let net = c.args.net.now in
-    let blocks = c.args.blocks in
+    let net = c.args.split.now.net.now in
+    let blocks = c.args.split.now.blocks in
     let n = nodes net in
     let k = c.args.arc in
     let x = forward k in
@@ -185,20 +185,20 @@ put_lane-requires-then-from-to-clause-far c =
     let to = c.home_of-to.result in
     let ex : from ≡ block_of net blocks (near net x) = c.home_of-from.ensures.value ∙ ap (block_of net blocks) c.near.ensures.value in
     let ey : to ≡ block_of net blocks (near net y) = c.home_of-to.ensures.value ∙ ap (block_of net blocks) c.far.ensures.value in
-    let fx = first_read net blocks (near net x) from c.args.firsts.now c.requires.firsts ex c.home_of-from.ensures.below in
-    let fy = first_read net blocks (near net y) to c.args.firsts.now c.requires.firsts ey c.home_of-to.ensures.below in
+    let fx = first_read net blocks (near net x) from c.args.split.now.firsts.now c.requires.split.firsts_are ex c.home_of-from.ensures.below in
+    let fy = first_read net blocks (near net y) to c.args.split.now.firsts.now c.requires.split.firsts_are ey c.home_of-to.ensures.below in
     let kx = inside net blocks x from to ex ey c.if-from-to.true in
     let ky = inside net blocks y to from ey ex (sym c.if-from-to.true) in
-    let sx = step_of net blocks false x c.requires.net c.requires.split c.requires.arc kx in
-    let sy = step_of net blocks false y c.requires.net c.requires.split c.requires.arc ky in
-    let bx = inner_base net blocks (block_of net blocks (near net x)) (slice_index c.args.firsts.now from) c.args.starts.now c.requires.starts fx in
-    let bz = inner_base net blocks (block_of net blocks (near net y)) (slice_index c.args.firsts.now from) c.args.starts.now c.requires.starts (fx ∙ ap (first_node n blocks) (sym ex ∙ (c.if-from-to.true ∙ ey))) in
-    omega (arith, fy, far_above net blocks y c.requires.net c.requires.split.some c.requires.arc ky)
+    let sx = step_of net blocks false x c.requires.split.is_net c.requires.split.can_split c.requires.arc kx in
+    let sy = step_of net blocks false y c.requires.split.is_net c.requires.split.can_split c.requires.arc ky in
+    let bx = inner_base net blocks (block_of net blocks (near net x)) (slice_index c.args.split.now.firsts.now from) c.args.split.now.starts.now c.requires.split.starts_are fx in
+    let bz = inner_base net blocks (block_of net blocks (near net y)) (slice_index c.args.split.now.firsts.now from) c.args.split.now.starts.now c.requires.split.starts_are (fx ∙ ap (first_node n blocks) (sym ex ∙ (c.if-from-to.true ∙ ey))) in
+    omega (arith, fy, far_above net blocks y c.requires.split.is_net c.requires.split.can_split.some c.requires.arc ky)
 
 pub put_lane-requires-then-from-to-clause-slot : goal.put_lane-requires-then-from-to-clause-slot
 put_lane-requires-then-from-to-clause-slot c =
-    let net = c.args.net.now in
-    let blocks = c.args.blocks in
+    let net = c.args.split.now.net.now in
+    let blocks = c.args.split.now.blocks in
     let n = nodes net in
     let k = c.args.arc in
     let x = forward k in
@@ -208,27 +208,27 @@ put_lane-requires-then-from-to-clause-slot c =
     let to = c.home_of-to.result in
     let ex : from ≡ block_of net blocks (near net x) = c.home_of-from.ensures.value ∙ ap (block_of net blocks) c.near.ensures.value in
     let ey : to ≡ block_of net blocks (near net y) = c.home_of-to.ensures.value ∙ ap (block_of net blocks) c.far.ensures.value in
-    let fx = first_read net blocks (near net x) from c.args.firsts.now c.requires.firsts ex c.home_of-from.ensures.below in
-    let fy = first_read net blocks (near net y) to c.args.firsts.now c.requires.firsts ey c.home_of-to.ensures.below in
+    let fx = first_read net blocks (near net x) from c.args.split.now.firsts.now c.requires.split.firsts_are ex c.home_of-from.ensures.below in
+    let fy = first_read net blocks (near net y) to c.args.split.now.firsts.now c.requires.split.firsts_are ey c.home_of-to.ensures.below in
     let kx = inside net blocks x from to ex ey c.if-from-to.true in
     let ky = inside net blocks y to from ey ex (sym c.if-from-to.true) in
-    let sx = step_of net blocks false x c.requires.net c.requires.split c.requires.arc kx in
-    let sy = step_of net blocks false y c.requires.net c.requires.split c.requires.arc ky in
-    let bx = inner_base net blocks (block_of net blocks (near net x)) (slice_index c.args.firsts.now from) c.args.starts.now c.requires.starts fx in
-    let bz = inner_base net blocks (block_of net blocks (near net y)) (slice_index c.args.firsts.now from) c.args.starts.now c.requires.starts (fx ∙ ap (first_node n blocks) (sym ex ∙ (c.if-from-to.true ∙ ey))) in
+    let sx = step_of net blocks false x c.requires.split.is_net c.requires.split.can_split c.requires.arc kx in
+    let sy = step_of net blocks false y c.requires.split.is_net c.requires.split.can_split c.requires.arc ky in
+    let bx = inner_base net blocks (block_of net blocks (near net x)) (slice_index c.args.split.now.firsts.now from) c.args.split.now.starts.now c.requires.split.starts_are fx in
+    let bz = inner_base net blocks (block_of net blocks (near net y)) (slice_index c.args.split.now.firsts.now from) c.args.split.now.starts.now c.requires.split.starts_are (fx ∙ ap (first_node n blocks) (sym ex ∙ (c.if-from-to.true ∙ ey))) in
     let rx = c.requires.slots.rest x c.requires.arc (omega arith) in
     let ry = c.requires.slots.rest y c.requires.arc (omega arith) in
     let em : length c.arcs-arcs.result.now ≡ length net.arcs = ap length c.arcs-arcs.ensures.value in
     let there = back_read net c.args.slots.now c.take_slot-forth_slot.new.slots k _ (length c.arcs-arcs.result.now) em c.requires.arc c.take_slot-forth_slot.ensures.slots in
     let es : c.take_slot-forth_slot.result ≡ slice_index rows.slots (index_of net x) = omega (arith, c.take_slot-forth_slot.ensures.value, rx, bx, sx.slot) in
     let et : c.take_slot-back_slot.result ≡ slice_index rows.slots (index_of net y) = omega (arith, c.take_slot-back_slot.ensures.value, there, ry, bz, sy.slot) in
-    let ready = ready_made net blocks c.requires.net c.requires.split in
+    let ready = ready_made net blocks c.requires.split.is_net c.requires.split.can_split in
     let lf : from < length c.args.lists.now = omega (arith, c.home_of-from.ensures.below, c.requires.lists.many) in
     let old = get_or_default c.args.lists.now from c.index-lists-from.result no_rows lf in
     let room_x = lane_room net blocks rows (ranks_made net blocks) (λ y. y.arc < k) c.args.lists.now x from _ c.requires.lists ex c.home_of-from.ensures.below sx es in
-    let held = held_lane net blocks rows (λ y. y.arc < k) c.args.lists.now x from c.take_slot-forth_slot.result (lane_by net (slice_index c.args.firsts.now from) c.take_slot-back_slot.result x) c.put_lane.new.list ready c.requires.lists c.requires.arc kx ex c.home_of-from.ensures.below es
-    (same_lane net x (slice_index c.args.firsts.now from) _ c.take_slot-back_slot.result _ fx et)
-    (ap (λ (r : BlockRows). r.lanes) c.put_lane.ensures ∙ ap (λ (r : BlockRows). set r.lanes c.take_slot-forth_slot.result (lane_by net (slice_index c.args.firsts.now from) c.take_slot-back_slot.result x)) old)
+    let held = held_lane net blocks rows (λ y. y.arc < k) c.args.lists.now x from c.take_slot-forth_slot.result (lane_by net (slice_index c.args.split.now.firsts.now from) c.take_slot-back_slot.result x) c.put_lane.new.list ready c.requires.lists c.requires.arc kx ex c.home_of-from.ensures.below es
+    (same_lane net x (slice_index c.args.split.now.firsts.now from) _ c.take_slot-back_slot.result _ fx et)
+    (ap (λ (r : BlockRows). r.lanes) c.put_lane.ensures ∙ ap (λ (r : BlockRows). set r.lanes c.take_slot-forth_slot.result (lane_by net (slice_index c.args.split.now.firsts.now from) c.take_slot-back_slot.result x)) old)
     (ap (λ (r : BlockRows). r.borders) c.put_lane.ensures ∙ ap (λ (r : BlockRows). r.borders) old) room_x in
     let D = λ (z : Direction). (z.arc < k) ⊎ (z ≡ x) in
     let lists = set c.args.lists.now from c.put_lane.new.list in
@@ -237,8 +237,8 @@ put_lane-requires-then-from-to-clause-slot c =
 
 pub overflow_add-nodes : goal.overflow_add-nodes
 overflow_add-nodes c =
-    let net = c.args.net.now in
-    let blocks = c.args.blocks in
+    let net = c.args.split.now.net.now in
+    let blocks = c.args.split.now.blocks in
     let n = nodes net in
     let k = c.args.arc in
     let x = forward k in
@@ -248,20 +248,20 @@ overflow_add-nodes c =
     let to = c.home_of-to.result in
     let ex : from ≡ block_of net blocks (near net x) = c.home_of-from.ensures.value ∙ ap (block_of net blocks) c.near.ensures.value in
     let ey : to ≡ block_of net blocks (near net y) = c.home_of-to.ensures.value ∙ ap (block_of net blocks) c.far.ensures.value in
-    let fx = first_read net blocks (near net x) from c.args.firsts.now c.requires.firsts ex c.home_of-from.ensures.below in
-    let fy = first_read net blocks (near net y) to c.args.firsts.now c.requires.firsts ey c.home_of-to.ensures.below in
+    let fx = first_read net blocks (near net x) from c.args.split.now.firsts.now c.requires.split.firsts_are ex c.home_of-from.ensures.below in
+    let fy = first_read net blocks (near net y) to c.args.split.now.firsts.now c.requires.split.firsts_are ey c.home_of-to.ensures.below in
     let kx = across net blocks x from to ex ey c.if-from-to.false in
     let ky = across net blocks y to from ey ex (λ e. c.if-from-to.false (sym e)) in
-    let sx = step_of net blocks true x c.requires.net c.requires.split c.requires.arc kx in
-    let sy = step_of net blocks true y c.requires.net c.requires.split c.requires.arc ky in
-    let bx = outer_base net blocks (block_of net blocks (near net x)) c.nodes-nodes.result (slice_index c.args.firsts.now from) c.args.starts.now c.requires.starts c.nodes-nodes.ensures.value fx in
-    let bz = outer_base net blocks (block_of net blocks (near net y)) c.nodes-nodes.result (slice_index c.args.firsts.now to) c.args.starts.now c.requires.starts c.nodes-nodes.ensures.value fy in
-    omega (arith, c.nodes-nodes.ensures.value, fx, sx.first, sx.node, c.requires.net.count)
+    let sx = step_of net blocks true x c.requires.split.is_net c.requires.split.can_split c.requires.arc kx in
+    let sy = step_of net blocks true y c.requires.split.is_net c.requires.split.can_split c.requires.arc ky in
+    let bx = outer_base net blocks (block_of net blocks (near net x)) c.nodes-nodes.result (slice_index c.args.split.now.firsts.now from) c.args.split.now.starts.now c.requires.split.starts_are c.nodes-nodes.ensures.value fx in
+    let bz = outer_base net blocks (block_of net blocks (near net y)) c.nodes-nodes.result (slice_index c.args.split.now.firsts.now to) c.args.split.now.starts.now c.requires.split.starts_are c.nodes-nodes.ensures.value fy in
+    omega (arith, c.nodes-nodes.ensures.value, fx, sx.first, sx.node, c.requires.split.is_net.count)
 
 pub offset_bounds-starts-nodes : goal.offset_bounds-starts-nodes
 offset_bounds-starts-nodes c =
-    let net = c.args.net.now in
-    let blocks = c.args.blocks in
+    let net = c.args.split.now.net.now in
+    let blocks = c.args.split.now.blocks in
     let n = nodes net in
     let k = c.args.arc in
     let x = forward k in
@@ -271,20 +271,20 @@ offset_bounds-starts-nodes c =
     let to = c.home_of-to.result in
     let ex : from ≡ block_of net blocks (near net x) = c.home_of-from.ensures.value ∙ ap (block_of net blocks) c.near.ensures.value in
     let ey : to ≡ block_of net blocks (near net y) = c.home_of-to.ensures.value ∙ ap (block_of net blocks) c.far.ensures.value in
-    let fx = first_read net blocks (near net x) from c.args.firsts.now c.requires.firsts ex c.home_of-from.ensures.below in
-    let fy = first_read net blocks (near net y) to c.args.firsts.now c.requires.firsts ey c.home_of-to.ensures.below in
+    let fx = first_read net blocks (near net x) from c.args.split.now.firsts.now c.requires.split.firsts_are ex c.home_of-from.ensures.below in
+    let fy = first_read net blocks (near net y) to c.args.split.now.firsts.now c.requires.split.firsts_are ey c.home_of-to.ensures.below in
     let kx = across net blocks x from to ex ey c.if-from-to.false in
     let ky = across net blocks y to from ey ex (λ e. c.if-from-to.false (sym e)) in
-    let sx = step_of net blocks true x c.requires.net c.requires.split c.requires.arc kx in
-    let sy = step_of net blocks true y c.requires.net c.requires.split c.requires.arc ky in
-    let bx = outer_base net blocks (block_of net blocks (near net x)) c.nodes-nodes.result (slice_index c.args.firsts.now from) c.args.starts.now c.requires.starts c.nodes-nodes.ensures.value fx in
-    let bz = outer_base net blocks (block_of net blocks (near net y)) c.nodes-nodes.result (slice_index c.args.firsts.now to) c.args.starts.now c.requires.starts c.nodes-nodes.ensures.value fy in
-    omega (arith, c.nodes-nodes.ensures.value, fx, sx.first, sx.node, c.requires.net.count)
+    let sx = step_of net blocks true x c.requires.split.is_net c.requires.split.can_split c.requires.arc kx in
+    let sy = step_of net blocks true y c.requires.split.is_net c.requires.split.can_split c.requires.arc ky in
+    let bx = outer_base net blocks (block_of net blocks (near net x)) c.nodes-nodes.result (slice_index c.args.split.now.firsts.now from) c.args.split.now.starts.now c.requires.split.starts_are c.nodes-nodes.ensures.value fx in
+    let bz = outer_base net blocks (block_of net blocks (near net y)) c.nodes-nodes.result (slice_index c.args.split.now.firsts.now to) c.args.split.now.starts.now c.requires.split.starts_are c.nodes-nodes.ensures.value fy in
+    omega (arith, c.nodes-nodes.ensures.value, fx, sx.first, sx.node, c.requires.split.is_net.count)
 
 pub overflow_add-nodes-else-from-to : goal.overflow_add-nodes-else-from-to
 overflow_add-nodes-else-from-to c =
-    let net = c.args.net.now in
-    let blocks = c.args.blocks in
+    let net = c.args.split.now.net.now in
+    let blocks = c.args.split.now.blocks in
     let n = nodes net in
     let k = c.args.arc in
     let x = forward k in
@@ -294,20 +294,20 @@ overflow_add-nodes-else-from-to c =
     let to = c.home_of-to.result in
     let ex : from ≡ block_of net blocks (near net x) = c.home_of-from.ensures.value ∙ ap (block_of net blocks) c.near.ensures.value in
     let ey : to ≡ block_of net blocks (near net y) = c.home_of-to.ensures.value ∙ ap (block_of net blocks) c.far.ensures.value in
-    let fx = first_read net blocks (near net x) from c.args.firsts.now c.requires.firsts ex c.home_of-from.ensures.below in
-    let fy = first_read net blocks (near net y) to c.args.firsts.now c.requires.firsts ey c.home_of-to.ensures.below in
+    let fx = first_read net blocks (near net x) from c.args.split.now.firsts.now c.requires.split.firsts_are ex c.home_of-from.ensures.below in
+    let fy = first_read net blocks (near net y) to c.args.split.now.firsts.now c.requires.split.firsts_are ey c.home_of-to.ensures.below in
     let kx = across net blocks x from to ex ey c.if-from-to.false in
     let ky = across net blocks y to from ey ex (λ e. c.if-from-to.false (sym e)) in
-    let sx = step_of net blocks true x c.requires.net c.requires.split c.requires.arc kx in
-    let sy = step_of net blocks true y c.requires.net c.requires.split c.requires.arc ky in
-    let bx = outer_base net blocks (block_of net blocks (near net x)) c.nodes-nodes.result (slice_index c.args.firsts.now from) c.args.starts.now c.requires.starts c.nodes-nodes.ensures.value fx in
-    let bz = outer_base net blocks (block_of net blocks (near net y)) c.nodes-nodes.result (slice_index c.args.firsts.now to) c.args.starts.now c.requires.starts c.nodes-nodes.ensures.value fy in
-    omega (arith, c.nodes-nodes.ensures.value, fy, sy.first, sy.node, c.requires.net.count)
+    let sx = step_of net blocks true x c.requires.split.is_net c.requires.split.can_split c.requires.arc kx in
+    let sy = step_of net blocks true y c.requires.split.is_net c.requires.split.can_split c.requires.arc ky in
+    let bx = outer_base net blocks (block_of net blocks (near net x)) c.nodes-nodes.result (slice_index c.args.split.now.firsts.now from) c.args.split.now.starts.now c.requires.split.starts_are c.nodes-nodes.ensures.value fx in
+    let bz = outer_base net blocks (block_of net blocks (near net y)) c.nodes-nodes.result (slice_index c.args.split.now.firsts.now to) c.args.split.now.starts.now c.requires.split.starts_are c.nodes-nodes.ensures.value fy in
+    omega (arith, c.nodes-nodes.ensures.value, fy, sy.first, sy.node, c.requires.split.is_net.count)
 
 pub offset_bounds-starts-nodes-else-from-to : goal.offset_bounds-starts-nodes-else-from-to
 offset_bounds-starts-nodes-else-from-to c =
-    let net = c.args.net.now in
-    let blocks = c.args.blocks in
+    let net = c.args.split.now.net.now in
+    let blocks = c.args.split.now.blocks in
     let n = nodes net in
     let k = c.args.arc in
     let x = forward k in
@@ -317,20 +317,20 @@ offset_bounds-starts-nodes-else-from-to c =
     let to = c.home_of-to.result in
     let ex : from ≡ block_of net blocks (near net x) = c.home_of-from.ensures.value ∙ ap (block_of net blocks) c.near.ensures.value in
     let ey : to ≡ block_of net blocks (near net y) = c.home_of-to.ensures.value ∙ ap (block_of net blocks) c.far.ensures.value in
-    let fx = first_read net blocks (near net x) from c.args.firsts.now c.requires.firsts ex c.home_of-from.ensures.below in
-    let fy = first_read net blocks (near net y) to c.args.firsts.now c.requires.firsts ey c.home_of-to.ensures.below in
+    let fx = first_read net blocks (near net x) from c.args.split.now.firsts.now c.requires.split.firsts_are ex c.home_of-from.ensures.below in
+    let fy = first_read net blocks (near net y) to c.args.split.now.firsts.now c.requires.split.firsts_are ey c.home_of-to.ensures.below in
     let kx = across net blocks x from to ex ey c.if-from-to.false in
     let ky = across net blocks y to from ey ex (λ e. c.if-from-to.false (sym e)) in
-    let sx = step_of net blocks true x c.requires.net c.requires.split c.requires.arc kx in
-    let sy = step_of net blocks true y c.requires.net c.requires.split c.requires.arc ky in
-    let bx = outer_base net blocks (block_of net blocks (near net x)) c.nodes-nodes.result (slice_index c.args.firsts.now from) c.args.starts.now c.requires.starts c.nodes-nodes.ensures.value fx in
-    let bz = outer_base net blocks (block_of net blocks (near net y)) c.nodes-nodes.result (slice_index c.args.firsts.now to) c.args.starts.now c.requires.starts c.nodes-nodes.ensures.value fy in
-    omega (arith, c.nodes-nodes.ensures.value, fy, sy.first, sy.node, c.requires.net.count)
+    let sx = step_of net blocks true x c.requires.split.is_net c.requires.split.can_split c.requires.arc kx in
+    let sy = step_of net blocks true y c.requires.split.is_net c.requires.split.can_split c.requires.arc ky in
+    let bx = outer_base net blocks (block_of net blocks (near net x)) c.nodes-nodes.result (slice_index c.args.split.now.firsts.now from) c.args.split.now.starts.now c.requires.split.starts_are c.nodes-nodes.ensures.value fx in
+    let bz = outer_base net blocks (block_of net blocks (near net y)) c.nodes-nodes.result (slice_index c.args.split.now.firsts.now to) c.args.split.now.starts.now c.requires.split.starts_are c.nodes-nodes.ensures.value fy in
+    omega (arith, c.nodes-nodes.ensures.value, fy, sy.first, sy.node, c.requires.split.is_net.count)
 
 pub bounds-starts-nodes : goal.bounds-starts-nodes
 bounds-starts-nodes c =
-    let net = c.args.net.now in
-    let blocks = c.args.blocks in
+    let net = c.args.split.now.net.now in
+    let blocks = c.args.split.now.blocks in
     let n = nodes net in
     let k = c.args.arc in
     let x = forward k in
@@ -340,20 +340,20 @@ bounds-starts-nodes c =
     let to = c.home_of-to.result in
     let ex : from ≡ block_of net blocks (near net x) = c.home_of-from.ensures.value ∙ ap (block_of net blocks) c.near.ensures.value in
     let ey : to ≡ block_of net blocks (near net y) = c.home_of-to.ensures.value ∙ ap (block_of net blocks) c.far.ensures.value in
-    let fx = first_read net blocks (near net x) from c.args.firsts.now c.requires.firsts ex c.home_of-from.ensures.below in
-    let fy = first_read net blocks (near net y) to c.args.firsts.now c.requires.firsts ey c.home_of-to.ensures.below in
+    let fx = first_read net blocks (near net x) from c.args.split.now.firsts.now c.requires.split.firsts_are ex c.home_of-from.ensures.below in
+    let fy = first_read net blocks (near net y) to c.args.split.now.firsts.now c.requires.split.firsts_are ey c.home_of-to.ensures.below in
     let kx = across net blocks x from to ex ey c.if-from-to.false in
     let ky = across net blocks y to from ey ex (λ e. c.if-from-to.false (sym e)) in
-    let sx = step_of net blocks true x c.requires.net c.requires.split c.requires.arc kx in
-    let sy = step_of net blocks true y c.requires.net c.requires.split c.requires.arc ky in
-    let bx = outer_base net blocks (block_of net blocks (near net x)) c.nodes-nodes.result (slice_index c.args.firsts.now from) c.args.starts.now c.requires.starts c.nodes-nodes.ensures.value fx in
-    let bz = outer_base net blocks (block_of net blocks (near net y)) c.nodes-nodes.result (slice_index c.args.firsts.now to) c.args.starts.now c.requires.starts c.nodes-nodes.ensures.value fy in
-    omega (arith, c.nodes-nodes.ensures.value, fx, sx.first, sx.node, starts_length net blocks c.args.starts.now c.requires.starts)
+    let sx = step_of net blocks true x c.requires.split.is_net c.requires.split.can_split c.requires.arc kx in
+    let sy = step_of net blocks true y c.requires.split.is_net c.requires.split.can_split c.requires.arc ky in
+    let bx = outer_base net blocks (block_of net blocks (near net x)) c.nodes-nodes.result (slice_index c.args.split.now.firsts.now from) c.args.split.now.starts.now c.requires.split.starts_are c.nodes-nodes.ensures.value fx in
+    let bz = outer_base net blocks (block_of net blocks (near net y)) c.nodes-nodes.result (slice_index c.args.split.now.firsts.now to) c.args.split.now.starts.now c.requires.split.starts_are c.nodes-nodes.ensures.value fy in
+    omega (arith, c.nodes-nodes.ensures.value, fx, sx.first, sx.node, starts_length net blocks c.args.split.now.starts.now c.requires.split.starts_are)
 
 pub bounds-starts-nodes-else-from-to : goal.bounds-starts-nodes-else-from-to
 bounds-starts-nodes-else-from-to c =
-    let net = c.args.net.now in
-    let blocks = c.args.blocks in
+    let net = c.args.split.now.net.now in
+    let blocks = c.args.split.now.blocks in
     let n = nodes net in
     let k = c.args.arc in
     let x = forward k in
@@ -363,20 +363,20 @@ bounds-starts-nodes-else-from-to c =
     let to = c.home_of-to.result in
     let ex : from ≡ block_of net blocks (near net x) = c.home_of-from.ensures.value ∙ ap (block_of net blocks) c.near.ensures.value in
     let ey : to ≡ block_of net blocks (near net y) = c.home_of-to.ensures.value ∙ ap (block_of net blocks) c.far.ensures.value in
-    let fx = first_read net blocks (near net x) from c.args.firsts.now c.requires.firsts ex c.home_of-from.ensures.below in
-    let fy = first_read net blocks (near net y) to c.args.firsts.now c.requires.firsts ey c.home_of-to.ensures.below in
+    let fx = first_read net blocks (near net x) from c.args.split.now.firsts.now c.requires.split.firsts_are ex c.home_of-from.ensures.below in
+    let fy = first_read net blocks (near net y) to c.args.split.now.firsts.now c.requires.split.firsts_are ey c.home_of-to.ensures.below in
     let kx = across net blocks x from to ex ey c.if-from-to.false in
     let ky = across net blocks y to from ey ex (λ e. c.if-from-to.false (sym e)) in
-    let sx = step_of net blocks true x c.requires.net c.requires.split c.requires.arc kx in
-    let sy = step_of net blocks true y c.requires.net c.requires.split c.requires.arc ky in
-    let bx = outer_base net blocks (block_of net blocks (near net x)) c.nodes-nodes.result (slice_index c.args.firsts.now from) c.args.starts.now c.requires.starts c.nodes-nodes.ensures.value fx in
-    let bz = outer_base net blocks (block_of net blocks (near net y)) c.nodes-nodes.result (slice_index c.args.firsts.now to) c.args.starts.now c.requires.starts c.nodes-nodes.ensures.value fy in
-    omega (arith, c.nodes-nodes.ensures.value, fy, sy.first, sy.node, starts_length net blocks c.args.starts.now c.requires.starts)
+    let sx = step_of net blocks true x c.requires.split.is_net c.requires.split.can_split c.requires.arc kx in
+    let sy = step_of net blocks true y c.requires.split.is_net c.requires.split.can_split c.requires.arc ky in
+    let bx = outer_base net blocks (block_of net blocks (near net x)) c.nodes-nodes.result (slice_index c.args.split.now.firsts.now from) c.args.split.now.starts.now c.requires.split.starts_are c.nodes-nodes.ensures.value fx in
+    let bz = outer_base net blocks (block_of net blocks (near net y)) c.nodes-nodes.result (slice_index c.args.split.now.firsts.now to) c.args.split.now.starts.now c.requires.split.starts_are c.nodes-nodes.ensures.value fy in
+    omega (arith, c.nodes-nodes.ensures.value, fy, sy.first, sy.node, starts_length net blocks c.args.split.now.starts.now c.requires.split.starts_are)
 
 pub take_slot-forth_slot-requires-else-from-to-clause-base : goal.take_slot-forth_slot-requires-else-from-to-clause-base
 take_slot-forth_slot-requires-else-from-to-clause-base c =
-    let net = c.args.net.now in
-    let blocks = c.args.blocks in
+    let net = c.args.split.now.net.now in
+    let blocks = c.args.split.now.blocks in
     let n = nodes net in
     let k = c.args.arc in
     let x = forward k in
@@ -386,21 +386,21 @@ take_slot-forth_slot-requires-else-from-to-clause-base c =
     let to = c.home_of-to.result in
     let ex : from ≡ block_of net blocks (near net x) = c.home_of-from.ensures.value ∙ ap (block_of net blocks) c.near.ensures.value in
     let ey : to ≡ block_of net blocks (near net y) = c.home_of-to.ensures.value ∙ ap (block_of net blocks) c.far.ensures.value in
-    let fx = first_read net blocks (near net x) from c.args.firsts.now c.requires.firsts ex c.home_of-from.ensures.below in
-    let fy = first_read net blocks (near net y) to c.args.firsts.now c.requires.firsts ey c.home_of-to.ensures.below in
+    let fx = first_read net blocks (near net x) from c.args.split.now.firsts.now c.requires.split.firsts_are ex c.home_of-from.ensures.below in
+    let fy = first_read net blocks (near net y) to c.args.split.now.firsts.now c.requires.split.firsts_are ey c.home_of-to.ensures.below in
     let kx = across net blocks x from to ex ey c.if-from-to.false in
     let ky = across net blocks y to from ey ex (λ e. c.if-from-to.false (sym e)) in
-    let sx = step_of net blocks true x c.requires.net c.requires.split c.requires.arc kx in
-    let sy = step_of net blocks true y c.requires.net c.requires.split c.requires.arc ky in
-    let bx = outer_base net blocks (block_of net blocks (near net x)) c.nodes-nodes.result (slice_index c.args.firsts.now from) c.args.starts.now c.requires.starts c.nodes-nodes.ensures.value fx in
-    let bz = outer_base net blocks (block_of net blocks (near net y)) c.nodes-nodes.result (slice_index c.args.firsts.now to) c.args.starts.now c.requires.starts c.nodes-nodes.ensures.value fy in
+    let sx = step_of net blocks true x c.requires.split.is_net c.requires.split.can_split c.requires.arc kx in
+    let sy = step_of net blocks true y c.requires.split.is_net c.requires.split.can_split c.requires.arc ky in
+    let bx = outer_base net blocks (block_of net blocks (near net x)) c.nodes-nodes.result (slice_index c.args.split.now.firsts.now from) c.args.split.now.starts.now c.requires.split.starts_are c.nodes-nodes.ensures.value fx in
+    let bz = outer_base net blocks (block_of net blocks (near net y)) c.nodes-nodes.result (slice_index c.args.split.now.firsts.now to) c.args.split.now.starts.now c.requires.split.starts_are c.nodes-nodes.ensures.value fy in
     let rx = c.requires.slots.rest x c.requires.arc (omega arith) in
     omega (arith, bx, rx, sx.base)
 
 pub take_slot-back_slot-requires-else-from-to-clause-base : goal.take_slot-back_slot-requires-else-from-to-clause-base
 take_slot-back_slot-requires-else-from-to-clause-base c =
-    let net = c.args.net.now in
-    let blocks = c.args.blocks in
+    let net = c.args.split.now.net.now in
+    let blocks = c.args.split.now.blocks in
     let n = nodes net in
     let k = c.args.arc in
     let x = forward k in
@@ -410,14 +410,14 @@ take_slot-back_slot-requires-else-from-to-clause-base c =
     let to = c.home_of-to.result in
     let ex : from ≡ block_of net blocks (near net x) = c.home_of-from.ensures.value ∙ ap (block_of net blocks) c.near.ensures.value in
     let ey : to ≡ block_of net blocks (near net y) = c.home_of-to.ensures.value ∙ ap (block_of net blocks) c.far.ensures.value in
-    let fx = first_read net blocks (near net x) from c.args.firsts.now c.requires.firsts ex c.home_of-from.ensures.below in
-    let fy = first_read net blocks (near net y) to c.args.firsts.now c.requires.firsts ey c.home_of-to.ensures.below in
+    let fx = first_read net blocks (near net x) from c.args.split.now.firsts.now c.requires.split.firsts_are ex c.home_of-from.ensures.below in
+    let fy = first_read net blocks (near net y) to c.args.split.now.firsts.now c.requires.split.firsts_are ey c.home_of-to.ensures.below in
     let kx = across net blocks x from to ex ey c.if-from-to.false in
     let ky = across net blocks y to from ey ex (λ e. c.if-from-to.false (sym e)) in
-    let sx = step_of net blocks true x c.requires.net c.requires.split c.requires.arc kx in
-    let sy = step_of net blocks true y c.requires.net c.requires.split c.requires.arc ky in
-    let bx = outer_base net blocks (block_of net blocks (near net x)) c.nodes-nodes.result (slice_index c.args.firsts.now from) c.args.starts.now c.requires.starts c.nodes-nodes.ensures.value fx in
-    let bz = outer_base net blocks (block_of net blocks (near net y)) c.nodes-nodes.result (slice_index c.args.firsts.now to) c.args.starts.now c.requires.starts c.nodes-nodes.ensures.value fy in
+    let sx = step_of net blocks true x c.requires.split.is_net c.requires.split.can_split c.requires.arc kx in
+    let sy = step_of net blocks true y c.requires.split.is_net c.requires.split.can_split c.requires.arc ky in
+    let bx = outer_base net blocks (block_of net blocks (near net x)) c.nodes-nodes.result (slice_index c.args.split.now.firsts.now from) c.args.split.now.starts.now c.requires.split.starts_are c.nodes-nodes.ensures.value fx in
+    let bz = outer_base net blocks (block_of net blocks (near net y)) c.nodes-nodes.result (slice_index c.args.split.now.firsts.now to) c.args.split.now.starts.now c.requires.split.starts_are c.nodes-nodes.ensures.value fy in
     let ry = c.requires.slots.rest y c.requires.arc (omega arith) in
     let em : length c.arcs-arcs.result.now ≡ length net.arcs = ap length c.arcs-arcs.ensures.value in
     let there = back_read net c.args.slots.now c.take_slot-forth_slot-else-from-to.new.slots k _ (length c.arcs-arcs.result.now) em c.requires.arc c.take_slot-forth_slot-else-from-to.ensures.slots in
@@ -425,8 +425,8 @@ take_slot-back_slot-requires-else-from-to-clause-base c =
 
 pub put_border-requires-clause-near : goal.put_border-requires-clause-near
 put_border-requires-clause-near c =
-    let net = c.args.net.now in
-    let blocks = c.args.blocks in
+    let net = c.args.split.now.net.now in
+    let blocks = c.args.split.now.blocks in
     let n = nodes net in
     let k = c.args.arc in
     let x = forward k in
@@ -436,20 +436,20 @@ put_border-requires-clause-near c =
     let to = c.home_of-to.result in
     let ex : from ≡ block_of net blocks (near net x) = c.home_of-from.ensures.value ∙ ap (block_of net blocks) c.near.ensures.value in
     let ey : to ≡ block_of net blocks (near net y) = c.home_of-to.ensures.value ∙ ap (block_of net blocks) c.far.ensures.value in
-    let fx = first_read net blocks (near net x) from c.args.firsts.now c.requires.firsts ex c.home_of-from.ensures.below in
-    let fy = first_read net blocks (near net y) to c.args.firsts.now c.requires.firsts ey c.home_of-to.ensures.below in
+    let fx = first_read net blocks (near net x) from c.args.split.now.firsts.now c.requires.split.firsts_are ex c.home_of-from.ensures.below in
+    let fy = first_read net blocks (near net y) to c.args.split.now.firsts.now c.requires.split.firsts_are ey c.home_of-to.ensures.below in
     let kx = across net blocks x from to ex ey c.if-from-to.false in
     let ky = across net blocks y to from ey ex (λ e. c.if-from-to.false (sym e)) in
-    let sx = step_of net blocks true x c.requires.net c.requires.split c.requires.arc kx in
-    let sy = step_of net blocks true y c.requires.net c.requires.split c.requires.arc ky in
-    let bx = outer_base net blocks (block_of net blocks (near net x)) c.nodes-nodes.result (slice_index c.args.firsts.now from) c.args.starts.now c.requires.starts c.nodes-nodes.ensures.value fx in
-    let bz = outer_base net blocks (block_of net blocks (near net y)) c.nodes-nodes.result (slice_index c.args.firsts.now to) c.args.starts.now c.requires.starts c.nodes-nodes.ensures.value fy in
+    let sx = step_of net blocks true x c.requires.split.is_net c.requires.split.can_split c.requires.arc kx in
+    let sy = step_of net blocks true y c.requires.split.is_net c.requires.split.can_split c.requires.arc ky in
+    let bx = outer_base net blocks (block_of net blocks (near net x)) c.nodes-nodes.result (slice_index c.args.split.now.firsts.now from) c.args.split.now.starts.now c.requires.split.starts_are c.nodes-nodes.ensures.value fx in
+    let bz = outer_base net blocks (block_of net blocks (near net y)) c.nodes-nodes.result (slice_index c.args.split.now.firsts.now to) c.args.split.now.starts.now c.requires.split.starts_are c.nodes-nodes.ensures.value fy in
     omega (arith, fx, sx.first)
 
 pub put_border-requires-clause-slot : goal.put_border-requires-clause-slot
 put_border-requires-clause-slot c =
-    let net = c.args.net.now in
-    let blocks = c.args.blocks in
+    let net = c.args.split.now.net.now in
+    let blocks = c.args.split.now.blocks in
     let n = nodes net in
     let k = c.args.arc in
     let x = forward k in
@@ -459,14 +459,14 @@ put_border-requires-clause-slot c =
     let to = c.home_of-to.result in
     let ex : from ≡ block_of net blocks (near net x) = c.home_of-from.ensures.value ∙ ap (block_of net blocks) c.near.ensures.value in
     let ey : to ≡ block_of net blocks (near net y) = c.home_of-to.ensures.value ∙ ap (block_of net blocks) c.far.ensures.value in
-    let fx = first_read net blocks (near net x) from c.args.firsts.now c.requires.firsts ex c.home_of-from.ensures.below in
-    let fy = first_read net blocks (near net y) to c.args.firsts.now c.requires.firsts ey c.home_of-to.ensures.below in
+    let fx = first_read net blocks (near net x) from c.args.split.now.firsts.now c.requires.split.firsts_are ex c.home_of-from.ensures.below in
+    let fy = first_read net blocks (near net y) to c.args.split.now.firsts.now c.requires.split.firsts_are ey c.home_of-to.ensures.below in
     let kx = across net blocks x from to ex ey c.if-from-to.false in
     let ky = across net blocks y to from ey ex (λ e. c.if-from-to.false (sym e)) in
-    let sx = step_of net blocks true x c.requires.net c.requires.split c.requires.arc kx in
-    let sy = step_of net blocks true y c.requires.net c.requires.split c.requires.arc ky in
-    let bx = outer_base net blocks (block_of net blocks (near net x)) c.nodes-nodes.result (slice_index c.args.firsts.now from) c.args.starts.now c.requires.starts c.nodes-nodes.ensures.value fx in
-    let bz = outer_base net blocks (block_of net blocks (near net y)) c.nodes-nodes.result (slice_index c.args.firsts.now to) c.args.starts.now c.requires.starts c.nodes-nodes.ensures.value fy in
+    let sx = step_of net blocks true x c.requires.split.is_net c.requires.split.can_split c.requires.arc kx in
+    let sy = step_of net blocks true y c.requires.split.is_net c.requires.split.can_split c.requires.arc ky in
+    let bx = outer_base net blocks (block_of net blocks (near net x)) c.nodes-nodes.result (slice_index c.args.split.now.firsts.now from) c.args.split.now.starts.now c.requires.split.starts_are c.nodes-nodes.ensures.value fx in
+    let bz = outer_base net blocks (block_of net blocks (near net y)) c.nodes-nodes.result (slice_index c.args.split.now.firsts.now to) c.args.split.now.starts.now c.requires.split.starts_are c.nodes-nodes.ensures.value fy in
     let rx = c.requires.slots.rest x c.requires.arc (omega arith) in
     let ry = c.requires.slots.rest y c.requires.arc (omega arith) in
     let em : length c.arcs-arcs.result.now ≡ length net.arcs = ap length c.arcs-arcs.ensures.value in
@@ -481,8 +481,8 @@ put_border-requires-clause-slot c =
 
 pub put_border-requires-else-from-to-clause-near : goal.put_border-requires-else-from-to-clause-near
 put_border-requires-else-from-to-clause-near c =
-    let net = c.args.net.now in
-    let blocks = c.args.blocks in
+    let net = c.args.split.now.net.now in
+    let blocks = c.args.split.now.blocks in
     let n = nodes net in
     let k = c.args.arc in
     let x = forward k in
@@ -492,20 +492,20 @@ put_border-requires-else-from-to-clause-near c =
     let to = c.home_of-to.result in
     let ex : from ≡ block_of net blocks (near net x) = c.home_of-from.ensures.value ∙ ap (block_of net blocks) c.near.ensures.value in
     let ey : to ≡ block_of net blocks (near net y) = c.home_of-to.ensures.value ∙ ap (block_of net blocks) c.far.ensures.value in
-    let fx = first_read net blocks (near net x) from c.args.firsts.now c.requires.firsts ex c.home_of-from.ensures.below in
-    let fy = first_read net blocks (near net y) to c.args.firsts.now c.requires.firsts ey c.home_of-to.ensures.below in
+    let fx = first_read net blocks (near net x) from c.args.split.now.firsts.now c.requires.split.firsts_are ex c.home_of-from.ensures.below in
+    let fy = first_read net blocks (near net y) to c.args.split.now.firsts.now c.requires.split.firsts_are ey c.home_of-to.ensures.below in
     let kx = across net blocks x from to ex ey c.if-from-to.false in
     let ky = across net blocks y to from ey ex (λ e. c.if-from-to.false (sym e)) in
-    let sx = step_of net blocks true x c.requires.net c.requires.split c.requires.arc kx in
-    let sy = step_of net blocks true y c.requires.net c.requires.split c.requires.arc ky in
-    let bx = outer_base net blocks (block_of net blocks (near net x)) c.nodes-nodes.result (slice_index c.args.firsts.now from) c.args.starts.now c.requires.starts c.nodes-nodes.ensures.value fx in
-    let bz = outer_base net blocks (block_of net blocks (near net y)) c.nodes-nodes.result (slice_index c.args.firsts.now to) c.args.starts.now c.requires.starts c.nodes-nodes.ensures.value fy in
+    let sx = step_of net blocks true x c.requires.split.is_net c.requires.split.can_split c.requires.arc kx in
+    let sy = step_of net blocks true y c.requires.split.is_net c.requires.split.can_split c.requires.arc ky in
+    let bx = outer_base net blocks (block_of net blocks (near net x)) c.nodes-nodes.result (slice_index c.args.split.now.firsts.now from) c.args.split.now.starts.now c.requires.split.starts_are c.nodes-nodes.ensures.value fx in
+    let bz = outer_base net blocks (block_of net blocks (near net y)) c.nodes-nodes.result (slice_index c.args.split.now.firsts.now to) c.args.split.now.starts.now c.requires.split.starts_are c.nodes-nodes.ensures.value fy in
     omega (arith, fy, sy.first)
 
 pub put_border-requires-else-from-to-clause-slot : goal.put_border-requires-else-from-to-clause-slot
 put_border-requires-else-from-to-clause-slot c =
-    let net = c.args.net.now in
-    let blocks = c.args.blocks in
+    let net = c.args.split.now.net.now in
+    let blocks = c.args.split.now.blocks in
     let n = nodes net in
     let k = c.args.arc in
     let x = forward k in
@@ -515,27 +515,27 @@ put_border-requires-else-from-to-clause-slot c =
     let to = c.home_of-to.result in
     let ex : from ≡ block_of net blocks (near net x) = c.home_of-from.ensures.value ∙ ap (block_of net blocks) c.near.ensures.value in
     let ey : to ≡ block_of net blocks (near net y) = c.home_of-to.ensures.value ∙ ap (block_of net blocks) c.far.ensures.value in
-    let fx = first_read net blocks (near net x) from c.args.firsts.now c.requires.firsts ex c.home_of-from.ensures.below in
-    let fy = first_read net blocks (near net y) to c.args.firsts.now c.requires.firsts ey c.home_of-to.ensures.below in
+    let fx = first_read net blocks (near net x) from c.args.split.now.firsts.now c.requires.split.firsts_are ex c.home_of-from.ensures.below in
+    let fy = first_read net blocks (near net y) to c.args.split.now.firsts.now c.requires.split.firsts_are ey c.home_of-to.ensures.below in
     let kx = across net blocks x from to ex ey c.if-from-to.false in
     let ky = across net blocks y to from ey ex (λ e. c.if-from-to.false (sym e)) in
-    let sx = step_of net blocks true x c.requires.net c.requires.split c.requires.arc kx in
-    let sy = step_of net blocks true y c.requires.net c.requires.split c.requires.arc ky in
-    let bx = outer_base net blocks (block_of net blocks (near net x)) c.nodes-nodes.result (slice_index c.args.firsts.now from) c.args.starts.now c.requires.starts c.nodes-nodes.ensures.value fx in
-    let bz = outer_base net blocks (block_of net blocks (near net y)) c.nodes-nodes.result (slice_index c.args.firsts.now to) c.args.starts.now c.requires.starts c.nodes-nodes.ensures.value fy in
+    let sx = step_of net blocks true x c.requires.split.is_net c.requires.split.can_split c.requires.arc kx in
+    let sy = step_of net blocks true y c.requires.split.is_net c.requires.split.can_split c.requires.arc ky in
+    let bx = outer_base net blocks (block_of net blocks (near net x)) c.nodes-nodes.result (slice_index c.args.split.now.firsts.now from) c.args.split.now.starts.now c.requires.split.starts_are c.nodes-nodes.ensures.value fx in
+    let bz = outer_base net blocks (block_of net blocks (near net y)) c.nodes-nodes.result (slice_index c.args.split.now.firsts.now to) c.args.split.now.starts.now c.requires.split.starts_are c.nodes-nodes.ensures.value fy in
     let rx = c.requires.slots.rest x c.requires.arc (omega arith) in
     let ry = c.requires.slots.rest y c.requires.arc (omega arith) in
     let em : length c.arcs-arcs.result.now ≡ length net.arcs = ap length c.arcs-arcs.ensures.value in
     let there = back_read net c.args.slots.now c.take_slot-forth_slot-else-from-to.new.slots k _ (length c.arcs-arcs.result.now) em c.requires.arc c.take_slot-forth_slot-else-from-to.ensures.slots in
     let es : c.take_slot-forth_slot-else-from-to.result ≡ slice_index rows.slots (index_of net x) = omega (arith, c.take_slot-forth_slot-else-from-to.ensures.value, rx, bx, sx.slot) in
     let et : c.take_slot-back_slot-else-from-to.result ≡ slice_index rows.slots (index_of net y) = omega (arith, c.take_slot-back_slot-else-from-to.ensures.value, there, ry, bz, sy.slot) in
-    let ready = ready_made net blocks c.requires.net c.requires.split in
+    let ready = ready_made net blocks c.requires.split.is_net c.requires.split.can_split in
     let lf : from < length c.args.lists.now = omega (arith, c.home_of-from.ensures.below, c.requires.lists.many) in
     let old = get_or_default c.args.lists.now from c.index-lists-from-else-from-to.result no_rows lf in
     let room_x = border_room net blocks rows (ranks_made net blocks) (λ y. y.arc < k) c.args.lists.now x from _ c.requires.lists ex c.home_of-from.ensures.below sx es in
-    let held = held_border net blocks rows (λ y. y.arc < k) c.args.lists.now x from c.take_slot-forth_slot-else-from-to.result (border_by net (slice_index c.args.firsts.now from) to c.take_slot-back_slot-else-from-to.result x) c.put_border.new.list ready c.requires.lists c.requires.arc kx ex c.home_of-from.ensures.below es
-    (same_border net x (slice_index c.args.firsts.now from) _ to _ c.take_slot-back_slot-else-from-to.result _ fx ey et)
-    (ap (λ (r : BlockRows). r.borders) c.put_border.ensures ∙ ap (λ (r : BlockRows). set r.borders c.take_slot-forth_slot-else-from-to.result (border_by net (slice_index c.args.firsts.now from) to c.take_slot-back_slot-else-from-to.result x)) old)
+    let held = held_border net blocks rows (λ y. y.arc < k) c.args.lists.now x from c.take_slot-forth_slot-else-from-to.result (border_by net (slice_index c.args.split.now.firsts.now from) to c.take_slot-back_slot-else-from-to.result x) c.put_border.new.list ready c.requires.lists c.requires.arc kx ex c.home_of-from.ensures.below es
+    (same_border net x (slice_index c.args.split.now.firsts.now from) _ to _ c.take_slot-back_slot-else-from-to.result _ fx ey et)
+    (ap (λ (r : BlockRows). r.borders) c.put_border.ensures ∙ ap (λ (r : BlockRows). set r.borders c.take_slot-forth_slot-else-from-to.result (border_by net (slice_index c.args.split.now.firsts.now from) to c.take_slot-back_slot-else-from-to.result x)) old)
     (ap (λ (r : BlockRows). r.lanes) c.put_border.ensures ∙ ap (λ (r : BlockRows). r.lanes) old) room_x in
     let D = λ (z : Direction). (z.arc < k) ⊎ (z ≡ x) in
     let lists = set c.args.lists.now from c.put_border.new.list in
@@ -544,8 +544,8 @@ put_border-requires-else-from-to-clause-slot c =
 
 pub returns-then-from-to-clause-slots : goal.returns-then-from-to-clause-slots
 returns-then-from-to-clause-slots c =
-    let net = c.args.net.now in
-    let blocks = c.args.blocks in
+    let net = c.args.split.now.net.now in
+    let blocks = c.args.split.now.blocks in
     let n = nodes net in
     let k = c.args.arc in
     let x = forward k in
@@ -555,14 +555,14 @@ returns-then-from-to-clause-slots c =
     let to = c.home_of-to.result in
     let ex : from ≡ block_of net blocks (near net x) = c.home_of-from.ensures.value ∙ ap (block_of net blocks) c.near.ensures.value in
     let ey : to ≡ block_of net blocks (near net y) = c.home_of-to.ensures.value ∙ ap (block_of net blocks) c.far.ensures.value in
-    let fx = first_read net blocks (near net x) from c.args.firsts.now c.requires.firsts ex c.home_of-from.ensures.below in
-    let fy = first_read net blocks (near net y) to c.args.firsts.now c.requires.firsts ey c.home_of-to.ensures.below in
+    let fx = first_read net blocks (near net x) from c.args.split.now.firsts.now c.requires.split.firsts_are ex c.home_of-from.ensures.below in
+    let fy = first_read net blocks (near net y) to c.args.split.now.firsts.now c.requires.split.firsts_are ey c.home_of-to.ensures.below in
     let kx = inside net blocks x from to ex ey c.if-from-to.true in
     let ky = inside net blocks y to from ey ex (sym c.if-from-to.true) in
-    let sx = step_of net blocks false x c.requires.net c.requires.split c.requires.arc kx in
-    let sy = step_of net blocks false y c.requires.net c.requires.split c.requires.arc ky in
-    let bx = inner_base net blocks (block_of net blocks (near net x)) (slice_index c.args.firsts.now from) c.args.starts.now c.requires.starts fx in
-    let bz = inner_base net blocks (block_of net blocks (near net y)) (slice_index c.args.firsts.now from) c.args.starts.now c.requires.starts (fx ∙ ap (first_node n blocks) (sym ex ∙ (c.if-from-to.true ∙ ey))) in
+    let sx = step_of net blocks false x c.requires.split.is_net c.requires.split.can_split c.requires.arc kx in
+    let sy = step_of net blocks false y c.requires.split.is_net c.requires.split.can_split c.requires.arc ky in
+    let bx = inner_base net blocks (block_of net blocks (near net x)) (slice_index c.args.split.now.firsts.now from) c.args.split.now.starts.now c.requires.split.starts_are fx in
+    let bz = inner_base net blocks (block_of net blocks (near net y)) (slice_index c.args.split.now.firsts.now from) c.args.split.now.starts.now c.requires.split.starts_are (fx ∙ ap (first_node n blocks) (sym ex ∙ (c.if-from-to.true ∙ ey))) in
     let rx = c.requires.slots.rest x c.requires.arc (omega arith) in
     let ry = c.requires.slots.rest y c.requires.arc (omega arith) in
     let em : length c.arcs-arcs.result.now ≡ length net.arcs = ap length c.arcs-arcs.ensures.value in
@@ -576,8 +576,8 @@ returns-then-from-to-clause-slots c =
 
 pub returns-then-from-to-clause-lists : goal.returns-then-from-to-clause-lists
 returns-then-from-to-clause-lists c =
-    let net = c.args.net.now in
-    let blocks = c.args.blocks in
+    let net = c.args.split.now.net.now in
+    let blocks = c.args.split.now.blocks in
     let n = nodes net in
     let k = c.args.arc in
     let x = forward k in
@@ -587,43 +587,43 @@ returns-then-from-to-clause-lists c =
     let to = c.home_of-to.result in
     let ex : from ≡ block_of net blocks (near net x) = c.home_of-from.ensures.value ∙ ap (block_of net blocks) c.near.ensures.value in
     let ey : to ≡ block_of net blocks (near net y) = c.home_of-to.ensures.value ∙ ap (block_of net blocks) c.far.ensures.value in
-    let fx = first_read net blocks (near net x) from c.args.firsts.now c.requires.firsts ex c.home_of-from.ensures.below in
-    let fy = first_read net blocks (near net y) to c.args.firsts.now c.requires.firsts ey c.home_of-to.ensures.below in
+    let fx = first_read net blocks (near net x) from c.args.split.now.firsts.now c.requires.split.firsts_are ex c.home_of-from.ensures.below in
+    let fy = first_read net blocks (near net y) to c.args.split.now.firsts.now c.requires.split.firsts_are ey c.home_of-to.ensures.below in
     let kx = inside net blocks x from to ex ey c.if-from-to.true in
     let ky = inside net blocks y to from ey ex (sym c.if-from-to.true) in
-    let sx = step_of net blocks false x c.requires.net c.requires.split c.requires.arc kx in
-    let sy = step_of net blocks false y c.requires.net c.requires.split c.requires.arc ky in
-    let bx = inner_base net blocks (block_of net blocks (near net x)) (slice_index c.args.firsts.now from) c.args.starts.now c.requires.starts fx in
-    let bz = inner_base net blocks (block_of net blocks (near net y)) (slice_index c.args.firsts.now from) c.args.starts.now c.requires.starts (fx ∙ ap (first_node n blocks) (sym ex ∙ (c.if-from-to.true ∙ ey))) in
+    let sx = step_of net blocks false x c.requires.split.is_net c.requires.split.can_split c.requires.arc kx in
+    let sy = step_of net blocks false y c.requires.split.is_net c.requires.split.can_split c.requires.arc ky in
+    let bx = inner_base net blocks (block_of net blocks (near net x)) (slice_index c.args.split.now.firsts.now from) c.args.split.now.starts.now c.requires.split.starts_are fx in
+    let bz = inner_base net blocks (block_of net blocks (near net y)) (slice_index c.args.split.now.firsts.now from) c.args.split.now.starts.now c.requires.split.starts_are (fx ∙ ap (first_node n blocks) (sym ex ∙ (c.if-from-to.true ∙ ey))) in
     let rx = c.requires.slots.rest x c.requires.arc (omega arith) in
     let ry = c.requires.slots.rest y c.requires.arc (omega arith) in
     let em : length c.arcs-arcs.result.now ≡ length net.arcs = ap length c.arcs-arcs.ensures.value in
     let there = back_read net c.args.slots.now c.take_slot-forth_slot.new.slots k _ (length c.arcs-arcs.result.now) em c.requires.arc c.take_slot-forth_slot.ensures.slots in
     let es : c.take_slot-forth_slot.result ≡ slice_index rows.slots (index_of net x) = omega (arith, c.take_slot-forth_slot.ensures.value, rx, bx, sx.slot) in
     let et : c.take_slot-back_slot.result ≡ slice_index rows.slots (index_of net y) = omega (arith, c.take_slot-back_slot.ensures.value, there, ry, bz, sy.slot) in
-    let ready = ready_made net blocks c.requires.net c.requires.split in
+    let ready = ready_made net blocks c.requires.split.is_net c.requires.split.can_split in
     let lf : from < length c.args.lists.now = omega (arith, c.home_of-from.ensures.below, c.requires.lists.many) in
     let old = get_or_default c.args.lists.now from c.index-lists-from.result no_rows lf in
     let room_x = lane_room net blocks rows (ranks_made net blocks) (λ y. y.arc < k) c.args.lists.now x from _ c.requires.lists ex c.home_of-from.ensures.below sx es in
-    let held = held_lane net blocks rows (λ y. y.arc < k) c.args.lists.now x from c.take_slot-forth_slot.result (lane_by net (slice_index c.args.firsts.now from) c.take_slot-back_slot.result x) c.put_lane.new.list ready c.requires.lists c.requires.arc kx ex c.home_of-from.ensures.below es
-    (same_lane net x (slice_index c.args.firsts.now from) _ c.take_slot-back_slot.result _ fx et)
-    (ap (λ (r : BlockRows). r.lanes) c.put_lane.ensures ∙ ap (λ (r : BlockRows). set r.lanes c.take_slot-forth_slot.result (lane_by net (slice_index c.args.firsts.now from) c.take_slot-back_slot.result x)) old)
+    let held = held_lane net blocks rows (λ y. y.arc < k) c.args.lists.now x from c.take_slot-forth_slot.result (lane_by net (slice_index c.args.split.now.firsts.now from) c.take_slot-back_slot.result x) c.put_lane.new.list ready c.requires.lists c.requires.arc kx ex c.home_of-from.ensures.below es
+    (same_lane net x (slice_index c.args.split.now.firsts.now from) _ c.take_slot-back_slot.result _ fx et)
+    (ap (λ (r : BlockRows). r.lanes) c.put_lane.ensures ∙ ap (λ (r : BlockRows). set r.lanes c.take_slot-forth_slot.result (lane_by net (slice_index c.args.split.now.firsts.now from) c.take_slot-back_slot.result x)) old)
     (ap (λ (r : BlockRows). r.borders) c.put_lane.ensures ∙ ap (λ (r : BlockRows). r.borders) old) room_x in
     let D = λ (z : Direction). (z.arc < k) ⊎ (z ≡ x) in
     let lists = set c.args.lists.now from c.put_lane.new.list in
     let room_y = lane_room net blocks rows (ranks_made net blocks) D lists y to _ held ey c.home_of-to.ensures.below sy et in
     let lt : to < length lists = omega (arith, c.home_of-to.ensures.below, held.many) in
     let old_y = get_or_default lists to c.index-lists-to.result no_rows lt in
-    let held_y = held_lane net blocks rows D lists y to c.take_slot-back_slot.result (lane_by net (slice_index c.args.firsts.now to) c.take_slot-forth_slot.result y) c.put_lane-then-from-to.new.list ready held c.requires.arc ky ey c.home_of-to.ensures.below et
-    (same_lane net y (slice_index c.args.firsts.now to) _ c.take_slot-forth_slot.result _ fy es)
-    (ap (λ (r : BlockRows). r.lanes) c.put_lane-then-from-to.ensures ∙ ap (λ (r : BlockRows). set r.lanes c.take_slot-back_slot.result (lane_by net (slice_index c.args.firsts.now to) c.take_slot-forth_slot.result y)) old_y)
+    let held_y = held_lane net blocks rows D lists y to c.take_slot-back_slot.result (lane_by net (slice_index c.args.split.now.firsts.now to) c.take_slot-forth_slot.result y) c.put_lane-then-from-to.new.list ready held c.requires.arc ky ey c.home_of-to.ensures.below et
+    (same_lane net y (slice_index c.args.split.now.firsts.now to) _ c.take_slot-forth_slot.result _ fy es)
+    (ap (λ (r : BlockRows). r.lanes) c.put_lane-then-from-to.ensures ∙ ap (λ (r : BlockRows). set r.lanes c.take_slot-back_slot.result (lane_by net (slice_index c.args.split.now.firsts.now to) c.take_slot-forth_slot.result y)) old_y)
     (ap (λ (r : BlockRows). r.borders) c.put_lane-then-from-to.ensures ∙ ap (λ (r : BlockRows). r.borders) old_y) room_y in
     held_less net blocks rows (λ z. D z ⊎ (z ≡ y)) (λ z. z.arc < k + 1) _ (arc_done k) held_y
 
 pub returns-else-from-to-clause-slots : goal.returns-else-from-to-clause-slots
 returns-else-from-to-clause-slots c =
-    let net = c.args.net.now in
-    let blocks = c.args.blocks in
+    let net = c.args.split.now.net.now in
+    let blocks = c.args.split.now.blocks in
     let n = nodes net in
     let k = c.args.arc in
     let x = forward k in
@@ -633,14 +633,14 @@ returns-else-from-to-clause-slots c =
     let to = c.home_of-to.result in
     let ex : from ≡ block_of net blocks (near net x) = c.home_of-from.ensures.value ∙ ap (block_of net blocks) c.near.ensures.value in
     let ey : to ≡ block_of net blocks (near net y) = c.home_of-to.ensures.value ∙ ap (block_of net blocks) c.far.ensures.value in
-    let fx = first_read net blocks (near net x) from c.args.firsts.now c.requires.firsts ex c.home_of-from.ensures.below in
-    let fy = first_read net blocks (near net y) to c.args.firsts.now c.requires.firsts ey c.home_of-to.ensures.below in
+    let fx = first_read net blocks (near net x) from c.args.split.now.firsts.now c.requires.split.firsts_are ex c.home_of-from.ensures.below in
+    let fy = first_read net blocks (near net y) to c.args.split.now.firsts.now c.requires.split.firsts_are ey c.home_of-to.ensures.below in
     let kx = across net blocks x from to ex ey c.if-from-to.false in
     let ky = across net blocks y to from ey ex (λ e. c.if-from-to.false (sym e)) in
-    let sx = step_of net blocks true x c.requires.net c.requires.split c.requires.arc kx in
-    let sy = step_of net blocks true y c.requires.net c.requires.split c.requires.arc ky in
-    let bx = outer_base net blocks (block_of net blocks (near net x)) c.nodes-nodes.result (slice_index c.args.firsts.now from) c.args.starts.now c.requires.starts c.nodes-nodes.ensures.value fx in
-    let bz = outer_base net blocks (block_of net blocks (near net y)) c.nodes-nodes.result (slice_index c.args.firsts.now to) c.args.starts.now c.requires.starts c.nodes-nodes.ensures.value fy in
+    let sx = step_of net blocks true x c.requires.split.is_net c.requires.split.can_split c.requires.arc kx in
+    let sy = step_of net blocks true y c.requires.split.is_net c.requires.split.can_split c.requires.arc ky in
+    let bx = outer_base net blocks (block_of net blocks (near net x)) c.nodes-nodes.result (slice_index c.args.split.now.firsts.now from) c.args.split.now.starts.now c.requires.split.starts_are c.nodes-nodes.ensures.value fx in
+    let bz = outer_base net blocks (block_of net blocks (near net y)) c.nodes-nodes.result (slice_index c.args.split.now.firsts.now to) c.args.split.now.starts.now c.requires.split.starts_are c.nodes-nodes.ensures.value fy in
     let rx = c.requires.slots.rest x c.requires.arc (omega arith) in
     let ry = c.requires.slots.rest y c.requires.arc (omega arith) in
     let em : length c.arcs-arcs.result.now ≡ length net.arcs = ap length c.arcs-arcs.ensures.value in
@@ -654,8 +654,8 @@ returns-else-from-to-clause-slots c =
 
 pub returns-else-from-to-clause-lists : goal.returns-else-from-to-clause-lists
 returns-else-from-to-clause-lists c =
-    let net = c.args.net.now in
-    let blocks = c.args.blocks in
+    let net = c.args.split.now.net.now in
+    let blocks = c.args.split.now.blocks in
     let n = nodes net in
     let k = c.args.arc in
     let x = forward k in
@@ -665,35 +665,35 @@ returns-else-from-to-clause-lists c =
     let to = c.home_of-to.result in
     let ex : from ≡ block_of net blocks (near net x) = c.home_of-from.ensures.value ∙ ap (block_of net blocks) c.near.ensures.value in
     let ey : to ≡ block_of net blocks (near net y) = c.home_of-to.ensures.value ∙ ap (block_of net blocks) c.far.ensures.value in
-    let fx = first_read net blocks (near net x) from c.args.firsts.now c.requires.firsts ex c.home_of-from.ensures.below in
-    let fy = first_read net blocks (near net y) to c.args.firsts.now c.requires.firsts ey c.home_of-to.ensures.below in
+    let fx = first_read net blocks (near net x) from c.args.split.now.firsts.now c.requires.split.firsts_are ex c.home_of-from.ensures.below in
+    let fy = first_read net blocks (near net y) to c.args.split.now.firsts.now c.requires.split.firsts_are ey c.home_of-to.ensures.below in
     let kx = across net blocks x from to ex ey c.if-from-to.false in
     let ky = across net blocks y to from ey ex (λ e. c.if-from-to.false (sym e)) in
-    let sx = step_of net blocks true x c.requires.net c.requires.split c.requires.arc kx in
-    let sy = step_of net blocks true y c.requires.net c.requires.split c.requires.arc ky in
-    let bx = outer_base net blocks (block_of net blocks (near net x)) c.nodes-nodes.result (slice_index c.args.firsts.now from) c.args.starts.now c.requires.starts c.nodes-nodes.ensures.value fx in
-    let bz = outer_base net blocks (block_of net blocks (near net y)) c.nodes-nodes.result (slice_index c.args.firsts.now to) c.args.starts.now c.requires.starts c.nodes-nodes.ensures.value fy in
+    let sx = step_of net blocks true x c.requires.split.is_net c.requires.split.can_split c.requires.arc kx in
+    let sy = step_of net blocks true y c.requires.split.is_net c.requires.split.can_split c.requires.arc ky in
+    let bx = outer_base net blocks (block_of net blocks (near net x)) c.nodes-nodes.result (slice_index c.args.split.now.firsts.now from) c.args.split.now.starts.now c.requires.split.starts_are c.nodes-nodes.ensures.value fx in
+    let bz = outer_base net blocks (block_of net blocks (near net y)) c.nodes-nodes.result (slice_index c.args.split.now.firsts.now to) c.args.split.now.starts.now c.requires.split.starts_are c.nodes-nodes.ensures.value fy in
     let rx = c.requires.slots.rest x c.requires.arc (omega arith) in
     let ry = c.requires.slots.rest y c.requires.arc (omega arith) in
     let em : length c.arcs-arcs.result.now ≡ length net.arcs = ap length c.arcs-arcs.ensures.value in
     let there = back_read net c.args.slots.now c.take_slot-forth_slot-else-from-to.new.slots k _ (length c.arcs-arcs.result.now) em c.requires.arc c.take_slot-forth_slot-else-from-to.ensures.slots in
     let es : c.take_slot-forth_slot-else-from-to.result ≡ slice_index rows.slots (index_of net x) = omega (arith, c.take_slot-forth_slot-else-from-to.ensures.value, rx, bx, sx.slot) in
     let et : c.take_slot-back_slot-else-from-to.result ≡ slice_index rows.slots (index_of net y) = omega (arith, c.take_slot-back_slot-else-from-to.ensures.value, there, ry, bz, sy.slot) in
-    let ready = ready_made net blocks c.requires.net c.requires.split in
+    let ready = ready_made net blocks c.requires.split.is_net c.requires.split.can_split in
     let lf : from < length c.args.lists.now = omega (arith, c.home_of-from.ensures.below, c.requires.lists.many) in
     let old = get_or_default c.args.lists.now from c.index-lists-from-else-from-to.result no_rows lf in
     let room_x = border_room net blocks rows (ranks_made net blocks) (λ y. y.arc < k) c.args.lists.now x from _ c.requires.lists ex c.home_of-from.ensures.below sx es in
-    let held = held_border net blocks rows (λ y. y.arc < k) c.args.lists.now x from c.take_slot-forth_slot-else-from-to.result (border_by net (slice_index c.args.firsts.now from) to c.take_slot-back_slot-else-from-to.result x) c.put_border.new.list ready c.requires.lists c.requires.arc kx ex c.home_of-from.ensures.below es
-    (same_border net x (slice_index c.args.firsts.now from) _ to _ c.take_slot-back_slot-else-from-to.result _ fx ey et)
-    (ap (λ (r : BlockRows). r.borders) c.put_border.ensures ∙ ap (λ (r : BlockRows). set r.borders c.take_slot-forth_slot-else-from-to.result (border_by net (slice_index c.args.firsts.now from) to c.take_slot-back_slot-else-from-to.result x)) old)
+    let held = held_border net blocks rows (λ y. y.arc < k) c.args.lists.now x from c.take_slot-forth_slot-else-from-to.result (border_by net (slice_index c.args.split.now.firsts.now from) to c.take_slot-back_slot-else-from-to.result x) c.put_border.new.list ready c.requires.lists c.requires.arc kx ex c.home_of-from.ensures.below es
+    (same_border net x (slice_index c.args.split.now.firsts.now from) _ to _ c.take_slot-back_slot-else-from-to.result _ fx ey et)
+    (ap (λ (r : BlockRows). r.borders) c.put_border.ensures ∙ ap (λ (r : BlockRows). set r.borders c.take_slot-forth_slot-else-from-to.result (border_by net (slice_index c.args.split.now.firsts.now from) to c.take_slot-back_slot-else-from-to.result x)) old)
     (ap (λ (r : BlockRows). r.lanes) c.put_border.ensures ∙ ap (λ (r : BlockRows). r.lanes) old) room_x in
     let D = λ (z : Direction). (z.arc < k) ⊎ (z ≡ x) in
     let lists = set c.args.lists.now from c.put_border.new.list in
     let room_y = border_room net blocks rows (ranks_made net blocks) D lists y to _ held ey c.home_of-to.ensures.below sy et in
     let lt : to < length lists = omega (arith, c.home_of-to.ensures.below, held.many) in
     let old_y = get_or_default lists to c.index-lists-to-else-from-to.result no_rows lt in
-    let held_y = held_border net blocks rows D lists y to c.take_slot-back_slot-else-from-to.result (border_by net (slice_index c.args.firsts.now to) from c.take_slot-forth_slot-else-from-to.result y) c.put_border-else-from-to.new.list ready held c.requires.arc ky ey c.home_of-to.ensures.below et
-    (same_border net y (slice_index c.args.firsts.now to) _ from _ c.take_slot-forth_slot-else-from-to.result _ fy ex es)
-    (ap (λ (r : BlockRows). r.borders) c.put_border-else-from-to.ensures ∙ ap (λ (r : BlockRows). set r.borders c.take_slot-back_slot-else-from-to.result (border_by net (slice_index c.args.firsts.now to) from c.take_slot-forth_slot-else-from-to.result y)) old_y)
+    let held_y = held_border net blocks rows D lists y to c.take_slot-back_slot-else-from-to.result (border_by net (slice_index c.args.split.now.firsts.now to) from c.take_slot-forth_slot-else-from-to.result y) c.put_border-else-from-to.new.list ready held c.requires.arc ky ey c.home_of-to.ensures.below et
+    (same_border net y (slice_index c.args.split.now.firsts.now to) _ from _ c.take_slot-forth_slot-else-from-to.result _ fy ex es)
+    (ap (λ (r : BlockRows). r.borders) c.put_border-else-from-to.ensures ∙ ap (λ (r : BlockRows). set r.borders c.take_slot-back_slot-else-from-to.result (border_by net (slice_index c.args.split.now.firsts.now to) from c.take_slot-forth_slot-else-from-to.result y)) old_y)
     (ap (λ (r : BlockRows). r.lanes) c.put_border-else-from-to.ensures ∙ ap (λ (r : BlockRows). r.lanes) old_y) room_y in
     held_less net blocks rows (λ z. D z ⊎ (z ≡ y)) (λ z. z.arc < k + 1) _ (arc_done k) held_y

@@ -3,7 +3,7 @@ use Rattle.block_net.specs.Views.{first_lane}
 use Rattle.block_turns.specs.Seen.{WaysView}
 use Rattle.block_net.specs.Views.{MayPush}
 use Rattle.block_turns.specs.Works.{DoesEvents}
-use Rattle.block_turns.proofs.visits.push_all.Given as goal
+use Rattle.block_turns.proofs.one_node.push_all.Given as goal
 
 abbrev pub invariant-lanes : goal.invariant-lanes
 invariant-lanes l = record {

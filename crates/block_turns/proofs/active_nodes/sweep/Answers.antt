@@ -3,7 +3,7 @@ use Rattle.block_net.specs.Views.{CellsView, count}
 use Rattle.block_turns.specs.Standing.{BucketedView, IsAside}
 use Rattle.block_turns.specs.Works.{IsIdle}
 use Rattle.block_turns.proofs.Runs.{does_more, idle_look}
-use Rattle.block_turns.proofs.passes.sweep.Goals as goal
+use Rattle.block_turns.proofs.active_nodes.sweep.Goals as goal
 
 pub passes-preserved : goal.passes-preserved
 passes-preserved g c =

@@ -1,9 +1,9 @@
-ghost use Rattle.std.specs.Prelude.{◌≡◌, ◌<◌, ◌≤◌, ℕ};
+//! The active nodes of a block, discharged one after another.
+ghost use Rattle.std.specs.Prelude.{◌≡◌, ◌<◌, ◌≤◌};
 ghost use Rattle.block_net.specs.Views.{count};
-ghost use Rattle.block_turns.specs.Standing.{IsAside};
-ghost use Rattle.block_turns.specs.Works.{DoesEvents, IsIdle};
+ghost use Rattle.block_turns.specs.Works.{DoesEvents, AreIdle};
 
-use crate::visits::{push_on, visit};
+use crate::one_node::{push_on, visit};
 use crate::{Bucketed, Ways};
 
 /// A node passes on what it has, where it is an active node of the block: at most `limit` events.
@@ -63,9 +63,7 @@ fn pass<W: Ways>(cells: &mut Bucketed, ways: &mut W, limit: u32) -> (u32, u32)
     ensures rises { result.1 ≤ result.0 }
     ensures does { DoesEvents cells.old.block (W.seen ways.old) result.0 cells.new.block
         (W.seen ways.new) }
-    ensures idle { result.0 ≡ 0 → 0 < limit
-        → ((v : ℕ) → v < count cells.old.block → ¬ IsAside cells.old v)
-        → (v : ℕ) → IsIdle cells.old.block (W.seen ways.old) v }
+    ensures idle { result.0 ≡ 0 → 0 < limit → AreIdle cells.old (W.seen ways.old) }
 {
     'nodes: while let Some(v) = cells.highest() {
         let (did, rises) = visit(cells, ways, v, limit);
@@ -89,9 +87,7 @@ fn sweep<W: Ways>(cells: &mut Bucketed, ways: &mut W, limit: u32, most: usize) -
     ensures rises { result.1 ≤ result.0 }
     ensures does { DoesEvents cells.old.block (W.seen ways.old) result.0 cells.new.block
         (W.seen ways.new) }
-    ensures idle { result.0 ≡ 0 → 0 < limit
-        → ((v : ℕ) → v < count cells.old.block → ¬ IsAside cells.old v)
-        → (v : ℕ) → IsIdle cells.old.block (W.seen ways.old) v }
+    ensures idle { result.0 ≡ 0 → 0 < limit → AreIdle cells.old (W.seen ways.old) }
 {
     let mut all_rises = 0;
     let mut count = 0;
@@ -128,9 +124,7 @@ pub(crate) fn work<W: Ways>(
     ensures rises { result.1 ≤ result.0 }
     ensures does { DoesEvents cells.old.block (W.seen ways.old) result.0 cells.new.block
         (W.seen ways.new) }
-    ensures idle { result.0 ≡ 0 → 0 < limit
-        → ((v : ℕ) → v < count cells.old.block → ¬ IsAside cells.old v)
-        → (v : ℕ) → IsIdle cells.old.block (W.seen ways.old) v }
+    ensures idle { result.0 ≡ 0 → 0 < limit → AreIdle cells.old (W.seen ways.old) }
 {
     let mut all_rises = 0;
     let mut count = 0;

@@ -5,7 +5,7 @@ use Rattle.block_turns.specs.Standing.{BucketedView, IsAside, waiting_count}
 use Rattle.block_turns.specs.Works.{DoesEvents, IsIdle}
 use Rattle.block_turns.proofs.Runs.{does_look, does_more, does_as, look_more, idle_look}
 use Rattle.block_turns.proofs.Passing.{active_idle}
-use Rattle.block_turns.proofs.passes.pass.Goals as goal
+use Rattle.block_turns.proofs.active_nodes.pass.Goals as goal
 
 pub nodes-preserved : goal.nodes-preserved
 nodes-preserved g c =

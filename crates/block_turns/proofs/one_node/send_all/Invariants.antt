@@ -2,7 +2,7 @@ use Rattle.std.proofs.Common.{◌≡◌, ℕ, ◌<◌, ◌≤◌}
 use Rattle.block_net.specs.Views.{first_border}
 use Rattle.block_turns.specs.Steps.{IsSure, Send}
 use Rattle.block_turns.specs.Works.{DoesEvents}
-use Rattle.block_turns.proofs.visits.send_all.Given as goal
+use Rattle.block_turns.proofs.one_node.send_all.Given as goal
 
 abbrev pub invariant-borders : goal.invariant-borders
 invariant-borders g l = record {

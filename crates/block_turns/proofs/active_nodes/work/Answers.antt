@@ -3,7 +3,7 @@ use Rattle.block_net.specs.Views.{CellsView, count}
 use Rattle.block_turns.specs.Standing.{BucketedView, IsAside}
 use Rattle.block_turns.specs.Works.{DoesEvents, IsIdle}
 use Rattle.block_turns.proofs.Runs.{does_more, idle_look}
-use Rattle.block_turns.proofs.passes.work.Goals as goal
+use Rattle.block_turns.proofs.active_nodes.work.Goals as goal
 
 pub sweeps-preserved : goal.sweeps-preserved
 sweeps-preserved g c =

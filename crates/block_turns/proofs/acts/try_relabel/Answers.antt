@@ -1,7 +1,7 @@
 use Rattle.std.proofs.Common.{◌<◌, arith}
 use Rattle.block_net.specs.Views.{label_in}
 use Rattle.block_turns.proofs.Doing.{done_rise, does_rise}
-use Rattle.block_turns.proofs.acts.try_rise.Goals as goal
+use Rattle.block_turns.proofs.acts.try_relabel.Goals as goal
 
 pub returns-clause-does : goal.returns-clause-does
 returns-clause-does c =

@@ -1,6 +1,6 @@
 use Rattle.std.proofs.Common.{◌∙◌, arith}
 use Rattle.block_turns.proofs.Runs.{does_more}
-use Rattle.block_turns.proofs.passes.push_wave.Goals as goal
+use Rattle.block_turns.proofs.active_nodes.push_wave.Goals as goal
 
 pub wave-preserved : goal.wave-preserved
 wave-preserved g c =

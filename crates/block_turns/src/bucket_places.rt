@@ -1,4 +1,5 @@
-ghost use Rattle.std.specs.Prelude.{◌≡◌, ◌↔◌, ◌<◌, ℕ, IsTrue};
+//! Where a node stands once its excess or its label may have changed.
+ghost use Rattle.std.specs.Prelude.{◌↔◌, ◌<◌, IsTrue};
 ghost use Rattle.block_net.specs.Views.{count};
 ghost use Rattle.block_turns.specs.Active.{IsActiveInBlock};
 ghost use Rattle.block_turns.specs.Standing.{MayStand, IsFit, IsRenewed};

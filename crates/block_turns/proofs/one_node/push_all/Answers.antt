@@ -4,7 +4,7 @@ use Rattle.block_net.specs.Views.{CellsView}
 use Rattle.block_net.specs.Views.{MayPush}
 use Rattle.block_turns.specs.Active.{IsActiveInBlock}
 use Rattle.block_turns.proofs.Runs.{no_seen, does_more}
-use Rattle.block_turns.proofs.visits.push_all.Goals as goal
+use Rattle.block_turns.proofs.one_node.push_all.Goals as goal
 
 pub is_active-requires : goal.is_active-requires
 is_active-requires c = omega (arith, c.requires.node, (c.lanes.invariant.does no_seen).alike.count)

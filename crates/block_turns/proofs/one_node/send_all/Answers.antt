@@ -3,7 +3,7 @@ use Rattle.std.proofs.lemmas.Bool.{cases_lt}
 use Rattle.block_net.specs.Views.{CellsView}
 use Rattle.block_turns.specs.Steps.{IsSure, Send}
 use Rattle.block_turns.proofs.Runs.{does_more}
-use Rattle.block_turns.proofs.visits.send_all.Goals as goal
+use Rattle.block_turns.proofs.one_node.send_all.Goals as goal
 
 pub borders-preserved : goal.borders-preserved
 borders-preserved g c =

@@ -1,6 +1,6 @@
 use Rattle.std.proofs.Common.{◌≡◌, ◌≤◌}
 use Rattle.block_turns.specs.Works.{DoesEvents}
-use Rattle.block_turns.proofs.passes.work.Given as goal
+use Rattle.block_turns.proofs.active_nodes.work.Given as goal
 
 abbrev pub invariant-sweeps : goal.invariant-sweeps
 invariant-sweeps g l = record {

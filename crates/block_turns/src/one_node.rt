@@ -1,10 +1,11 @@
+//! One node, discharged: its excess goes on, and then it is relabelled.
 ghost use Rattle.std.specs.Prelude.{◌≡◌, ◌<◌, ◌≤◌, ℕ};
 ghost use Rattle.block_net.specs.Views.{count};
 ghost use Rattle.block_turns.specs.Seen.{WaysView};
-ghost use Rattle.block_turns.specs.Steps.{IsStepEnabled, IsSure, Push, Give, Rise, Send};
+ghost use Rattle.block_turns.specs.Steps.{IsStepEnabled, IsSure, Push, Give, Relabel, Send};
 ghost use Rattle.block_turns.specs.Works.{DoesEvents, IsIdle, IsStuckInBlock};
 
-use crate::acts::{try_give, try_push, try_rise, try_send};
+use crate::acts::{try_give, try_push, try_relabel, try_send};
 use crate::{Bucketed, Ways};
 
 /// A node's excess goes to the sink, where that is enabled: at most `limit` events.
@@ -22,17 +23,17 @@ fn give_once(cells: &mut Bucketed, v: usize, limit: u32) -> u32
 }
 
 /// A node gets a higher label, where that is enabled: at most `limit` events.
-fn rise_once(cells: &mut Bucketed, v: usize, limit: u32) -> u32
+fn relabel_once(cells: &mut Bucketed, v: usize, limit: u32) -> u32
     requires { v < count cells.old.block }
     ensures few { result ≤ limit }
     ensures still { result ≡ 0 → cells.new ≡ cells.old }
     ensures does { (s : WaysView) → DoesEvents cells.old.block s result cells.new.block s }
-    ensures idle { result ≡ 0 → 0 < limit → ¬ IsStepEnabled cells.old.block (Rise v) }
+    ensures idle { result ≡ 0 → 0 < limit → ¬ IsStepEnabled cells.old.block (Relabel v) }
 {
     if limit == 0 || !cells.is_active(v) {
         return 0;
     }
-    try_rise(cells, v)
+    try_relabel(cells, v)
 }
 
 /// A node's excess goes along its directions within the block, where that is enabled: at most
@@ -114,6 +115,6 @@ pub(crate) fn visit<W: Ways>(cells: &mut Bucketed, ways: &mut W, v: usize, limit
     ensures idle { result.0 ≡ 0 → 0 < limit → IsIdle cells.old.block (W.seen ways.old) v }
 {
     let pushes = push_on(cells, ways, v, limit);
-    let rises = rise_once(cells, v, limit - pushes);
+    let rises = relabel_once(cells, v, limit - pushes);
     (pushes + rises, rises)
 }

@@ -1,6 +1,6 @@
 use Rattle.std.proofs.Common.{arith}
 use Rattle.block_turns.proofs.Runs.{no_seen, push_does, push_stuck}
-use Rattle.block_turns.proofs.visits.push_on.Goals as goal
+use Rattle.block_turns.proofs.one_node.push_on.Goals as goal
 
 pub push_all-pushes-requires : goal.push_all-pushes-requires
 push_all-pushes-requires g c = omega (arith, c.requires, (c.give_once-gifts.ensures.does no_seen).alike.count)

@@ -1,7 +1,7 @@
 use Rattle.std.proofs.Common.{◌≡◌, ◌⊎◌, ℕ, ◌<◌}
 use Rattle.block_turns.specs.Standing.{IsAside, waiting_count}
 use Rattle.block_turns.specs.Works.{DoesEvents, IsIdle}
-use Rattle.block_turns.proofs.passes.pass.Given as goal
+use Rattle.block_turns.proofs.active_nodes.pass.Given as goal
 
 abbrev pub decreases-nodes : goal.decreases-nodes
 decreases-nodes g l = waiting_count l.cells
