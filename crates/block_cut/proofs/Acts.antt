@@ -62,7 +62,7 @@ give_goes w b h p got seat on =
       seated = seat_after w b B new (blocks_after_sink_push v u a) seat then' (length-set B.excess p _) refl refl;
     }
 
-pub rise_goes : (w : Whole) (b : ℕ) (h : TurnView) (p got : ℕ) → IsSeated w b h.block → steps.IsStepEnabled h.block (steps.Rise p) → Goes w b h (turn_after h (steps.Rise p)) got
+pub rise_goes : (w : Whole) (b : ℕ) (h : TurnView) (p got : ℕ) → IsSeated w b h.block → steps.IsStepEnabled h.block (steps.Relabel p) → Goes w b h (turn_after h (steps.Relabel p)) got
 rise_goes w b h p got seat on =
     let B = h.block in
     let w1 = put_block w b B in

@@ -1,7 +1,7 @@
 -- What the first pushes keep of a block and of the blocks of a net.
-use Rattle.std.proofs.Common.{◌≡◌, ℕ, ◌+◌, ◌-◌, ◌<◌, ◌≤◌, List, length, set, slice_set, slice_index, slice_index_or, sum, refl, sym, ◌∙◌, ap, subst, inl, inr, arith, get_or-set_other}
+use Rattle.std.proofs.Common.{◌≡◌, ℕ, zero, suc, ◌+◌, ◌-◌, ◌<◌, ◌≤◌, List, length, set, slice_set, slice_index, slice_index_or, sum, refl, sym, ◌∙◌, ap, subst, inl, inr, arith, get_or-set_other}
 use Rattle.std.proofs.lemmas.Bool.{cases_eq}
-use Rattle.std.proofs.lemmas.List.{length-set, get_or_read_under, get_or-replicate}
+use Rattle.std.proofs.lemmas.List.{ext_get_or, length-set, get_or-set_same, get_or_read_under, get_or-replicate}
 use Rattle.flow_network.specs.Cut.{Network, nodes}
 use Rattle.block_events.specs.declared.message.Message.{Message}
 use Rattle.block_events.specs.States.{State, label_of}
@@ -96,6 +96,48 @@ pub turn_opened : (p : Pieces) (blocks : List CellsView) (k b : ℕ) (old new : 
 turn_opened p blocks k b old new opening size l is opens =
     block_opened p blocks opening b new (omega (arith, size, l))
     (subst (λ (q : CellsView). Opens q new) (get_or_read_under blocks b k old no_block is l size) opens)
+
+-- ---- all blocks side by side
+
+-- of the blocks the first k are the new ones
+abbrev mix : List CellsView → List CellsView → ℕ → List CellsView
+mix old new zero = old
+mix old new (suc k) = set (mix old new k) k (slice_index_or new k no_block)
+
+mix_long : (old new : List CellsView) (k : ℕ) → length (mix old new k) ≡ length old
+mix_long old new zero = refl
+mix_long old new (suc k) = length-set (mix old new k) k (slice_index_or new k no_block) ∙ mix_long old new k
+
+mix_after : (old new : List CellsView) (k i : ℕ) → k ≤ i → slice_index_or (mix old new k) i no_block ≡ slice_index_or old i no_block
+mix_after old new zero i l = refl
+mix_after old new (suc k) i l =
+    get_or-set_other (mix old new k) k i (slice_index_or new k no_block) no_block (omega (arith, l)) ∙ mix_after old new k i (omega (arith, l))
+
+mix_before : (old new : List CellsView) (k i : ℕ) → i < k → i < length old → slice_index_or (mix old new k) i no_block ≡ slice_index_or new i no_block
+mix_before old new zero i l li = absurd (omega (arith, l))
+mix_before old new (suc k) i l li = elim (cases_eq i k) [
+  | inl e ↦ rw e (get_or-set_same (mix old new k) k (slice_index_or new k no_block) no_block (omega (arith, li, e, mix_long old new k)))
+  | inr off ↦
+      get_or-set_other (mix old new k) k i (slice_index_or new k no_block) no_block off ∙ mix_before old new k i (omega (arith, l, off)) li
+]
+
+module _ (p : Pieces) (old new : List CellsView) (opening : AreOpening p old) (long : length new ≡ length old)
+    (each : (b : ℕ) → b < length old → Opens (slice_index_or old b no_block) (slice_index_or new b no_block)) where
+  mix_opened : (k : ℕ) → k ≤ length old → AreOpening p (mix old new k)
+  mix_opened zero l = opening
+  mix_opened (suc k) l =
+      let lk : k < length old = omega (arith, l) in
+      block_opened p (mix old new k) (mix_opened k (omega (arith, l))) k (slice_index_or new k no_block) (omega (arith, lk, mix_long old new k))
+      (subst (λ (B : CellsView). Opens B (slice_index_or new k no_block)) (sym (mix_after old new k k (omega arith))) (each k lk))
+
+  mixed : mix old new (length old) ≡ new
+  mixed = ext_get_or no_block (mix old new (length old)) new (mix_long old new (length old) ∙ sym long)
+      (λ i l.
+      let li : i < length old = omega (arith, l, mix_long old new (length old)) in
+      mix_before old new (length old) i li li)
+
+  pub all_opened : AreOpening p new
+  all_opened = subst (AreOpening p) mixed (mix_opened (length old) (omega arith))
 
 -- ---- at first
 

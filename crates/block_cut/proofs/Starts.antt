@@ -98,8 +98,8 @@ start_rise w b got h u seat may =
     let spot = node_spot w b B ways got u seat may.0 on.0 in
     let is : highest B p ≡ events.highest_label (state_of v ways got) u = highest_is w1 v b B u p at spot in
     let higher : label_in B p < highest B p = omega (arith, on.1, is, label_read w1 v b B u p at spot) in
-    let enabled : steps.IsStepEnabled B (steps.Rise p) = (still_active w1 v b B ways got u p at spot on.0, higher) in
-    (steps.Rise p, enabled, (λ s. enabled))
+    let enabled : steps.IsStepEnabled B (steps.Relabel p) = (still_active w1 v b B ways got u p at spot on.0, higher) in
+    (steps.Relabel p, enabled, (λ s. enabled))
 
 start_send : (w : Whole) (b got : ℕ) (h : TurnView) (x : Direction) (s : WaysView) → IsSeated w b h.block → HasRoom h.block s → MayStart b (shown_by w b h got) (Send x) → (e : Step) × IsSure h.block s e
 start_send w b got h x s seat room may =

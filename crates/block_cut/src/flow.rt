@@ -1,3 +1,4 @@
+//! What each arc carries, read from the blocks.
 ghost use Rattle.std.specs.Prelude.{◌≡◌, ◌+◌, ◌-◌, ◌*◌, ◌<◌, ℕ, IfOk, length, slice_index};
 ghost use Rattle.flow_network.specs.Cut.{nodes};
 ghost use Rattle.flow_network.specs.Preflow.{flow_by, arc_at};

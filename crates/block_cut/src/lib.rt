@@ -3,7 +3,8 @@
 //! `solve` opens a net in one block, and `finish` goes on from any state of the core (`block_core`)
 //! to the end: whatever the blocks did before, with messages on the way and labels that are not
 //! exact, the answer is the same. `take_in` takes what is on the way. The steps of `finish` that
-//! others take too are `push_first`, `answer_of` and `least_side`.
+//! others take too are `push_first`, here over the blocks side by side, `answer_of` and
+//! `least_side`.
 //!
 //! `block_turns` says what a block did in the block's own terms: places of its lists, and messages.
 //! The laws of `histories` say the same in terms of the net: events of the core (`block_events`)
@@ -13,21 +14,21 @@
 //! are a round, so they show a sound state, and each stands in its seat for the next round.
 #![tactic(auto)]
 
-mod answers;
-mod ends;
 mod flow;
 pub mod histories;
 pub mod loose;
+mod messages;
 mod opening;
 mod orders;
 mod passes;
 pub mod seats;
+mod solution;
 mod solver;
-mod takes;
 mod turns;
+mod way_ends;
 
-pub use answers::{answer_of, least_side};
 pub use flow::flow_of;
+pub use messages::take_in;
 pub use opening::push_first;
+pub use solution::{answer_of, least_side};
 pub use solver::{finish, finish_side, solve};
-pub use takes::take_in;

@@ -1,17 +1,18 @@
-ghost use Rattle.std.specs.Prelude.{◌≡◌, ◌<◌, IsTrue, length};
+//! First pushes within a block, before there are labels.
+ghost use Rattle.std.specs.Prelude.{◌≡◌, ◌<◌, ℕ, IsTrue, length, slice_index_or};
 ghost use Rattle.block_events.specs.Events.{IsQuiet};
 ghost use Rattle.block_core.specs.Mails.{IsHeld};
 ghost use Rattle.block_core.specs.Pieces.{state_in};
-ghost use Rattle.laid_blocks.specs.Views.{IsLaid};
-ghost use Rattle.block_net.specs.Views.{count};
-ghost use Rattle.block_net.specs.Whole.{whole_of};
+ghost use Rattle.block_net.specs.Views.{CellsView, count};
 ghost use Rattle.block_turns.specs.Steps.{IsOfNode};
 ghost use Rattle.block_cut.specs.Opening.{Opens, AreOpening, AreLabelsZero, IsFlat};
 
-use crate::takes::take_in;
+use crate::messages::take_in;
 use block_core::{Pieces, State};
 use block_net::Cells;
 use std::snapshot::Snapshot;
+use std::thread;
+use std::thread::Threads;
 
 /// Gives the sink what it can take of the node's excess.
 fn give(cells: &mut Cells, v: usize)
@@ -103,6 +104,29 @@ fn open_blocks(old: &Snapshot<Pieces>, blocks: &mut Vec<Cells>)
     }
 }
 
+/// The passes over each of the blocks, side by side, by at most so many threads.
+fn open_each<R: Threads + Sync>(rt: &R, threads: usize, blocks: &mut [Cells])
+    requires { 0 < threads }
+    ensures { (b : ℕ) (d : CellsView) → b < length blocks.old
+        → Opens (slice_index_or blocks.old b d) (slice_index_or blocks.new b d) }
+{
+    thread::for_each_mut(rt, blocks, threads, &|_block, cells| open_block(cells));
+}
+
+/// The same for the blocks of a state.
+fn open_side_by_side<R: Threads + Sync>(
+    rt: &R,
+    threads: usize,
+    old: &Snapshot<Pieces>,
+    blocks: &mut [Cells],
+)
+    requires threads { 0 < threads }
+    requires opening { AreOpening old.now.value blocks.old }
+    ensures { AreOpening old.now.value blocks.new }
+{
+    open_each(rt, threads, blocks);
+}
+
 /// The state that the pieces make with what the sink got by what the blocks hold. Takes no memory.
 fn state_of(old: &Snapshot<Pieces>, pieces: Pieces) -> State
     requires held { IsHeld old.now.value.ways.rooms (state_in old.now.value) }
@@ -144,14 +168,43 @@ fn are_labels_zero(state: &State) -> bool
 /// The state after the first pushes within its blocks, with no message on the way: each node gives
 /// the sink what it takes, and what is left goes on to neighbours within the block and by them to
 /// the sink, where all labels are 0; else the flow stays as it is. Before a first search from the
-/// sink this is worth several of them. No clause says how far excess goes. Takes no memory.
-pub fn push_first(state: State) -> State
+/// sink this is worth several of them. No clause says how far excess goes.
+///
+/// The blocks do so side by side, in at most so many threads. A thread that the system does not
+/// start leaves its blocks to the one that asked for it. Takes no memory.
+pub fn push_first<R: Threads + Sync>(rt: &R, state: State, threads: usize) -> State
+    requires { 0 < threads }
     ensures net { result.net ≡ state.net }
     ensures quiet { IsQuiet result }
 {
-    let mut state = open_if_new(state);
+    let mut state = open_new_side_by_side(rt, state, threads);
     take_in(&mut state);
     state
+}
+
+/// The state after the first pushes within its blocks, side by side, where all labels are 0; else
+/// the state as it is.
+fn open_new_side_by_side<R: Threads + Sync>(rt: &R, state: State, threads: usize) -> State
+    requires { 0 < threads }
+    ensures { result.net ≡ state.net }
+{
+    if are_labels_zero(&state) {
+        open_by_threads(rt, state, threads)
+    } else {
+        state
+    }
+}
+
+/// The state after the first pushes within its blocks, by at most so many threads.
+fn open_by_threads<R: Threads + Sync>(rt: &R, state: State, threads: usize) -> State
+    requires threads { 0 < threads }
+    requires zero { AreLabelsZero state }
+    ensures { result.net ≡ state.net }
+{
+    let mut pieces = state.into_pieces();
+    let old = Snapshot::of(&pieces);
+    open_side_by_side(rt, threads, &old, pieces.parts.blocks.as_mut_slice());
+    state_of(&old, pieces)
 }
 
 /// The state after the first pushes within its blocks, where all labels are 0; else the state as it

@@ -1,3 +1,4 @@
+//! In which order the nodes pass on their excess after a search.
 ghost use Rattle.std.specs.Prelude.{◌≤◌, length};
 
 use block_net::{Cells, Parts};

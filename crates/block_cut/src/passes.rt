@@ -1,3 +1,4 @@
+//! Passes of turns over all blocks, until none does an event.
 ghost use Rattle.std.specs.Prelude.{◌≡◌, ◌+◌, ◌<◌, ◌≤◌, ℕ, IfOk, IsFalse, length};
 ghost use Rattle.sums.specs.Sums.{count_if};
 ghost use Rattle.block_events.specs.Events.{IsQuiet};

@@ -1,3 +1,4 @@
+//! The least cut of a net in blocks, on one thread.
 ghost use Rattle.std.specs.Prelude.{◌≡◌, ◌<◌, ◌≤◌, IfOk, length};
 ghost use Rattle.flow_network.specs.Limits.{capacity_limit};
 ghost use Rattle.flow_network.specs.Cut.{nodes, set_of, IsSmallestLeastCut};
@@ -6,10 +7,10 @@ ghost use Rattle.block_events.specs.Reach.{AreExact};
 ghost use Rattle.block_events.specs.Events.{IsQuiet};
 ghost use Rattle.block_events.specs.Soundness.{IsSound, IsFinished, potential};
 
-use crate::answers::{answer_of, least_side};
+use crate::messages::take_in;
 use crate::opening::open_if_new;
 use crate::passes::work;
-use crate::takes::take_in;
+use crate::solution::{answer_of, least_side};
 use block_core::State;
 use block_net::ARC_LIMIT;
 use flow_network::{Net, Solved};

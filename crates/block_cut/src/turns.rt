@@ -1,3 +1,4 @@
+//! A turn of a block over the core's ways.
 ghost use Rattle.std.specs.Prelude.{◌≡◌, ◌*◌, ◌<◌, ◌≤◌, length};
 ghost use Rattle.block_events.specs.Soundness.{IsSquare};
 ghost use Rattle.block_net.specs.Limits.{arc_limit};
@@ -5,7 +6,7 @@ ghost use Rattle.block_turns.specs.Steps.{Step, IsSure};
 ghost use Rattle.block_cut.specs.Ends.{seen_by, ends_view};
 ghost use Rattle.block_cut.specs.Turns.{ReachesFrom};
 
-use crate::ends::Ends;
+use crate::way_ends::Ends;
 use block_core::Mail;
 use block_turns::{Block, turn};
 

@@ -1,5 +1,6 @@
 -- What a book of turns says.
-use Rattle.std.specs.Prelude.{◌≡◌, ℕ, ◌+◌, Bool, true, not, List, replicate, slice_set, slice_get, Some}
+use Rattle.std.specs.Prelude.{◌≡◌, ℕ, ◌+◌, Bool, true, not, List, replicate, slice_set, slice_get}
+use Rattle.std.specs.Prelude.{Some}
 
 -- how many turns are left and how many were drawn; and of each block whether it is marked busy
 pub record Turns : Type 0 where

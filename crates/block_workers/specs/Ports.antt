@@ -1,7 +1,8 @@
 -- What a port shows, and what its calls do.
 use Rattle.std.specs.Prelude.{◌≡◌, ℕ, ◌+◌, ◌≤◌, List, [], ◌∷◌, ◌++◌, Option, slice_get}
 use mathlib.Core.List.{IsPrefix}
-use Rattle.rtrb.specs.Ring.{sent, received, known_free, known_items, producer_capacity, IsPair, SameProducer, SameConsumer}
+use Rattle.rtrb.specs.Ring.{sent, received, known_free, known_items, producer_capacity, IsPair}
+use Rattle.rtrb.specs.Ring.{SameProducer, SameConsumer}
 use Rattle.block_turns.specs.declared.letter.Letter.{Letter}
 use Rattle.block_workers.specs.declared.port.Port.{Port}
 

@@ -1,5 +1,6 @@
 -- What a block sees of its ports.
-use Rattle.std.specs.Prelude.{◌≡◌, ℕ, ◌<◌, ◌==◌, nat_lt, false, cond, List, [], ◌∷◌, length, map, slice_index, slice_get, Some, None}
+use Rattle.std.specs.Prelude.{◌≡◌, ℕ, ◌<◌, ◌==◌, nat_lt, false, cond, List, [], ◌∷◌, length, map}
+use Rattle.std.specs.Prelude.{slice_index, slice_get, Some, None}
 use Rattle.std.specs.List.{AllZip}
 use Rattle.block_events.specs.declared.message.Message.{Message}
 use Rattle.block_turns.specs.declared.letter.Letter.{Letter}

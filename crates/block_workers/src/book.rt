@@ -1,4 +1,5 @@
-ghost use Rattle.std.specs.Prelude.{◌≡◌, ◌+◌, ◌<◌, ◌≤◌, ◌↔◌, length, IfOk, IsTrue, MatchBool};
+//! The book from which workers draw turns, and in which blocks are marked idle or busy.
+ghost use Rattle.std.specs.Prelude.{◌≡◌, ◌+◌, ◌<◌, ◌≤◌, ◌↔◌, IfOk, IsTrue, MatchBool};
 ghost use Rattle.block_workers.specs.Book.{DrawsOne, HasBusy, with_mark, new_turns};
 
 use crate::Job;

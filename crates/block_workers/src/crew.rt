@@ -1,3 +1,4 @@
+//! Workers that run side by side, each in a thread of its own.
 ghost use Rattle.std.specs.Prelude.{◌≡◌, ◌<◌, ℕ, IfOk, slice_index_or, vec_capacity, vec_len};
 ghost use Rattle.block_workers.specs.Workers.{AllWorked, AreNew};
 ghost use Rattle.block_workers.specs.declared.crew.RoundError.TheVariants.{OutOfMemory};

@@ -1,6 +1,8 @@
-ghost use Rattle.std.specs.Prelude.{◌≡◌, ◌≤◌, ◌<◌, ◌^◌, length, All, IfOk, MatchOption};
+//! A block's ends of the rings to other blocks.
+ghost use Rattle.std.specs.Prelude.{◌≡◌, ◌<◌, IfOk, MatchOption};
 ghost use Rattle.block_turns.specs.Seen.{IsLook};
-ghost use Rattle.block_workers.specs.Seeing.{AreFound, AreRising, AreSame, IsPlaceOfPort, LeadNotTo, ways_of_ports};
+ghost use Rattle.block_workers.specs.Seeing.{AreFound, AreRising, AreSame, IsPlaceOfPort};
+ghost use Rattle.block_workers.specs.Seeing.{LeadNotTo, ways_of_ports};
 
 use crate::Port;
 use block_turns::Letter;

@@ -1,3 +1,4 @@
+//! The two ledgers with which the turns of a round are counted.
 use std::marker::PhantomData;
 use std::sync::ledger::Ledger;
 

@@ -1,5 +1,7 @@
+//! Two rings between two blocks, and what is left in them at the end.
 ghost use Rattle.std.specs.Prelude.{◌≡◌, ◌≤◌, ◌++◌, IfOk, length, vec_len, vec_capacity};
-ghost use Rattle.block_workers.specs.Ports.{IsNewPort, LeadsTo, Looks, TakesAll, capacity, letters_put, letters_taken, letters_waiting};
+ghost use Rattle.block_workers.specs.Ports.{IsNewPort, LeadsTo, Looks, TakesAll, capacity};
+ghost use Rattle.block_workers.specs.Ports.{letters_put, letters_taken, letters_waiting};
 
 use crate::port::Port;
 use crate::rule::Fair;

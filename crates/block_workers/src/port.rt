@@ -1,3 +1,4 @@
+//! One end of a ring to another block.
 ghost use Rattle.std.specs.Prelude.{◌≡◌, ◌<◌, ◌↔◌, IsSome, IsTrue};
 ghost use Rattle.block_events.specs.Workers.{IsFair};
 

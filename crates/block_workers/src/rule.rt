@@ -1,3 +1,4 @@
+//! The rule that letters of a ring keep.
 ghost use Rattle.block_events.specs.Workers.{IsFair};
 
 use block_turns::Letter;

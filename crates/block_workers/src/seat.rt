@@ -1,3 +1,4 @@
+//! A block with its ends, and its turns.
 ghost use Rattle.std.specs.Prelude.{◌≡◌, ◌≤◌, ◌+◌};
 ghost use Rattle.flow_network.specs.Limits.{node_limit};
 ghost use Rattle.block_net.specs.Views.{count};

@@ -1,3 +1,4 @@
+//! A block's ends in the course of one turn.
 ghost use Rattle.std.specs.Prelude.{◌≡◌, ◌<◌, ◌≤◌, true};
 ghost use Rattle.block_net.specs.Views.{count};
 ghost use Rattle.block_turns.specs.Steps.{DoesMany, IsSure, Step, turn_view};

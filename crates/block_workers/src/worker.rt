@@ -1,3 +1,4 @@
+//! A worker: the blocks that it was dealt, and its share of the turns.
 ghost use Rattle.std.specs.Prelude.{◌≡◌, ◌+◌, ◌<◌, ◌^◌, IfSome, MatchBool, vec_len};
 ghost use Rattle.block_workers.specs.Workers.{AllAdvanced, AllWorked, AreNew, turns_of};
 

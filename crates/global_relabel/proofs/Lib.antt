@@ -7,3 +7,4 @@ pub mod Homing
 pub mod Rooms
 pub mod Local
 pub mod Nearby
+pub mod Falling

@@ -1,9 +1,14 @@
-ghost use Rattle.std.specs.Prelude.{◌≡◌, ◌+◌, ◌<◌, ◌≤◌, ℕ, IfOk, IsTrue, length, slice_index};
+//! Labels that a block finds by itself, and then by what other blocks tell.
+ghost use Rattle.std.specs.Prelude.{◌≡◌, ◌+◌, ◌<◌, ◌≤◌, ℕ, IfOk, IsTrue, IsFalse, length};
+ghost use Rattle.std.specs.Prelude.{replicate, slice_index};
 ghost use Rattle.flow_network.specs.Cut.{nodes};
-ghost use Rattle.block_net.specs.Views.{count};
+ghost use Rattle.block_net.specs.Views.{count, lane_in, room_in};
 ghost use Rattle.block_net.specs.Whole.{block_at, whole_of};
 ghost use Rattle.laid_blocks.specs.Views.{IsLaid};
-ghost use Rattle.global_relabel.specs.Lowering.{AreOffersTo, IsQueue};
+ghost use Rattle.global_relabel.specs.Lowering.{AreOffersMet, AreOffersTo, AreTight};
+ghost use Rattle.global_relabel.specs.Lowering.{AreTightBeyond, FallsTo, IsBorderOffered};
+ghost use Rattle.global_relabel.specs.Lowering.{IsOffered, IsQueue, IsTightBehind, IsTightUpTo};
+ghost use Rattle.global_relabel.specs.Lowering.{descent_of};
 
 use crate::exactness::{NetBlocks, far_node};
 use block_net::{Cells, Parts};
@@ -39,20 +44,24 @@ impl Model for BlockLabels {
     ghost invariant = { λ b. length b.queue.items ≡ length b.labels.items };
 }
 
-/// A node gets a label, if it is below its own, and then goes to the end of the queue.
+/// A node gets a label, if it is below its own, and then goes to the end of the queue. Answers the
+/// end of the queue, one more than its room where that is too little.
 fn lower(labels: &mut [u32], queue: &mut [u32], end: usize, place: u32, label: u32) -> usize
     requires queue { IsQueue labels.old queue.old end }
     requires node { place < length labels.old }
     ensures queue { IsQueue labels.new queue.new result }
-    ensures len { length labels.new ≡ length labels.old }
-    ensures falls { (v : ℕ) → slice_index labels.new v ≤ slice_index labels.old v }
+    ensures falls { FallsTo (descent_of labels.old queue.old end)
+        (descent_of labels.new queue.new result) }
+    ensures low { slice_index labels.new place ≤ label }
+    ensures kept { (v : ℕ) → slice_index labels.old v ≤ label
+        → slice_index labels.new v ≡ slice_index labels.old v }
 {
     if labels[place as usize] <= label {
         return end;
     }
     labels[place as usize] = label;
-    if end == queue.len() {
-        return end;
+    if end >= queue.len() {
+        return queue.len() + 1;
     }
     queue[end] = place;
     end + 1
@@ -64,7 +73,10 @@ fn lower_rooms(cells: &Cells, labels: &mut [u32], queue: &mut [u32]) -> usize
     requires labels { length labels.old ≡ count cells.now }
     requires queue { length queue.old ≡ count cells.now }
     ensures queue { IsQueue labels.new queue.new result }
-    ensures len { length labels.new ≡ length labels.old }
+    ensures falls { FallsTo (descent_of (replicate (count cells.now) cells.now.top) queue.old 0)
+        (descent_of labels.new queue.new result) }
+    ensures sink { (p : ℕ) → p < count cells.now → 0 < room_in cells.now p
+        → slice_index labels.new p ≤ 1 }
 {
     labels.fill(cells.top());
     let mut end = 0;
@@ -74,6 +86,35 @@ fn lower_rooms(cells: &Cells, labels: &mut [u32], queue: &mut [u32]) -> usize
         }
     }
     end
+}
+
+/// The node that a direction within the block leads to gets a label, if that is below its own and
+/// the opposite direction can carry more.
+fn lower_far(
+    cells: &Cells,
+    j: usize,
+    labels: &mut [u32],
+    queue: &mut [u32],
+    end: usize,
+    label: u32,
+) -> usize
+    requires place { j < length cells.now.lanes }
+    requires opposite { (lane_in cells.now j).opposite < length cells.now.lanes }
+    requires node { (lane_in cells.now j).far < length labels.old }
+    requires queue { IsQueue labels.old queue.old end }
+    ensures queue { IsQueue labels.new queue.new result }
+    ensures falls { FallsTo (descent_of labels.old queue.old end)
+        (descent_of labels.new queue.new result) }
+    ensures low { 0 < (lane_in cells.now (lane_in cells.now j).opposite).residual
+        → slice_index labels.new (lane_in cells.now j).far ≤ label }
+    ensures kept { (v : ℕ) → slice_index labels.old v ≤ label
+        → slice_index labels.new v ≡ slice_index labels.old v }
+{
+    let lane = cells.lane(j);
+    if labels[lane.far as usize] <= label || cells.lane(lane.opposite as usize).residual == 0 {
+        return end;
+    }
+    lower(labels, queue, end, lane.far, label)
 }
 
 /// Each node of the block from which a residual direction leads to the node gets a label one above
@@ -93,17 +134,16 @@ fn lower_behind(
     requires place { place < length labels.old }
     requires queue { IsQueue labels.old queue.old end }
     ensures queue { IsQueue labels.new queue.new result }
-    ensures len { length labels.new ≡ length labels.old }
-    ensures falls { (v : ℕ) → slice_index labels.new v ≤ slice_index labels.old v }
+    ensures falls { FallsTo (descent_of labels.old queue.old end)
+        (descent_of labels.new queue.new result) }
+    ensures tight { IsTightBehind (whole_of split.now.net.now split.now.parts.now) block labels.new
+        place }
 {
     let cells = &split.parts.blocks[block];
     let label = labels[place].saturating_add(1);
     let range = cells.range(place);
     'lanes: for j in range.0..range.1 {
-        let lane = cells.lane(j);
-        if labels[lane.far as usize] > label && cells.lane(lane.opposite as usize).residual > 0 {
-            end = lower(labels, queue, end, lane.far, label);
-        }
+        end = lower_far(cells, j, labels, queue, end, label);
     }
     end
 }
@@ -118,7 +158,9 @@ fn is_offer_next(
     next: usize,
 ) -> bool
     requires queue { IsQueue labels.now queue.now end }
-    ensures { IsTrue result → taken < length offers.now }
+    requires room { end ≤ length queue.now }
+    ensures some { IsTrue result → taken < length offers.now }
+    ensures none { IsFalse result → end ≤ next → length offers.now ≤ taken }
 {
     if taken >= offers.len() {
         return false;
@@ -126,15 +168,93 @@ fn is_offer_next(
     next >= end || offers[taken].label <= labels[queue[next] as usize]
 }
 
+/// A node gets the label that it is offered, if that is below its own, and then the nodes behind it
+/// get theirs. Answers the end of the queue.
+fn take_offer(
+    split: &NetBlocks<'_>,
+    block: usize,
+    offer: Offer,
+    labels: &mut [u32],
+    queue: &mut [u32],
+    end: usize,
+) -> usize
+    requires laid { IsLaid (whole_of split.now.net.now split.now.parts.now) }
+    requires block { block < length split.now.parts.now.blocks.items }
+    requires labels { length labels.old
+        ≡ count (block_at (whole_of split.now.net.now split.now.parts.now) block) }
+    requires place { offer.place < length labels.old }
+    requires queue { IsQueue labels.old queue.old end }
+    ensures queue { IsQueue labels.new queue.new result }
+    ensures len { length labels.new ≡ length labels.old }
+    ensures falls { (v : ℕ) → slice_index labels.new v ≤ slice_index labels.old v }
+    ensures met { slice_index labels.new offer.place ≤ offer.label }
+    ensures tight { let w = whole_of split.now.net.now split.now.parts.now in
+        (next : ℕ) → next ≤ end
+        → IsTightUpTo w block next (descent_of labels.old queue.old end)
+        → IsTightUpTo w block next (descent_of labels.new queue.new result) }
+    ensures more { end ≤ result }
+{
+    if labels[offer.place as usize] <= offer.label {
+        return end;
+    }
+    labels[offer.place as usize] = offer.label;
+    lower_behind(split, block, offer.place as usize, labels, queue, end)
+}
+
 /// Labels come down from nodes of the queue and from offers, both by rising labels: a node's label
-/// is final when the node is taken, as in a breadth-first search.
-fn spread(
+/// is final when the node is taken, as in a breadth-first search. So the queue has room for all
+/// nodes whose labels fall. Answers the end of the queue.
+fn spread_all(
     split: &NetBlocks<'_>,
     block: usize,
     offers: &[Offer],
     labels: &mut [u32],
     queue: &mut [u32],
     mut end: usize,
+) -> usize
+    requires laid { IsLaid (whole_of split.now.net.now split.now.parts.now) }
+    requires block { block < length split.now.parts.now.blocks.items }
+    requires labels { length labels.old
+        ≡ count (block_at (whole_of split.now.net.now split.now.parts.now) block) }
+    requires offers { AreOffersTo (length labels.old) offers.now }
+    requires queue { IsQueue labels.old queue.old end }
+    ensures len { length labels.new ≡ length labels.old }
+    ensures falls { (v : ℕ) → slice_index labels.new v ≤ slice_index labels.old v }
+    ensures room { length queue.new ≡ length labels.new }
+    ensures tight { let w = whole_of split.now.net.now split.now.parts.now in
+        IsTightUpTo w block 0 (descent_of labels.old queue.old end)
+        → result ≤ length queue.new → AreTight w block labels.new }
+    ensures met { result ≤ length queue.new → AreOffersMet offers.now labels.new }
+{
+    let mut next = 0;
+    let mut taken = 0;
+    'search: for turn in 0..queue.len() + offers.len() {
+        if end > queue.len() {
+            return end;
+        }
+        if is_offer_next(offers, taken, labels, queue, end, next) {
+            end = take_offer(split, block, offers[taken], labels, queue, end);
+            taken += 1;
+        } else if next < end {
+            let place = queue[next] as usize;
+            end = lower_behind(split, block, place, labels, queue, end);
+            next += 1;
+        } else {
+            return end;
+        }
+    }
+    end
+}
+
+/// Labels come down from nodes of the queue and from offers until they are tight. If the queue had
+/// too little room, which it never has while labels are taken in their order, all labels become 0.
+fn spread(
+    split: &NetBlocks<'_>,
+    block: usize,
+    offers: &[Offer],
+    labels: &mut [u32],
+    queue: &mut [u32],
+    end: usize,
 )
     requires laid { IsLaid (whole_of split.now.net.now split.now.parts.now) }
     requires block { block < length split.now.parts.now.blocks.items }
@@ -144,54 +264,55 @@ fn spread(
     requires queue { IsQueue labels.old queue.old end }
     ensures len { length labels.new ≡ length labels.old }
     ensures falls { (v : ℕ) → slice_index labels.new v ≤ slice_index labels.old v }
+    ensures tight { let w = whole_of split.now.net.now split.now.parts.now in
+        IsTightUpTo w block 0 (descent_of labels.old queue.old end) → AreTight w block labels.new }
+    ensures met { AreOffersMet offers.now labels.new }
 {
-    let mut next = 0;
-    let mut taken = 0;
-    'search: for _turn in 0..queue.len() + offers.len() {
-        if is_offer_next(offers, taken, labels, queue, end, next) {
-            let offer = offers[taken];
-            taken += 1;
-            if offer.label < labels[offer.place as usize] {
-                labels[offer.place as usize] = offer.label;
-                end = lower_behind(split, block, offer.place as usize, labels, queue, end);
-            }
-        } else if next < end {
-            let place = queue[next] as usize;
-            next += 1;
-            end = lower_behind(split, block, place, labels, queue, end);
-        } else {
-            break;
-        }
+    let end = spread_all(split, block, offers, labels, queue, end);
+    if end > queue.len() {
+        labels.fill(0);
     }
 }
 
-/// A label is offered to a node, where it is below its own and there is room for the offer.
-fn add_offer(labels: &[u32], offers: &mut Vec<Offer>, place: u32, label: u32)
+/// A label is offered to a node, where it is below its own and there is room for the offer. Whether
+/// there was room, or none was needed.
+fn add_offer(labels: &[u32], offers: &mut Vec<Offer>, place: u32, label: u32) -> bool
     requires node { place < length labels.now }
     requires offers { AreOffersTo (length labels.now) offers.old.items }
-    ensures { AreOffersTo (length labels.now) offers.new.items }
+    ensures offers { AreOffersTo (length labels.now) offers.new.items }
+    ensures offered { IsTrue result → IsOffered offers.new.items labels.now place label }
+    ensures kept { (v l : ℕ) → IsOffered offers.old.items labels.now v l
+        → IsOffered offers.new.items labels.now v l }
 {
-    if labels[place as usize] <= label || offers.len() >= offers.capacity() {
-        return;
+    if labels[place as usize] <= label {
+        return true;
+    }
+    if offers.len() >= offers.capacity() {
+        return false;
     }
     offers.push_reserved(Offer { label, place });
+    true
 }
 
 /// Lists what the ends of residual directions to other blocks offer to the block's nodes, below
-/// their own labels, as far as there is room. `told` has the labels of all nodes that blocks told.
+/// their own labels, as far as there is room; whether there was room for all. `told` has the labels
+/// of all nodes that blocks told.
 fn list_offers(
     split: &NetBlocks<'_>,
     block: usize,
     labels: &[u32],
     told: &[u32],
     offers: &mut Vec<Offer>,
-)
+) -> bool
     requires laid { IsLaid (whole_of split.now.net.now split.now.parts.now) }
     requires block { block < length split.now.parts.now.blocks.items }
     requires labels { length labels.now
         ≡ count (block_at (whole_of split.now.net.now split.now.parts.now) block) }
     requires told { length told.now ≡ nodes split.now.net.now }
-    ensures { AreOffersTo (length labels.now) offers.new.items }
+    ensures offers { AreOffersTo (length labels.now) offers.new.items }
+    ensures all { let w = whole_of split.now.net.now split.now.parts.now in
+        IsTrue result → (j : ℕ) → j < length (block_at w block).borders
+        → IsBorderOffered w block labels.now told.now offers.new.items j }
 {
     offers.clear();
     let cells = &split.parts.blocks[block];
@@ -199,9 +320,12 @@ fn list_offers(
         let border = cells.border(j);
         if border.residual > 0 {
             let label = told[far_node(split.parts, &border)].saturating_add(1);
-            add_offer(labels, offers, border.near, label);
+            if !add_offer(labels, offers, border.near, label) {
+                return false;
+            }
         }
     }
+    true
 }
 
 /// Writes the labels of a block to their places in a list of those of all nodes.
@@ -245,7 +369,10 @@ impl BlockLabels {
         requires laid { IsLaid (whole_of net.now parts.now) }
         requires block { block < length parts.now.blocks.items }
         requires len { length self.old ≡ count (block_at (whole_of net.now parts.now) block) }
-        ensures { length self.new ≡ length self.old }
+        ensures len { length self.new ≡ length self.old }
+        ensures sink { let cells = block_at (whole_of net.now parts.now) block in
+            (p : ℕ) → p < count cells → 0 < room_in cells p → slice_index self.new p ≤ 1 }
+        ensures tight { AreTight (whole_of net.now parts.now) block self.new }
     {
         let split = NetBlocks { net, parts };
         let labels = self.labels.as_mut_slice();
@@ -264,15 +391,22 @@ impl BlockLabels {
         requires told { length told.now ≡ nodes net.now }
         ensures len { length self.new ≡ length self.old }
         ensures falls { (p : ℕ) → slice_index self.new p ≤ slice_index self.old p }
+        ensures tight { let w = whole_of net.now parts.now in
+            AreTight w block self.old → AreTight w block self.new }
+        ensures beyond { AreTightBeyond (whole_of net.now parts.now) block told.now self.new }
     {
         let split = NetBlocks { net, parts };
-        list_offers(
+        if !list_offers(
             &split,
             block,
             self.labels.as_slice(),
             told,
             &mut self.offers,
-        );
+        ) {
+            self.labels.as_mut_slice().fill(0);
+            self.has_news = true;
+            return;
+        }
         if self.offers.is_empty() {
             return;
         }

@@ -1,3 +1,4 @@
+//! The exact labels of a state, found on one thread.
 ghost use Rattle.std.specs.Prelude.{◌≡◌, IfOk, OnOk, OnErr, length};
 ghost use Rattle.flow_network.specs.Cut.{nodes, set_of};
 ghost use Rattle.block_events.specs.declared.event.Event.TheVariants.{RaiseAll};

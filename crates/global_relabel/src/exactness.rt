@@ -1,4 +1,6 @@
-ghost use Rattle.std.specs.Prelude.{◌≡◌, ◌≢◌, ◌↔◌, ◌⊎◌, ◌+◌, ◌^◌, ◌<◌, ◌≤◌, IsTrue, true, false, length, slice_index, slice_index_or};
+//! Whether labels are exact, as a block tests for its own nodes.
+ghost use Rattle.std.specs.Prelude.{◌≡◌, ◌≢◌, ◌↔◌, ◌⊎◌, ◌+◌, ◌^◌, ◌<◌, ◌≤◌, IsTrue, true, false};
+ghost use Rattle.std.specs.Prelude.{length, slice_index, slice_index_or};
 ghost use Rattle.flow_network.specs.Cut.{nodes};
 ghost use Rattle.block_net.specs.Views.{count, room_in, border_in};
 ghost use Rattle.block_net.specs.Whole.{no_block, state_shown, whole_of};

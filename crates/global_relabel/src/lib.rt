@@ -16,16 +16,16 @@ ghost use Rattle.global_relabel.specs.Laws.{ExactAreDistances, LocalIsExact};
 mod block_labels;
 mod exact;
 mod exactness;
-mod homes;
-mod rest;
+mod node_blocks;
+mod rest_test;
 mod search;
 mod workspace;
 
 pub use block_labels::BlockLabels;
 pub use exact::{distances, raise_all, sink_side};
 pub use exactness::is_block_exact;
-pub use homes::write_homes;
-pub use rest::is_at_rest;
+pub use node_blocks::write_homes;
+pub use rest_test::is_at_rest;
 pub use workspace::Workspace;
 
 /// A law: in a sound state with no message on the way, exact labels are the distances over the flow

@@ -1,3 +1,4 @@
+//! The search for exact labels, from the sink backwards over all blocks.
 ghost use Rattle.std.specs.Prelude.{◌≡◌, ◌+◌, ◌<◌, ◌≤◌, ℕ, true, false, length, slice_index};
 ghost use Rattle.flow_network.specs.Limits.{node_limit};
 ghost use Rattle.flow_network.specs.Cut.{nodes, IsNet};
@@ -6,7 +7,8 @@ ghost use Rattle.block_events.specs.Reach.{AreExact};
 ghost use Rattle.block_net.specs.Views.{lane_in, border_in};
 ghost use Rattle.block_net.specs.Whole.{state_shown, whole_of};
 ghost use Rattle.laid_blocks.specs.Views.{IsLaid, IsSpot};
-ghost use Rattle.global_relabel.specs.Search.{AreNodesWithin, GivesIn, HasResidualLane, AreNeighboursLabelled};
+ghost use Rattle.global_relabel.specs.Search.{AreNodesWithin, GivesIn, HasResidualLane};
+ghost use Rattle.global_relabel.specs.Search.{AreNeighboursLabelled};
 ghost use Rattle.global_relabel.specs.Homes.{AreHomes};
 ghost use Rattle.global_relabel.specs.Workspaces.{IsLabelOrder};
 

@@ -1,3 +1,4 @@
+//! The lists of a search, kept from one search to the next.
 ghost use Rattle.std.specs.Prelude.{IfOk};
 ghost use Rattle.block_events.specs.declared.event.Event.TheVariants.{RaiseAll};
 ghost use Rattle.block_events.specs.Reach.{AreExact};
@@ -5,7 +6,7 @@ ghost use Rattle.block_events.specs.Events.{IsQuiet, Happens};
 ghost use Rattle.global_relabel.specs.Homes.{AreHomes};
 ghost use Rattle.global_relabel.specs.Workspaces.{IsLabelOrder, Serves};
 
-use crate::homes::write_homes;
+use crate::node_blocks::write_homes;
 use crate::search::write_exact;
 use block_core::State;
 use flow_network::Net;

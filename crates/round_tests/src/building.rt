@@ -131,6 +131,17 @@ pub fn short_way(rt: &(impl Abort + AllocGlobal)) -> Result<Net, AllocError> {
     Ok(net_of(rt, sources, sinks, way_over(alloc, 32)?))
 }
 
+/// 65,536 nodes, so many that blocks search labels side by side, and one way over them in their
+/// order: a unit goes from the source to the first node, and from the last to the sink.
+pub fn chain(rt: &(impl Abort + AllocGlobal)) -> Result<Net, AllocError> {
+    let alloc = rt.alloc();
+    let sources = units_at(alloc, 65_536, &[0])?;
+    let sinks = units_at(alloc, 65_536, &[65_535])?;
+    let mut arcs = Vec::new(alloc);
+    add_steps(&mut arcs, 0, 1, 65_535)?;
+    Ok(net_of(rt, sources, sinks, arcs))
+}
+
 /// The arcs of a way over the nodes 1 to 60, and of one over the nodes 64 to 103, each from node 0.
 fn both_ways(alloc: Global) -> Result<Vec<Arc>, AllocError> {
     let mut arcs = Vec::new(alloc);

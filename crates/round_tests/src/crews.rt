@@ -1,3 +1,4 @@
+//! Tests of workers that run side by side.
 ghost use Rattle.std.specs.Prelude.{◌≡◌, ◌<◌, ℕ, IfOk, slice_index_or, vec_len};
 ghost use Rattle.block_workers.specs.Workers.{AreNew};
 

@@ -1,3 +1,4 @@
+//! Tests of a book of turns from which two threads draw.
 ghost use Rattle.std.specs.Prelude.{◌≡◌, ◌<◌, IfSome, length};
 
 use block_workers::{Job, Ledgers, TurnBook};

@@ -3,7 +3,7 @@
 //! of running workers: that their turns overlap, that a round goes on while work and turns are
 //! left, which block has a turn when, and that after rounds of any options the solver over blocks
 //! finds the one answer. The same of the solver that makes the rounds itself, and how many it
-//! makes.
+//! makes. And that a second thread is started where several are to share the work.
 #![tactic(auto)]
 
 #[cfg(test)]
@@ -32,6 +32,8 @@ mod ranges;
 mod rings;
 #[cfg(test)]
 mod rows;
+#[cfg(test)]
+mod second_threads;
 #[cfg(test)]
 mod solving;
 #[cfg(test)]

@@ -1,3 +1,4 @@
+//! Tests of the ranges of options.
 use crate::rows::expect;
 use worker_options::Options;
 

@@ -1,3 +1,4 @@
+//! Tests of rings between threads.
 ghost use Rattle.std.specs.Prelude.{◌≤◌};
 ghost use Rattle.block_events.specs.Workers.{IsFair};
 ghost use Rattle.block_workers.specs.Ports.{IsSamePort};

@@ -11,7 +11,6 @@ pub mod Seeing
 pub mod Leaving
 pub mod Moving
 pub mod Draining
-pub mod Placing
 pub mod Pairing
 pub mod Taking
 pub mod Popping
@@ -25,4 +24,3 @@ pub mod Fits
 pub mod Counts
 pub mod Rounded
 pub mod Runs
-pub mod ExactBlocks

@@ -2,7 +2,7 @@
 use Rattle.std.specs.Prelude.{IsTrue}
 use Rattle.block_events.specs.Soundness.{IsFinished}
 use Rattle.block_events.specs.Reach.{AreExact}
-use Rattle.rounds.specs.declared.ended.Ended.{Ended}
+use Rattle.rounds.specs.declared.final_state.Ended.{Ended}
 
 -- where the state is told to be finished it is, and the labels at hand are the exact ones
 abbrev pub IsEnded : Ended → Type 0

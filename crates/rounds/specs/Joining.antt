@@ -1,5 +1,6 @@
 -- Pairs of blocks joined one after another.
-use Rattle.std.specs.Prelude.{◌≡◌, ◌≢◌, ℕ, ◌<◌, ◌⊎◌, min, max, Bool, true, false, ◌||◌, List, [], ◌∷◌, ◌++◌, length}
+use Rattle.std.specs.Prelude.{◌≡◌, ◌≢◌, ℕ, ◌<◌, ◌⊎◌, min, max, Bool, true, false, ◌||◌, List, []}
+use Rattle.std.specs.Prelude.{◌∷◌, ◌++◌, length}
 use Rattle.std.specs.Prelude.{Some, is_some, slice_set, slice_index_or}
 use Rattle.block_net.specs.Views.{CellsView, border_in}
 use Rattle.block_workers.specs.declared.port.Port.{Port}

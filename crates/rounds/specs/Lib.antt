@@ -9,7 +9,6 @@ pub mod Mated
 pub mod Left
 pub mod Links
 pub mod Draining
-pub mod Drawing
 pub mod Pairing
 pub mod PartCounts
 pub mod Seated
@@ -17,6 +16,5 @@ pub mod Sharing
 pub mod Together
 pub mod Short
 pub mod Ended
-pub mod LabelSearches
 pub mod Refusals
 pub mod SolveErrors

@@ -1,5 +1,6 @@
 -- What is seen of the rings between blocks.
-use Rattle.std.specs.Prelude.{◌≡◌, ℕ, ◌+◌, ◌<◌, ◌≤◌, ◌==◌, ◌&&◌, Bool, cond, List, [], ◌∷◌, ◌++◌, length, map}
+use Rattle.std.specs.Prelude.{◌≡◌, ℕ, ◌+◌, ◌<◌, ◌≤◌, ◌==◌, ◌&&◌, Bool, cond, List, [], ◌∷◌, ◌++◌}
+use Rattle.std.specs.Prelude.{length, map}
 use Rattle.std.specs.Prelude.{Option, Some, None}
 use Rattle.block_events.specs.declared.message.Message.{Message}
 use Rattle.block_workers.specs.declared.port.Port.{Port}

@@ -7,7 +7,8 @@ use Rattle.block_workers.specs.declared.crew.RoundError.TheVariants as round
 use Rattle.worker_options.specs.declared.options.Options.{Options}
 use Rattle.worker_options.specs.Ranges.{AreInRange}
 use Rattle.rounds.specs.declared.parallel_error.ParallelError.{ParallelError}
-use Rattle.rounds.specs.declared.parallel_error.ParallelError.TheVariants.{BadOptions, OutOfMemory, Workers}
+use Rattle.rounds.specs.declared.parallel_error.ParallelError.TheVariants.{BadOptions, OutOfMemory}
+use Rattle.rounds.specs.declared.parallel_error.ParallelError.TheVariants.{Workers}
 
 -- why no round came about, as the solver tells it
 abbrev pub of_round : RoundError → ParallelError

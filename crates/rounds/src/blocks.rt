@@ -1,3 +1,4 @@
+//! The blocks of a round: joined by rings, moved to workers, and taken back.
 ghost use Rattle.std.specs.Prelude.{◌≡◌, ◌<◌, ◌≤◌, ℕ, IfOk, vec_len};
 ghost use Rattle.block_net.specs.Limits.{block_limit};
 ghost use Rattle.worker_options.specs.Ranges.{AreInRange};
@@ -7,9 +8,9 @@ ghost use Rattle.rounds.specs.Seated.{AreSeated, AreBlocksSmall, ends_of_seats, 
 ghost use Rattle.rounds.specs.Together.{HaveRun};
 
 use crate::join_all;
+use crate::round_space::{Came, Space, gather_seats};
+use crate::round_work::work_on;
 use crate::seats::seats_of;
-use crate::space::{Came, Space, gather_seats};
-use crate::work::work_on;
 use block_net::Cells;
 use block_workers::{Job, RoundError, Seat, TurnBook};
 use std::alloc::{AllocError, Global};

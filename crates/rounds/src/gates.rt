@@ -1,3 +1,4 @@
+//! Gates that workers ask before each turn.
 ghost use Rattle.std.specs.Prelude.{◌≡◌, true};
 
 use worker_options::Gate;

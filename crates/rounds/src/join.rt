@@ -1,3 +1,4 @@
+//! Rings between all blocks that have a direction between them.
 ghost use Rattle.std.specs.Prelude.{◌≡◌, ◌+◌, ◌^◌, ◌<◌, [], IfOk, OnOk, length, map};
 ghost use Rattle.std.specs.Prelude.{replicate, vec_len, slice_index_or};
 ghost use Rattle.block_workers.specs.Ends.{ports};
@@ -5,7 +6,7 @@ ghost use Rattle.block_workers.specs.Seeing.{AreRising};
 ghost use Rattle.rounds.specs.Joined.{AreJoined};
 ghost use Rattle.rounds.specs.Joining.{AreBegun, AreSquare, HasPair};
 
-use crate::flags::{all_scanned, are_linked};
+use crate::linked_blocks::{all_scanned, are_linked};
 use block_net::Cells;
 use block_workers::{Ends, Port, join_blocks};
 use std::alloc::{AllocError, Global};

@@ -11,32 +11,29 @@
 //! cuts the nets of moves and of yes-no energies by it.
 #![tactic(auto)]
 
-mod back;
 mod blocks;
-mod drawing;
-mod ended;
-mod flags;
-mod fork;
+mod collection;
+mod final_state;
 mod gates;
 mod hands;
 mod join;
-mod label_search;
 pub mod laws;
-mod matching;
+mod linked_blocks;
 mod pair;
 mod parallel_error;
+mod ring_ends;
 mod rings;
 mod round;
+mod round_space;
+mod round_state;
+mod round_work;
 mod seat_work;
 mod seats;
 mod solver;
-mod space;
-mod together;
-mod work;
 mod workers;
 
 pub use block_workers::{Job, Ledgers, RoundError, TurnBook};
-pub use fork::ByThreads;
+pub use forks::ByThreads;
 pub use gates::{Lent, Open};
 pub use join::join_all;
 pub use label_search::distances_by_blocks;

@@ -1,3 +1,4 @@
+//! The two rings between two blocks after a round.
 ghost use Rattle.std.specs.Prelude.{◌≡◌, ◌+◌, ◌<◌, ◌≤◌, ◌++◌, length};
 ghost use Rattle.block_events.specs.States.{way_at, put_way};
 ghost use Rattle.block_events.specs.Soundness.{IsSquare};

@@ -1,3 +1,4 @@
+//! Why workers found no cut.
 ghost use Rattle.std.specs.Prelude.{◌≡◌};
 ghost use Rattle.rounds.specs.Refusals.{of_round};
 ghost use Rattle.rounds.specs.declared.parallel_error.ParallelError.TheVariants.{OutOfMemory};

@@ -1,12 +1,14 @@
+//! All rings of a round, and what is left in them.
 ghost use Rattle.std.specs.Prelude.{◌≡◌, ◌≤◌, ◌*◌, ℕ, [], All, length, map, vec_len, vec_capacity};
 ghost use Rattle.block_events.specs.Soundness.{IsSquare};
 ghost use Rattle.rounds.specs.Mated.{AreMated, ports_in, room_to, messages_sent, messages_taken};
 ghost use Rattle.rounds.specs.Left.{AreWaysEmpty, AreFitting, AreLeft, HaveRoomFor};
-ghost use Rattle.rounds.specs.Links.{AreLinks, AreWithinRoom, IsLinkSeen, links_of, ring_room, sent_in, taken_in};
+ghost use Rattle.rounds.specs.Links.{AreLinks, AreWithinRoom, IsLinkSeen, links_of, ring_room};
+ghost use Rattle.rounds.specs.Links.{sent_in, taken_in};
 ghost use Rattle.rounds.specs.Draining.{AreDraining, HaveRoom};
 
-use crate::matching::pair_all;
 use crate::pair::Pair;
+use crate::ring_ends::pair_all;
 use block_core::Mail;
 use block_workers::Port;
 use std::marker::Model;

@@ -1,3 +1,4 @@
+//! One round of running workers over the blocks of a state.
 ghost use Rattle.std.specs.Prelude.{◌≡◌, ◌<◌, IfOk};
 ghost use Rattle.block_events.specs.Events.{IsQuiet};
 ghost use Rattle.laid_blocks.specs.Views.{IsLaid};
@@ -8,7 +9,7 @@ ghost use Rattle.worker_options.specs.Ranges.{AreInRange};
 ghost use Rattle.rounds.specs.Short.{HasFewOnTheWay, IsShortRound};
 
 use crate::blocks::run_blocks;
-use crate::together::put_together;
+use crate::round_state::put_together;
 use block_core::{Pieces, State};
 use block_net::Parts;
 use block_workers::{Job, Ledgers, RoundError};

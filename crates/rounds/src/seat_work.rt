@@ -1,8 +1,9 @@
+//! The turns of all blocks, by workers in threads.
 ghost use Rattle.std.specs.Prelude.{◌≡◌, ◌+◌, ◌<◌, ◌≤◌, ◌⊎◌, IfErr, IfOk, OnErr, OnOk};
 ghost use Rattle.block_workers.specs.Workers.{AllWorked, AreNew, turns_of};
 ghost use Rattle.block_workers.specs.declared.crew.RoundError.TheVariants.{Workers};
 
-use crate::back::{Room, collect};
+use crate::collection::{Room, collect};
 use crate::hands::deal;
 use block_workers::{Job, RoundError, Seat, TurnBook, all_work};
 use std::alloc::Global;

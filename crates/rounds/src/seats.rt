@@ -1,9 +1,10 @@
+//! A block with its ends for each place of a round.
 ghost use Rattle.std.specs.Prelude.{◌≡◌, ◌<◌, ◌≤◌, ◌^◌, IfOk, map, vec_capacity, vec_len};
 ghost use Rattle.flow_network.specs.Limits.{node_limit};
 ghost use Rattle.block_net.specs.Views.{count};
-ghost use Rattle.block_workers.specs.Ends.{ports};
 ghost use Rattle.block_workers.specs.Turns.{IsNewSeat};
-ghost use Rattle.rounds.specs.Seated.{AreSeated, AreBlocksSmall, blocks_of, ends_of_seats, ports_of};
+ghost use Rattle.rounds.specs.Seated.{AreSeated, AreBlocksSmall, blocks_of, ends_of_seats};
+ghost use Rattle.rounds.specs.Seated.{ports_of};
 
 use block_net::Cells;
 use block_turns::Block;

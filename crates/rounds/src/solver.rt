@@ -1,4 +1,5 @@
-ghost use Rattle.std.specs.Prelude.{◌≡◌, ◌≤◌, IfErr, IfOk, OnOk, length};
+//! The least cut of a net, found by rounds of workers.
+ghost use Rattle.std.specs.Prelude.{◌≡◌, ◌<◌, ◌≤◌, IfErr, IfOk, OnOk, length};
 ghost use Rattle.flow_network.specs.Limits.{capacity_limit};
 ghost use Rattle.flow_network.specs.Cut.{nodes, set_of, IsSmallestLeastCut};
 ghost use Rattle.flow_network.specs.Answer.{side_of, IsRightCut};
@@ -8,14 +9,14 @@ ghost use Rattle.worker_options.specs.Ranges.{AreInRange};
 ghost use Rattle.rounds.specs.Ended.{IsEnded};
 ghost use Rattle.rounds.specs.Refusals.{IsParallelRefusal};
 
-use crate::ended::Ended;
-use crate::label_search::LabelSearch;
+use crate::final_state::Ended;
 use crate::{ParallelError, run_round};
 use block_core::State;
 use block_cut::{push_first, take_in};
 use block_net::ARC_LIMIT;
 use flow_network::{Net, Solved};
 use global_relabel::is_at_rest;
+use label_search::LabelSearch;
 use std::alloc::Global;
 use std::sync::Wait;
 use std::thread::Threads;
@@ -42,16 +43,18 @@ fn check(net: &Net, options: &Options) -> Result<(), ParallelError>
     Ok(())
 }
 
-/// The state after first pushes within its blocks, where it has many nodes. Takes no memory.
-fn push_all(state: State) -> State
-    requires { IsQuiet state }
+/// The state after first pushes within its blocks, where it has many nodes: side by side, in at
+/// most so many threads. Takes no memory.
+fn push_all<R: Threads + Sync>(rt: &R, state: State, threads: usize) -> State
+    requires threads { 0 < threads }
+    requires quiet { IsQuiet state }
     ensures net { result.net ≡ state.net }
     ensures quiet { IsQuiet result }
 {
     if state.nodes() < PUSHED_NODES {
         return state;
     }
-    push_first(state)
+    push_first(rt, state, threads)
 }
 
 /// The state after at most so many rounds as the options tell. Each begins with exact labels, and
@@ -71,8 +74,8 @@ fn rounds<R: Threads + Wait + Sync, G: Gate>(
     ensures ended { IfOk result IsEnded }
     ensures refused { IfErr result (IsParallelRefusal state.net options.now) }
 {
-    let mut state = push_all(state);
     let threads = options.threads as usize;
+    let mut state = push_all(rt, state, threads);
     let mut search = LabelSearch::reserve(alloc, &state, threads)?;
     'rounds: for _round in 0..options.rounds {
         search.find(rt, &state, threads);

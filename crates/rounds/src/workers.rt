@@ -1,17 +1,20 @@
-ghost use Rattle.std.specs.Prelude.{◌≡◌, ◌<◌, IsTrue};
+//! The way to cut nets by workers, and when one thread serves.
+ghost use Rattle.std.specs.Prelude.{◌≡◌, ◌↔◌, ◌⊎◌, ◌*◌, ◌/◌, ◌<◌, ◌≤◌, ℕ};
+ghost use Rattle.std.specs.Prelude.{◌==◌, not, IsTrue, length};
 ghost use denote.Param.Send.{IsSync};
-ghost use Rattle.flow_network.specs.Cut.{Network};
+ghost use Rattle.flow_network.specs.Cut.{IsArc, Network};
+ghost use Rattle.block_net.specs.Limits.{block_limit};
 ghost use Rattle.worker_options.specs.declared.options.Options.{Options as OptionsOf};
 ghost use Rattle.worker_options.specs.Ranges.{AreInRange};
 ghost use Rattle.rounds.specs.PartCounts.{IsPartCount};
-ghost use Rattle.rounds.specs.Sharing.{IsNoMoreThan};
+ghost use Rattle.rounds.specs.Sharing.{AreForNodes, IsLeftToOneThread, arcs_between};
 ghost use Rattle.rounds.specs.Refusals.{IsParallelRefusal};
 ghost use Rattle.rounds.specs.SolveErrors.{MayFailToSolve, of_parallel};
 
-use crate::fork::ByThreads;
 use crate::gates::Lent;
 use crate::{ParallelError, side_parallel, solve_parallel};
-use flow_network::{Net, Solved};
+use flow_network::{Arc, Net, Solved};
+use forks::ByThreads;
 use solvers::{Alone, How, SolveError};
 use std::alloc::Global;
 use std::sync::Wait;
@@ -57,27 +60,59 @@ pub struct Workers<'a, R, G> {
 }
 
 /// Whether a net of so many nodes is small, or its blocks are.
-fn is_small(nodes: usize, blocks: usize) -> bool {
+fn is_small(nodes: usize, blocks: usize) -> bool
+    ensures { IsTrue result ↔ (nodes < 4096) ⊎ (nodes / 256 < blocks) }
+{
     nodes < SHARED_NODES || nodes / BLOCK_NODES < blocks
 }
 
-/// Whether many arcs of a net lead from one block to another, where it is split into so many.
-fn is_crossed(net: &Net, blocks: usize) -> bool {
-    let size = net.nodes().div_ceil(blocks.max(1)).max(1);
-    let mut between = 0usize;
+/// The block of a node, where a net of so many nodes is split into so many blocks.
+fn home_of(nodes: usize, blocks: usize, node: u32) -> usize
+    requires node { node < nodes }
+    requires blocks { blocks ≤ block_limit }
+    ensures { result ≡ node * blocks / nodes }
+{
+    node as usize * blocks / nodes
+}
+
+/// Whether an arc leads from one block to another.
+fn is_between(nodes: usize, blocks: usize, arc: &Arc) -> bool
+    requires arc { IsArc nodes arc.now }
+    requires blocks { blocks ≤ block_limit }
+    ensures { result
+        ≡ not (arc.now.from * blocks / nodes == arc.now.to * blocks / nodes) }
+{
+    home_of(nodes, blocks, arc.from) != home_of(nodes, blocks, arc.to)
+}
+
+/// How many arcs of a net lead from one block to another, where it is split into so many.
+fn count_between(net: &Net, blocks: usize) -> usize
+    requires { blocks ≤ block_limit }
+    ensures { result ≡ arcs_between net.now blocks }
+{
+    let nodes = net.nodes();
+    let mut between = 0;
     for arc in net.arcs() {
-        if arc.from as usize / size != arc.to as usize / size {
+        if is_between(nodes, blocks, arc) {
             between += 1;
         }
     }
-    between > net.arcs().len() / CROSSED_SHARE
+    between
+}
+
+/// Whether many arcs of a net lead from one block to another, where it is split into so many.
+fn is_crossed(net: &Net, blocks: usize) -> bool
+    requires { blocks ≤ block_limit }
+    ensures { IsTrue result ↔ length net.now.arcs / 8 < arcs_between net.now blocks }
+{
+    count_between(net, blocks) > net.arcs().len() / CROSSED_SHARE
 }
 
 /// Whether a net is cut by one thread: there is one alone, the net or its blocks are small, or too
 /// many arcs lead between blocks. Options out of their ranges are left to the workers, who refuse
 /// them.
 fn is_alone(net: &Net, options: &Options) -> bool
-    ensures { IsTrue result → AreInRange options.now }
+    ensures { IsTrue result ↔ AreInRange options.now × IsLeftToOneThread net.now options.now }
 {
     if options.check().is_err() {
         return false;
@@ -89,7 +124,7 @@ fn is_alone(net: &Net, options: &Options) -> bool
 /// The options by which workers share a net of so many nodes: few nodes are not worth many rounds,
 /// nor many turns in a round. Options out of their ranges stay as they are.
 fn options_for(nodes: usize, options: &Options) -> Options
-    ensures { IsNoMoreThan options.now result }
+    ensures { AreForNodes nodes options.now result }
 {
     if options.check().is_err() {
         return *options;
@@ -106,8 +141,9 @@ fn options_for(nodes: usize, options: &Options) -> Options
 /// The refusal of a cut, as a way to cut nets has it.
 fn refusal_of(error: ParallelError) -> SolveError
     ensures told { result ≡ of_parallel error }
-    ensures may { (net : Network) (whole options : OptionsOf) → IsNoMoreThan whole options →
-        IsParallelRefusal net options error → MayFailToSolve whole result }
+    ensures may { (net : Network) (count : ℕ) (whole options : OptionsOf)
+        → AreForNodes count whole options → IsParallelRefusal net options error
+        → MayFailToSolve whole result }
 {
     match error {
         ParallelError::OutOfMemory => SolveError::OutOfMemory,

@@ -1,3 +1,4 @@
+//! What a worker asks before each turn.
 /// What a worker asks before each turn of a block, while it holds no lock. What a gate answers
 /// changes how long a round goes on, and never the cut that is found.
 pub trait Gate: Sync {

@@ -1,3 +1,4 @@
+//! The ranges of the options.
 /// The most threads that work side by side. The least is 1.
 pub const THREAD_LIMIT: u32 = 64;
 

@@ -1,3 +1,4 @@
+//! How workers share a net, in numbers.
 ghost use Rattle.std.specs.Prelude.{◌↔◌, IsOk, IsTrue};
 ghost use Rattle.worker_options.specs.Ranges.{AreInRange};
 

@@ -1,22 +1,94 @@
-use Rattle.std.proofs.Common.{◌<◌, refl, ap, arith}
-use Rattle.block_net.specs.declared.lanes.InnerLane.{InnerLane}
-use Rattle.block_net.specs.Views.{CellsView, count}
-use Rattle.block_net.specs.Whole.{Whole, whole_of}
-use Rattle.laid_blocks.specs.Views.{blocks_in}
+use Rattle.std.proofs.Common.{◌≡◌, ◌+◌, ◌<◌, ◌≤◌, length, slice_index, refl, ◌∙◌, ap, arith}
+use Rattle.block_net.specs.Views.{CellsView, count, lane_in}
+use Rattle.block_net.specs.Whole.{Whole, block_at, whole_of}
+use Rattle.laid_blocks.specs.Views.{IsSpot, blocks_in}
 use Rattle.laid_blocks.proofs.Steps.{at_read}
-use Rattle.global_relabel.proofs.Places.{lane_back}
+use Rattle.global_relabel.specs.Lowering.{descent_of}
+use Rattle.global_relabel.proofs.Homing.{spot_at}
+use Rattle.global_relabel.proofs.Places.{lane_at_place, lane_place}
+use Rattle.global_relabel.proofs.Falling.{falls_none, falls_more, labelled_none, labelled_more, labelled_all, far_of_lane, far_below}
 use Rattle.global_relabel.proofs.block_labels.lower_behind.Goals as goal
 
-pub lane-requires : goal.lane-requires
-lane-requires c =
+pub lanes-init : goal.lanes-init
+lanes-init c =
     let w : Whole = whole_of c.args.split.now.net.now c.args.split.now.parts.now in
+    let b = c.args.block in
     let B = c.index-cells.result.now in
-    let at = at_read w (blocks_in w) c.args.block B c.requires.laid refl c.requires.block c.index-cells.ensures in
-    let place : c.args.place < count B = omega (arith, c.requires.place, c.requires.labels, ap (λ (q : CellsView). count q) at.is) in
-    let opposite = ap (λ (lane : InnerLane). lane.opposite) c.lane-lane.ensures.value in
-    omega (
-      arith,
-      opposite,
-      lane_back w c.args.block B at c.args.place c.lanes.j place (omega (arith, c.lanes.auto.j, c.range-range.ensures.first))
-          (omega (arith, c.lanes-test.true, c.range-range.ensures.end)),
-    )
+    let q = c.args.place in
+    let at = at_read w (blocks_in w) b B c.requires.laid refl c.requires.block c.index-cells.ensures in
+    let u = slice_index w.firsts b + q in
+    let lq : q < count (block_at w b) = omega (arith, c.requires.place, c.requires.labels) in
+    let spot : IsSpot w u b q = spot_at w c.requires.laid b c.requires.block q lq in
+    record {
+      queue = c.requires.queue;
+      falls = falls_none (descent_of c.args.labels.now c.args.queue.now c.args.end);
+      own = refl;
+      labelled = labelled_none w u c.range-range.result.0 c.saturating_add-label.result c.args.labels.now
+          (λ x l leaves out. omega (arith, (lane_place w b B u q at spot x l leaves out).0, c.range-range.ensures.first));
+    }
+
+pub lower_far-end-requires-clause-opposite : goal.lower_far-end-requires-clause-opposite
+lower_far-end-requires-clause-opposite c =
+    let w : Whole = whole_of c.args.split.now.net.now c.args.split.now.parts.now in
+    let b = c.args.block in
+    let B = c.index-cells.result.now in
+    let q = c.args.place in
+    let at = at_read w (blocks_in w) b B c.requires.laid refl c.requires.block c.index-cells.ensures in
+    let u = slice_index w.firsts b + q in
+    let lq : q < count (block_at w b) = omega (arith, c.requires.place, c.requires.labels) in
+    let spot : IsSpot w u b q = spot_at w c.requires.laid b c.requires.block q lq in
+    let j = c.lanes.j in
+    let found = lane_at_place w b B u q at spot j (omega (arith, c.lanes.auto.j, c.range-range.ensures.first)) (omega (arith, c.lanes-test.true, c.range-range.ensures.end)) in
+    found.2.back
+
+pub lower_far-end-requires-clause-node : goal.lower_far-end-requires-clause-node
+lower_far-end-requires-clause-node c =
+    let w : Whole = whole_of c.args.split.now.net.now c.args.split.now.parts.now in
+    let b = c.args.block in
+    let B = c.index-cells.result.now in
+    let q = c.args.place in
+    let at = at_read w (blocks_in w) b B c.requires.laid refl c.requires.block c.index-cells.ensures in
+    let u = slice_index w.firsts b + q in
+    let lq : q < count (block_at w b) = omega (arith, c.requires.place, c.requires.labels) in
+    let spot : IsSpot w u b q = spot_at w c.requires.laid b c.requires.block q lq in
+    let j = c.lanes.j in
+    let found = lane_at_place w b B u q at spot j (omega (arith, c.lanes.auto.j, c.range-range.ensures.first)) (omega (arith, c.lanes-test.true, c.range-range.ensures.end)) in
+    omega (arith, far_below w b B u q j found.0 at spot found.1, c.requires.labels, c.lanes.invariant.falls.len, ap (λ (z : CellsView). count z) at.is)
+
+pub lanes-preserved : goal.lanes-preserved
+lanes-preserved c =
+    let w : Whole = whole_of c.args.split.now.net.now c.args.split.now.parts.now in
+    let b = c.args.block in
+    let B = c.index-cells.result.now in
+    let q = c.args.place in
+    let at = at_read w (blocks_in w) b B c.requires.laid refl c.requires.block c.index-cells.ensures in
+    let u = slice_index w.firsts b + q in
+    let lq : q < count (block_at w b) = omega (arith, c.requires.place, c.requires.labels) in
+    let spot : IsSpot w u b q = spot_at w c.requires.laid b c.requires.block q lq in
+    let j = c.lanes.j in
+    let found = lane_at_place w b B u q at spot j (omega (arith, c.lanes.auto.j, c.range-range.ensures.first)) (omega (arith, c.lanes-test.true, c.range-range.ensures.end)) in
+    let inv = c.lanes.invariant in
+    let new = c.lower_far-end.ensures in
+    let label = c.saturating_add-label.result in
+    record {
+      queue = new.queue;
+      falls = falls_more (descent_of c.args.labels.now c.args.queue.now c.args.end) (descent_of c.lanes.labels c.lanes.queue c.lanes.end)
+          (descent_of c.lower_far-end.new.labels c.lower_far-end.new.queue c.lower_far-end.result) inv.falls new.falls;
+      own = new.kept q (omega (arith, inv.own, c.saturating_add-label.ensures)) ∙ inv.own;
+      labelled = labelled_more w u j label (lane_in B j).far (lane_in B (lane_in B j).opposite).residual c.lanes.labels c.lower_far-end.new.labels found.0
+          c.requires.laid.placed inv.labelled new.falls.falls found.1 (far_of_lane w b B u q j found.0 at spot found.1).place found.2.residual new.low;
+    }
+
+pub returns-clause-tight : goal.returns-clause-tight
+returns-clause-tight c =
+    let w : Whole = whole_of c.args.split.now.net.now c.args.split.now.parts.now in
+    let b = c.args.block in
+    let B = c.index-cells.result.now in
+    let q = c.args.place in
+    let at = at_read w (blocks_in w) b B c.requires.laid refl c.requires.block c.index-cells.ensures in
+    let u = slice_index w.firsts b + q in
+    let lq : q < count (block_at w b) = omega (arith, c.requires.place, c.requires.labels) in
+    let spot : IsSpot w u b q = spot_at w c.requires.laid b c.requires.block q lq in
+    labelled_all w c.requires.laid b c.requires.block q c.lanes.j c.saturating_add-label.result c.lanes.labels c.lanes.invariant.labelled
+    (omega (arith, c.lanes.invariant.own, c.saturating_add-label.ensures))
+    (λ x l leaves out. omega (arith, (lane_place w b B u q at spot x l leaves out).1, c.range-range.ensures.end, c.lanes-test.false))

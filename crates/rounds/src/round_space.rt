@@ -1,0 +1,78 @@
+//! Room for the blocks that come back from a round.
+ghost use Rattle.std.specs.Prelude.{◌≡◌, ◌*◌, ◌≤◌, ℕ, IfOk, length, vec_capacity, vec_len};
+ghost use Rattle.block_net.specs.Limits.{block_limit};
+ghost use Rattle.rounds.specs.Mated.{AreMated, room_to, messages_sent, messages_taken};
+ghost use Rattle.rounds.specs.Links.{ring_room, sent_in, taken_in};
+ghost use Rattle.rounds.specs.Seated.{blocks_of, ends_of_seats, ports_of};
+
+use crate::pair::Pair;
+use crate::rings::Rings;
+use crate::seats::apart;
+use block_net::Cells;
+use block_workers::{Port, Seat};
+use std::alloc::{AllocError, Global};
+
+/// Room for blocks that come back from workers, and for the rings between them.
+#[derive(Drop)]
+pub(crate) struct Space {
+    pub(crate) count: usize,
+    blocks: Vec<Cells>,
+    lists: Vec<Vec<Port>>,
+    pairs: Vec<Pair>,
+    ghost no_block: { vec_len blocks ≡ 0 },
+    ghost no_list: { vec_len lists ≡ 0 },
+    ghost no_pair: { vec_len pairs ≡ 0 },
+    ghost for_blocks: { count ≤ vec_capacity blocks },
+    ghost for_lists: { count ≤ vec_capacity lists },
+    ghost for_pairs: { count * count ≤ 2 * vec_capacity pairs },
+}
+
+/// Blocks that came back from their workers, and the rings between them.
+#[derive(Drop)]
+pub(crate) struct Came {
+    pub(crate) blocks: Vec<Cells>,
+    pub(crate) rings: Rings,
+}
+
+impl Space {
+    /// Room for so many blocks, each joined with each other. The only error is that memory runs
+    /// out.
+    pub(crate) fn new(alloc: Global, count: usize) -> Result<Space, AllocError>
+        requires { count ≤ block_limit }
+        ensures { IfOk result (λ space. space.count ≡ count) }
+    {
+        let half = count * count / 2 + 1;
+        Ok(Space {
+            count,
+            blocks: Vec::with_capacity(alloc, count)?,
+            lists: Vec::with_capacity(alloc, count)?,
+            pairs: Vec::with_capacity(alloc, half)?,
+        })
+    }
+}
+
+/// The blocks of seats that came back, and the rings between them. Takes no memory.
+pub(crate) fn gather_seats(seats: Vec<Seat>, space: Space) -> Came
+    requires count { vec_len seats ≡ space.count }
+    requires mated { AreMated (length seats.items) (ports_of (ends_of_seats seats.items)) }
+    ensures blocks { result.blocks.items ≡ blocks_of seats.items }
+    ensures count { result.rings.blocks ≡ length seats.items }
+    ensures sent { (b c : ℕ) → sent_in result.rings b c
+        ≡ messages_sent (ports_of (ends_of_seats seats.items)) b c }
+    ensures taken { (b c : ℕ)
+        → taken_in result.rings b c ≡ messages_taken (ports_of (ends_of_seats seats.items)) b c }
+    ensures room { (b c : ℕ) → ring_room result.rings b c
+        ≡ room_to (ports_of (ends_of_seats seats.items)) b c }
+{
+    let Space {
+        count: _,
+        mut blocks,
+        mut lists,
+        pairs,
+    } = space;
+    apart(seats, &mut blocks, &mut lists);
+    Came {
+        blocks,
+        rings: Rings::pair(lists, pairs),
+    }
+}

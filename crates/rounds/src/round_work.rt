@@ -1,0 +1,41 @@
+//! Blocks, dealt to workers, worked on, and collected.
+ghost use Rattle.std.specs.Prelude.{◌≡◌, ◌<◌, ◌≤◌, IfOk};
+ghost use Rattle.block_workers.specs.Workers.{AllWorked, AreNew, turns_of};
+
+use crate::seat_work::work_seats;
+use block_workers::{Job, RoundError, Seat, TurnBook};
+use std::alloc::Global;
+use std::sync::ledger::Share;
+use std::sync::{Mutex, Wait};
+use std::thread::Threads;
+use worker_options::Gate;
+
+/// The seats are dealt to so many workers, which do their turns, and are collected again. No more
+/// turns are drawn than the book began with, of which `whole` is the share. All growths come before
+/// the first worker starts.
+pub(crate) fn work_on<J: Job + Sync, R: Threads + Wait + Sync, G: Gate>(
+    rt: &R,
+    alloc: Global,
+    seats: Vec<Seat>,
+    threads: usize,
+    book: TurnBook<J>,
+    mut whole: Share<J::Budget>,
+    mut share: Share<J::Drawn>,
+    gate: &G,
+) -> Result<Vec<Seat>, RoundError>
+    requires new { AreNew seats.items }
+    requires some { 0 < threads }
+    requires whole { whole.parts ≡ J.Budget.parts }
+    requires all { share.parts ≡ J.Drawn.parts }
+    requires parts { share.parts ≡ threads }
+    requires none { share.amount ≡ 0 }
+    ensures worked { IfOk result (λ back. AllWorked seats.items back.items) }
+    ensures few { IfOk result (λ back. turns_of back.items ≤ whole.amount) }
+{
+    let book = Mutex::new(book);
+    let back = work_seats::<J, R, G>(rt, alloc, seats, threads, &mut share, &book, gate)?;
+    let mut book = book.into_inner();
+    book.audit_drawn(&mut share);
+    book.audit_budget(&mut whole);
+    Ok(back)
+}
