@@ -14,14 +14,18 @@ use Rattle.move_energy.specs.declared.choice.Choice.TheVariants.{Open, Zero, One
 use Rattle.move_energy.specs.Choices.{choice_at, StandsFor}
 use Rattle.move_energy.specs.BySite.{AreNeighboursOf, degree, pair_of}
 use Rattle.move_energy.specs.Weights.{weight_at, AreWeights}
-use Rattle.deciding.specs.Decisions.{Decision, AreForced, rise, IsSubmodular, IsOver, IsSmallestLeast}
+use Rattle.deciding.specs.Decisions.{Decision, AreForced, rise, IsSubmodular, IsOver}
+use Rattle.deciding.specs.Decisions.{IsSmallestLeast}
 use Rattle.deciding.specs.MoveValues.{move_value}
 use Rattle.deciding.specs.Decided.{AreDecided}
 use Rattle.deciding.specs.Working.{TellsValue, ArePartlyDecided}
 use Rattle.deciding.specs.declared.bounds.Bounds.{Bounds}
-use Rattle.closing_in.specs.Fixing.{with_choices, fixed_value, IsLeast, HasZeros, HasOnes, OnesLieWithin}
-use Rattle.closing_in.specs.Agreeing.{Agree, IsAgreed, ChooseMore, AreOfDecisions, TellsOne, with_one, choices_or}
-use Rattle.closing_in.specs.Strips.{Strip, others_at, lower_value, upper_value, IsStripBounded, told_by, with_strips, with_rounds, AreRounds}
+use Rattle.closing_in.specs.Fixing.{with_choices, fixed_value, IsLeast, HasZeros, HasOnes}
+use Rattle.closing_in.specs.Fixing.{OnesLieWithin}
+use Rattle.closing_in.specs.Agreeing.{Agree, IsAgreed, ChooseMore, AreOfDecisions, TellsOne}
+use Rattle.closing_in.specs.Agreeing.{with_one, choices_or}
+use Rattle.closing_in.specs.Strips.{Strip, others_at, lower_value, upper_value, IsStripBounded}
+use Rattle.closing_in.specs.Strips.{told_by, with_strips, with_rounds, AreRounds}
 use Rattle.closing_in.specs.Borders.{is_inside, not_ones, pair_border, border_at, border_sum}
 use Rattle.closing_in.specs.Forms.{bits_by_site, IsOneToOne, IsReweighed}
 

@@ -9,13 +9,17 @@ ghost use Rattle.deciding.specs.Decisions.{IsSubmodular, IsOver, IsSmallestLeast
 ghost use Rattle.closing_in.specs.Fixing.{fixed_value};
 ghost use Rattle.closing_in.specs.Agreeing.{Agree, AreOpened};
 ghost use Rattle.closing_in.specs.Strips.{Strip, with_rounds, AreRounds};
-ghost use Rattle.closing_in.specs.Laws.{LeastRises, OnesBoundLeast, ZerosBoundLeast, RestAndFixedIsLeast};
+ghost use Rattle.closing_in.specs.Laws.{LeastRises, OnesBoundLeast, ZerosBoundLeast};
+ghost use Rattle.closing_in.specs.Laws.{RestAndFixedIsLeast};
 ghost use Rattle.closing_in.specs.Laws.{EachAgreedAgree, ForcedAgree, RestAgrees, AgreeByRest};
 ghost use Rattle.closing_in.specs.Laws.{StripAgrees, LowerAgrees, UpperAgrees, LowerWithinUpper};
-ghost use Rattle.closing_in.specs.Laws.{TestedAgree, StripAddsLater, StripsSideBySide, RoundsAndRestAreLeast};
-ghost use Rattle.closing_in.specs.Laws.{DecidedAgree, RoundsEndMove, UpperRiseIsLower, UpperIsLowerWithBorder};
+ghost use Rattle.closing_in.specs.Laws.{TestedAgree, StripAddsLater, StripsSideBySide};
+ghost use Rattle.closing_in.specs.Laws.{RoundsAndRestAreLeast};
+ghost use Rattle.closing_in.specs.Laws.{DecidedAgree, RoundsEndMove, UpperRiseIsLower};
+ghost use Rattle.closing_in.specs.Laws.{UpperIsLowerWithBorder};
 ghost use Rattle.closing_in.specs.Laws.{WeightsOfStrip, WeightsLessBorder, SameChoicesSame};
-ghost use Rattle.closing_in.specs.Laws.{PartlyDecidedAgree, BoundsTellOne, WeightsGoOn, BorderBySite};
+ghost use Rattle.closing_in.specs.Laws.{PartlyDecidedAgree, BoundsTellOne, WeightsGoOn};
+ghost use Rattle.closing_in.specs.Laws.{BorderBySite};
 ghost use Rattle.closing_in.specs.Laws.{FormTellsLeast, FormTellsSmallestLeast};
 ghost use Rattle.closing_in.specs.Laws.{FormLessBorder, ReweighedLessBorder};
 

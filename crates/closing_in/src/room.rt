@@ -1,6 +1,6 @@
 //! How much more room to the sink the node of a site has where the open sites outside its strip are
 //! at 1, and not at 0.
-ghost use Rattle.std.specs.Prelude.{◌≡◌, ◌<◌, ◌≤◌, ◌*◌, ℕ, pos, length, unsigned_abs};
+ghost use Rattle.std.specs.Prelude.{◌≡◌, ◌<◌, ◌≤◌, ◌*◌, pos, length, unsigned_abs};
 ghost use Rattle.label_field.specs.PairLists.{IsPair};
 ghost use Rattle.labellings.specs.Energies.{labelling};
 ghost use Rattle.labellings.specs.Moves.{IsRegularPair, IsAllowed};

@@ -1,7 +1,8 @@
 -- Variables of a function of yes-no variables whose value in its least assignment with the fewest
 -- ones is known before the rest is looked at (Iyer, Jegelka, Bilmes, ICML 2013, section 4; Boros
 -- and Hammer 2002).
-use Rattle.std.specs.Prelude.{◌≡◌, ℕ, ◌<◌, ◌==◌, Bool, true, false, cond, List, [], ◌∷◌, ℤ, pos, ◌+ℤ◌, ◌-ℤ◌, ◌≤ℤ◌, ◌<ℤ◌}
+use Rattle.std.specs.Prelude.{◌≡◌, ℕ, ◌<◌, ◌==◌, Bool, true, false, cond, List, [], ◌∷◌, ℤ, pos}
+use Rattle.std.specs.Prelude.{◌+ℤ◌, ◌-ℤ◌, ◌≤ℤ◌, ◌<ℤ◌}
 
 -- a variable and its value
 pub record Decision : Type 0 where

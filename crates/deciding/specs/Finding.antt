@@ -14,9 +14,9 @@ use Rattle.move_energy.specs.Choices.{choice_at}
 use Rattle.move_energy.specs.Limits.{surplus_limit}
 use Rattle.move_energy.specs.Weights.{AreWeights}
 use Rattle.deciding.specs.declared.bounds.Bounds.{Bounds}
-use Rattle.deciding.specs.declared.finding.MoveToFind.{MoveToFind}
-use Rattle.deciding.specs.declared.rising.Rises.{Rises}
-use Rattle.deciding.specs.declared.rising.Turn.{Turn}
+use Rattle.deciding.specs.declared.move_to_find.MoveToFind.{MoveToFind}
+use Rattle.deciding.specs.declared.rises_of_site.Rises.{Rises}
+use Rattle.deciding.specs.declared.rises_of_site.Turn.{Turn}
 use Rattle.deciding.specs.declared.sites.Deciding.{Deciding}
 use Rattle.deciding.specs.Decided.{KnowsSites}
 use Rattle.deciding.specs.MoveValues.{pair_rise}

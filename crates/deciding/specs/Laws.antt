@@ -4,7 +4,8 @@ use Rattle.compile_cut.specs.Shown.{Hides}
 use Rattle.labellings.specs.declared.change.Move.{Move}
 use Rattle.labellings.specs.Energies.{Instance, IsInstance}
 use Rattle.labellings.specs.Moves.{IsAllowed}
-use Rattle.deciding.specs.Decisions.{Decision, with_decisions, Passes, HavePassed, IsForced, AreForced}
+use Rattle.deciding.specs.Decisions.{Decision, with_decisions, Passes, HavePassed, IsForced}
+use Rattle.deciding.specs.Decisions.{AreForced}
 use Rattle.deciding.specs.Decisions.{IsSubmodular, IsOver, IsSmallestLeast, IsRest}
 use Rattle.deciding.specs.MoveValues.{move_value}
 

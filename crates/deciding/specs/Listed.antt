@@ -1,11 +1,12 @@
 -- The lists of the sites that a move has left to look at, made where these are few.
-use Rattle.std.specs.Prelude.{◌≡◌, ◌↔◌, ◌==◌, ◌||◌, ℕ, ◌*◌, ◌≤◌, Bool, false, not, IsTrue, List, [], length}
+use Rattle.std.specs.Prelude.{◌≡◌, ◌↔◌, ◌==◌, ◌||◌, ℕ, ◌*◌, ◌≤◌, Bool, false, not, IsTrue, List, []}
+use Rattle.std.specs.Prelude.{length}
 use Rattle.labellings.specs.declared.change.Move.{Move}
 use Rattle.labellings.specs.Moves.{label_after}
 use Rattle.move_energy.specs.BySite.{IsListing}
 use Rattle.move_energy.specs.declared.choice.Choice.{Choice}
 use Rattle.move_energy.specs.Choices.{bit_of, choice_at, is_open, open_count, open_at, AreOpenSites}
-use Rattle.deciding.specs.declared.listing.Lists.{Lists}
+use Rattle.deciding.specs.declared.lists.Lists.{Lists}
 
 -- nothing is counted, and no site is listed
 pub record AreListsEmpty (lists : Lists) : Type 0 where

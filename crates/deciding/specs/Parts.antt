@@ -14,7 +14,7 @@ use Rattle.move_energy.specs.Choices.{bit_of, choice_at}
 use Rattle.move_energy.specs.Weights.{open_energy}
 use Rattle.deciding.specs.Decisions.{Decision, with_decisions, Passes, HavePassed}
 use Rattle.deciding.specs.MoveValues.{move_value, data_rise}
-use Rattle.deciding.specs.declared.finding.RiseNumbers.{RiseNumbers}
+use Rattle.deciding.specs.declared.move_to_find.RiseNumbers.{RiseNumbers}
 use Rattle.deciding.specs.declared.sites.Deciding.{Deciding}
 use Rattle.deciding.specs.Rising.{IsRiseTable, IsTableOf}
 

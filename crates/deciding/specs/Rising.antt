@@ -1,6 +1,7 @@
 -- The table of a move's rises: by how much a pair's cost rises where one of its ends turns, by the
 -- labels of both.
-use Rattle.std.specs.Prelude.{◌≡◌, ◌==◌, ℕ, ◌+◌, ◌*◌, ◌<◌, ◌≤◌, Bool, true, false, cond, List, length, slice_index_or, ℤ, pos, unsigned_abs}
+use Rattle.std.specs.Prelude.{◌≡◌, ◌==◌, ℕ, ◌+◌, ◌*◌, ◌<◌, ◌≤◌, Bool, true, false, cond, List}
+use Rattle.std.specs.Prelude.{length, slice_index_or, ℤ, pos, unsigned_abs}
 use Rattle.label_field.specs.declared.pair.Pair.{Pair}
 use Rattle.labellings.specs.declared.change.Move.{Move}
 use Rattle.labellings.specs.Energies.{Instance, labelling}

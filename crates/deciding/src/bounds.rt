@@ -1,5 +1,5 @@
 //! What is known of each site while sites are decided.
-ghost use Rattle.std.specs.Prelude.{◌≡◌, ◌↔◌, ◌+◌, ◌<◌, ◌^◌, ℕ, ℤ, pos, ◌+ℤ◌, ◌≤ℤ◌, ◌<ℤ◌, ◌⊎◌, ◌++◌, ◌∷◌, [], IsTrue, length, slice_set, unsigned_abs, OnOk};
+ghost use Rattle.std.specs.Prelude.{◌≡◌, ◌↔◌, ◌<◌, ℤ, ◌+ℤ◌, IsTrue, length, slice_set, OnOk};
 ghost use Rattle.deciding.specs.Working.{bound_at, CanDecide, CallsUp, AreOfNoSites};
 ghost use Rattle.deciding.specs.Working.{HasBounds, HasRoomFor, RaisesBounds};
 

@@ -4,23 +4,23 @@
 
 mod bounds;
 mod costs;
-mod finding;
 pub mod laws;
-mod listing;
-mod reading;
-mod rising;
+mod lists;
+mod move_to_find;
+mod regular_terms;
+mod rises_of_site;
 mod savings;
-mod settling;
+mod site_bounds;
 mod sites;
-mod summing;
+mod sweeps;
 mod table;
-mod testing;
+mod waiting_sites;
 
 pub use bounds::Bounds;
-pub use finding::{MoveToFind, RiseNumbers};
-pub use listing::Lists;
-pub use reading::{read_weight, sweep};
+pub use lists::Lists;
+pub use move_to_find::{MoveToFind, RiseNumbers};
 pub use savings::told_surplus;
-pub use settling::pair_surplus;
 pub use sites::Deciding;
+pub use sweeps::{read_weight, sweep};
 pub use table::{EndRises, RiseTable};
+pub use waiting_sites::pair_surplus;

@@ -1,14 +1,14 @@
 //! What the two ends of a pair save together in a move, read of the table of the move's rises
 //! alone. No cost is asked for, so threads can share what is read.
-ghost use Rattle.std.specs.Prelude.{◌≡◌, ◌≤◌, ℕ, length, unsigned_abs};
+ghost use Rattle.std.specs.Prelude.{◌≡◌, ◌≤◌, ℕ, unsigned_abs};
 ghost use Rattle.labellings.specs.declared.change.Move.{Move};
 ghost use Rattle.labellings.specs.Energies.{Instance};
 ghost use Rattle.move_energy.specs.Limits.{surplus_limit};
 ghost use Rattle.move_energy.specs.Weights.{surplus_of, pair_table};
 ghost use Rattle.deciding.specs.Savings.{CoversPair, IsTableFrom};
 
-use crate::settling::table_surplus;
 use crate::table::RiseTable;
+use crate::waiting_sites::table_surplus;
 use label_field::Pair;
 
 /// The surplus of a pair, by a table that has its weight: by how much its costs at 01 and 10 are

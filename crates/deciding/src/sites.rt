@@ -1,21 +1,21 @@
 //! Deciding the sites of a move.
-ghost use Rattle.std.specs.Prelude.{◌≡◌, ◌<◌, ◌≤◌, ℕ, [], All, length, IfOk, IfErr, OnOk, OnErr, IsTrue, false};
+ghost use Rattle.std.specs.Prelude.{◌≡◌, [], IfOk, IfErr, OnOk, OnErr, IsTrue, false};
 ghost use Rattle.move_energy.specs.BySite.{AreBySite};
 ghost use Rattle.move_energy.specs.Choices.{choice_at, AreAllOpen};
 ghost use Rattle.move_energy.specs.Problems.{IsPrepareRefusal};
 ghost use Rattle.labellings.specs.Energies.{labelling};
-ghost use Rattle.cost_store.specs.Posed.{IsPosed, IsAsked, WhereMeant};
+ghost use Rattle.cost_store.specs.Posed.{WhereMeant};
 ghost use Rattle.deciding.specs.Decided.{IsDecidedMove};
 ghost use Rattle.deciding.specs.Finding.{IsAskedBySite, KnowsMove};
 ghost use Rattle.deciding.specs.Listed.{AreListsEmpty};
-ghost use Rattle.deciding.specs.declared.finding.RiseNumbers.{RiseNumbers};
+ghost use Rattle.deciding.specs.declared.move_to_find.RiseNumbers.{RiseNumbers};
 ghost use Rattle.deciding.specs.Parts.{AreReadable, AreRisesOf, ArePassedChoices, AreNumbersOf};
 ghost use Rattle.deciding.specs.Working.{AreOfNoSites};
 
-use crate::finding::MoveToFind;
-use crate::reading::list_own_rises;
+use crate::move_to_find::MoveToFind;
+use crate::regular_terms::test_terms;
+use crate::sweeps::list_own_rises;
 use crate::table::RiseTable;
-use crate::testing::test_terms;
 use crate::{Bounds, Lists};
 use cost_store::Problem;
 use label_field::Pairs;

@@ -1,13 +1,14 @@
 //! By how much a pair's cost rises in a move where one of its ends turns, in a table by the labels
 //! of its ends. So going round a site asks for no cost.
-ghost use Rattle.std.specs.Prelude.{◌≡◌, ◌⊎◌, ◌+◌, ◌*◌, ◌<◌, ◌≤◌, ℕ, Bool, true, false, pos, length, slice_index_or, unsigned_abs, OnOk};
+ghost use Rattle.std.specs.Prelude.{◌≡◌, ◌⊎◌, ◌+◌, ◌*◌, ◌<◌, ◌≤◌, ℕ, true, false, pos, length};
+ghost use Rattle.std.specs.Prelude.{slice_index_or, OnOk};
 ghost use Rattle.label_field.specs.Limits.{weight_limit};
 ghost use Rattle.labellings.specs.Moves.{IsMoveOf};
 ghost use Rattle.cost_store.specs.Posed.{IsPosed, WhereMeant};
-ghost use Rattle.move_energy.specs.Choices.{bit_of};
-ghost use Rattle.deciding.specs.Rising.{entry_place, rises_at, AreRises, AreRisesSmall, IsRiseTable, IsTableOf, table_labels};
+ghost use Rattle.deciding.specs.Rising.{entry_place, rises_at, AreRises, AreRisesSmall};
+ghost use Rattle.deciding.specs.Rising.{IsRiseTable, IsTableOf, table_labels};
 
-use crate::rising::{Turn, end_rise};
+use crate::rises_of_site::{Turn, end_rise};
 use cost_store::Problem;
 use label_field::WEIGHT_LIMIT;
 use labellings::Move;

@@ -25,6 +25,7 @@ pub use Rattle.cost_store.specs.Promises
 pub use Rattle.moves.specs.Bounds
 pub use Rattle.moves.specs.Instances
 pub use Rattle.moves.specs.Laws
+pub use Rattle.moves.specs.Prices
 pub use Rattle.moves.specs.Problems
 pub use Rattle.moves.specs.Refusals
 pub use Rattle.moves.specs.Runs

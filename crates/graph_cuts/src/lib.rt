@@ -11,7 +11,7 @@ pub use label_field::{LabelFieldError, Labelling, Pair, Pairs};
 pub use labellings::{Move, Moves};
 pub use minimum::{Minimum, minimise, minimise_by};
 pub use moves::{
-    Bound, Columns, Ended, MoveError, Request, Run, expand, expansion_bound, laws,
+    Bound, Columns, Ended, LabelPrices, MoveError, Request, Run, expand, expansion_bound, laws,
     potts_run_is_near, run, run_expansion, run_swap, run_tables, run_with_table,
     settled_run_is_near, swap,
 };

@@ -5,8 +5,8 @@ use Rattle.labellings.specs.declared.change.Move.{Move}
 use Rattle.labellings.specs.Energies.{Instance, pair_cost}
 use Rattle.labellings.specs.Moves.{IsRegularPair}
 use Rattle.move_energy.specs.declared.choice.Choice.{Choice}
-use Rattle.move_energy.specs.declared.listed_pairs.Adds.{Adds}
-use Rattle.move_energy.specs.declared.listed_pairs.Adds.TheVariants.{Costs, Savings}
+use Rattle.move_energy.specs.declared.open_pairs.Adds.{Adds}
+use Rattle.move_energy.specs.declared.open_pairs.Adds.TheVariants.{Costs, Savings}
 use Rattle.move_energy.specs.declared.by_site.Neighbours.{Neighbours}
 use Rattle.move_energy.specs.declared.open_moves.NumberedMove.{NumberedMove}
 use Rattle.move_energy.specs.BySite.{met_at}

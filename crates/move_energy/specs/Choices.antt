@@ -1,6 +1,7 @@
 -- What is known of a move's variables before its energy is built, how the open ones are numbered,
 -- and what is known of them once the energy is least.
-use Rattle.std.specs.Prelude.{◌≡◌, ◌≢◌, ◌↔◌, ℕ, ◌<◌, Bool, true, false, List, length, slice_index_or, ℤ, pos, ◌+ℤ◌, vec_len}
+use Rattle.std.specs.Prelude.{◌≡◌, ◌≢◌, ◌↔◌, ℕ, ◌<◌, Bool, true, false, List, length}
+use Rattle.std.specs.Prelude.{slice_index_or, ℤ, pos, ◌+ℤ◌, vec_len}
 use Rattle.sums.specs.Sums.{sum_below}
 use Rattle.move_energy.specs.BySite.{IsListing}
 use Rattle.labellings.specs.declared.change.Move.{Move}

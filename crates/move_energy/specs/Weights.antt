@@ -1,5 +1,6 @@
 -- What the open sites of a partly decided move weigh, and what pairs of two of them save.
-use Rattle.std.specs.Prelude.{◌≡◌, ◌==◌, ◌&&◌, ◌++◌, ◌∷◌, [], ℕ, zero, suc, ◌+◌, ◌-◌, ◌<◌, Bool, true, false, not, cond, List, slice_index_or, ℤ, pos, ◌+ℤ◌, ◌-ℤ◌}
+use Rattle.std.specs.Prelude.{◌≡◌, ◌==◌, ◌&&◌, ◌++◌, ◌∷◌, [], ℕ, zero, suc, ◌+◌, ◌-◌, ◌<◌, Bool}
+use Rattle.std.specs.Prelude.{true, false, not, cond, List, slice_index_or, ℤ, pos, ◌+ℤ◌, ◌-ℤ◌}
 use Rattle.sums.specs.Sums.{count_if}
 use Rattle.label_field.specs.declared.pair.Pair.{Pair}
 use Rattle.labellings.specs.declared.change.Move.{Move}

@@ -1,5 +1,6 @@
 //! What a pair of two sites costs in a move.
-ghost use Rattle.std.specs.Prelude.{◌≡◌, ◌<◌, ◌≤◌, ◌*◌, ◌∷◌, [], ℕ, pos, ◌≤ℤ◌, true, false, All, length, unsigned_abs};
+ghost use Rattle.std.specs.Prelude.{◌≡◌, ◌<◌, ◌≤◌, ◌*◌, ◌∷◌, [], pos, ◌≤ℤ◌, true, false, All};
+ghost use Rattle.std.specs.Prelude.{length, unsigned_abs};
 ghost use Rattle.label_field.specs.Limits.{weight_limit};
 ghost use Rattle.label_field.specs.PairLists.{IsPair};
 ghost use Rattle.labellings.specs.Energies.{labelling};

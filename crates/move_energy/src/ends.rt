@@ -1,5 +1,5 @@
 //! The term of a pair of two sites.
-ghost use Rattle.std.specs.Prelude.{◌≡◌, ◌<◌, ◌≤◌, ◌*◌, ℕ, vec_len, IfOk, OnOk};
+ghost use Rattle.std.specs.Prelude.{◌≡◌, ◌<◌, ◌≤◌, ◌*◌, vec_len, IfOk, OnOk};
 ghost use Rattle.label_field.specs.Limits.{weight_limit};
 ghost use Rattle.labellings.specs.Moves.{label_after, IsMoveOf};
 ghost use Rattle.pseudo_bool.specs.Limits.{term_limit};

@@ -1,5 +1,6 @@
 //! What labels cost by themselves, added to the form of an expansion.
-ghost use Rattle.std.specs.Prelude.{◌≡◌, ◌≢◌, ◌+◌, ◌<◌, ◌≤◌, ℕ, Bool, pos, All, length, vec_len, OnOk};
+ghost use Rattle.std.specs.Prelude.{◌≡◌, ◌≢◌, ◌+◌, ◌≤◌, pos, All, length, vec_len};
+ghost use Rattle.std.specs.Prelude.{OnOk};
 ghost use Rattle.sums.specs.Sums.{count_if};
 ghost use Rattle.label_field.specs.Limits.{site_limit, pair_limit, label_limit};
 ghost use Rattle.labellings.specs.declared.change.Move.TheVariants.{Expand};
@@ -10,7 +11,8 @@ ghost use Rattle.move_energy.specs.Choices.{open_count, AreAllOpen, IsNumbering}
 ghost use Rattle.cost_store.specs.Limits.{label_cost_limit};
 ghost use Rattle.move_energy.specs.Limits.{label_terms};
 ghost use Rattle.move_energy.specs.LabelCosts.{costs_below, AddsHidden, GrowsBy};
-ghost use Rattle.move_energy.specs.Expansions.{has_label, takes_label, IsOpenExpansion, HasRoomForLabel};
+ghost use Rattle.move_energy.specs.Expansions.{has_label, takes_label, IsOpenExpansion};
+ghost use Rattle.move_energy.specs.Expansions.{HasRoomForLabel};
 
 use crate::Variables;
 use crate::nodes::{list_each, list_having};

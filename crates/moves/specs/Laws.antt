@@ -1,7 +1,8 @@
 -- What is true of every move and every run over a metric, and of every refusal of one thread.
 use Rattle.std.specs.Prelude.{◌≡◌, ◌*◌, ℕ, List, pos, ◌≤ℤ◌, IsTrue, Ok, Err}
 use Rattle.labellings.specs.declared.change.Move.{Move}
-use Rattle.labellings.specs.Energies.{Instance, IsInstance, IsMetric, IsLabelled, AreLabelsFree, labelling, energy}
+use Rattle.labellings.specs.Energies.{Instance, IsInstance, IsMetric, IsLabelled, AreLabelsFree}
+use Rattle.labellings.specs.Energies.{labelling, energy}
 use Rattle.labellings.specs.Chains.{expansions}
 use Rattle.labellings.specs.Laws.{IsWithinTwice}
 use Rattle.label_field.specs.LabelFields.{LabelField}

@@ -2,7 +2,9 @@
 use Rattle.std.specs.Prelude.{◌≡◌, ◌⊎◌}
 use Rattle.labellings.specs.Energies.{Instance, IsMetric}
 use Rattle.solvers.specs.declared.solve_error.SolveError.{SolveError}
-use Rattle.solvers.specs.declared.solve_error.SolveError.TheVariants.{OutOfMemory as NoMemory, Workers as NoWorkers, BadOptions as NoOptions}
+use Rattle.solvers.specs.declared.solve_error.SolveError.TheVariants.{OutOfMemory as NoMemory}
+use Rattle.solvers.specs.declared.solve_error.SolveError.TheVariants.{Workers as NoWorkers}
+use Rattle.solvers.specs.declared.solve_error.SolveError.TheVariants.{BadOptions as NoOptions}
 use Rattle.moves.specs.declared.error.MoveError.{MoveError}
 use Rattle.moves.specs.declared.error.MoveError.TheVariants.{OutOfMemory, Workers, BadOptions}
 

@@ -1,11 +1,13 @@
 -- What a run over a table of smooth costs answers.
-use Rattle.std.specs.Prelude.{◌≡◌, ℕ, ◌*◌, ◌≤◌, pos, ◌≤ℤ◌, Bool, List, length, Option, Some, None, IsTrue, Result, Ok, Err}
+use Rattle.std.specs.Prelude.{◌≡◌, ℕ, ◌*◌, ◌≤◌, pos, ◌≤ℤ◌, Bool, List, length, Option, Some, None}
+use Rattle.std.specs.Prelude.{IsTrue, Result, Ok, Err}
 use Rattle.label_field.specs.LabelFields.{LabelField}
 use Rattle.cost_store.specs.Limits.{data_energy_limit, smooth_energy_limit, label_energy_limit}
 use Rattle.labellings.specs.declared.cycles.Moves.{Moves}
 use Rattle.labellings.specs.declared.cycles.Moves.TheVariants.{Expansion, Swap}
 use Rattle.labellings.specs.Chains.{moves_of}
-use Rattle.labellings.specs.Energies.{Instance, AreLabelsFree, IsLabelled, IsMetric, IsRatio, labelling, energy, data_energy, smooth_energy, label_energy}
+use Rattle.labellings.specs.Energies.{Instance, AreLabelsFree, IsLabelled, IsMetric, IsRatio}
+use Rattle.labellings.specs.Energies.{labelling, energy, data_energy, smooth_energy, label_energy}
 use Rattle.moves.specs.Problems.{IsRunOfCycles}
 use Rattle.moves.specs.declared.bound.Bound.{Bound}
 use Rattle.moves.specs.declared.error.MoveError.{MoveError}

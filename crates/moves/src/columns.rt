@@ -1,4 +1,5 @@
-ghost use Rattle.std.specs.Prelude.{◌≡◌, ◌<◌, ℕ, IfOk};
+//! What one label costs each site, in a list.
+ghost use Rattle.std.specs.Prelude.{◌<◌, ℕ, IfOk};
 ghost use Rattle.cost_store.specs.Limits.{data_limit};
 ghost use Rattle.cost_store.specs.Promises.{Keeps, AnswersTable, IsColumn};
 

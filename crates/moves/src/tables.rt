@@ -1,5 +1,6 @@
 //! Runs of moves over tables of costs.
-ghost use Rattle.std.specs.Prelude.{◌≡◌, ◌↔◌, ℕ, ◌+◌, ◌*◌, ◌<◌, ◌≤◌, pos, ◌≤ℤ◌, All, IsTrue, IsNone, IfErr, IfOk, IfSome, length, slice_index};
+ghost use Rattle.std.specs.Prelude.{◌≡◌, ◌+◌, ◌*◌, ◌<◌, ◌≤◌, pos, ◌≤ℤ◌, All, IsTrue, IsNone, IfErr};
+ghost use Rattle.std.specs.Prelude.{IfOk, IfSome, length, slice_index};
 ghost use Rattle.labellings.specs.declared.cycles.Moves.TheVariants.{Expansion};
 ghost use Rattle.labellings.specs.Energies.{Instance, IsMetric};
 ghost use Rattle.cost_store.specs.Limits.{data_limit, site_cost_limit, smooth_limit};
@@ -8,6 +9,7 @@ ghost use Rattle.cost_store.specs.Posed.{IsPosed, WhereMeant, FitsProblem};
 ghost use Rattle.cost_store.specs.Promises.{IsCost, IsMetricTable, Keeps, entry_at};
 ghost use Rattle.moves.specs.Bounds.{IsBoundOf};
 ghost use Rattle.moves.specs.Instances.{IsInstanceOf, data_entry, instance_of};
+ghost use Rattle.moves.specs.Prices.{ArePrices};
 ghost use Rattle.moves.specs.Problems.{IsRunRefusal, TellsPairNotRegular};
 ghost use Rattle.moves.specs.Refusals.{IsRefusalOver};
 ghost use Rattle.moves.specs.Runs.{AnswersRun, IsRunInRange, MayMake};
@@ -25,6 +27,19 @@ pub struct Request {
     pub start: Labelling,
     pub moves: Moves,
     pub cycles: u32,
+}
+
+/// What pairs of labels and labels by themselves cost.
+#[derive(Drop)]
+pub struct LabelPrices<'a> {
+    /// The smooth costs: a row for each label of a pair's first site, and in it an entry from 0 to
+    /// `SMOOTH_LIMIT` for each of the second.
+    pub smooth: &'a [i64],
+    /// Whether the smooth costs are a metric, which `is_metric` tells of a table that is not known.
+    pub by_metric: bool,
+    /// What each label costs by itself, from 0 to `LABEL_COST_LIMIT`; none if no label costs
+    /// anything.
+    pub label_costs: Option<Vec<i64>>,
 }
 
 /// Where a run ended.
@@ -46,11 +61,7 @@ pub struct Run {
     pub bound: Option<Bound>,
 }
 
-/// Makes the moves of a request, and answers where they ended. `smooth` has a row for each label of
-/// a pair's first site, and in it an entry from 0 to `SMOOTH_LIMIT` for each of the second;
-/// `by_metric` says whether it is a metric, which `is_metric` tells of a table that is not known.
-/// `label_costs` has what each label costs by itself, from 0 to `LABEL_COST_LIMIT`: 0 where it has
-/// none.
+/// Makes the moves of a request at these prices, and answers where they ended.
 ///
 /// Refused: `LabelCostInSwap` exactly where swaps are to be made and some label costs something by
 /// itself, before any move; `PairNotRegular` where the next move of the chain has a term that is
@@ -61,9 +72,7 @@ pub fn run_with_table<F: Fn(u32, u32) -> i64 + Sync, H: How>(
     alloc: Global,
     pairs: Pairs,
     data_cost: DataCost<F>,
-    smooth: &[i64],
-    by_metric: bool,
-    label_costs: Option<Vec<i64>>,
+    prices: LabelPrices,
     request: Request,
     how: &H,
 ) -> Result<Run, MoveError>
@@ -72,31 +81,28 @@ pub fn run_with_table<F: Fn(u32, u32) -> i64 + Sync, H: How>(
     requires labels { data_cost.labels ≡ request.start.labels }
     requires costs { Keeps (F.pre data_cost.f) (F.post data_cost.f) data_cost.sites data_cost.labels
         data_limit }
-    requires smooth { (length smooth.now ≡ request.start.labels * request.start.labels)
-        × All (IsCost smooth_limit) smooth.now }
-    requires known { IsTrue by_metric ↔ IsMetricTable request.start.labels smooth.now }
-    requires label_costs { AreLabelCosts request.start.labels label_costs }
-    ensures run { (m : Instance)
-        → IsInstanceOf (F.post data_cost.f) pairs request.start.labels smooth.now m →
-        HasCosts m label_costs → AnswersRun m request.moves request.cycles request.start.at result }
+    requires prices { ArePrices request.start.labels prices }
+    ensures run { (m : Instance) →
+        IsInstanceOf (F.post data_cost.f) pairs request.start.labels prices.entry.smooth.now m →
+        HasCosts m prices.entry.label_costs →
+        AnswersRun m request.moves request.cycles request.start.at result }
     ensures refused { IfErr result (IsRunRefusal (H.refuses how.now)) }
-    ensures metric { IsMetricTable request.start.labels smooth.now → (m : Instance)
-        → IsInstanceOf (F.post
-        data_cost.f) pairs request.start.labels smooth.now m → HasCosts m label_costs
-        → IfErr result (λ e. ¬
-        TellsPairNotRegular e) }
+    ensures metric { IsMetricTable request.start.labels prices.entry.smooth.now → (m : Instance) →
+        IsInstanceOf (F.post data_cost.f) pairs request.start.labels prices.entry.smooth.now m →
+        HasCosts m prices.entry.label_costs →
+        IfErr result (λ e. ¬ TellsPairNotRegular e) }
     ensures over_metric { (m : Instance) →
-        IsInstanceOf (F.post data_cost.f) pairs request.start.labels smooth.now m →
-        HasCosts m label_costs → MayMake m request.moves →
+        IsInstanceOf (F.post data_cost.f) pairs request.start.labels prices.entry.smooth.now m →
+        HasCosts m prices.entry.label_costs → MayMake m request.moves →
         IfErr result (IsRefusalOver m (H.refuses how.now)) }
-    ensures bounded { (m : Instance)
-        → IsInstanceOf (F.post data_cost.f) pairs request.start.labels smooth.now
-        m → HasCosts m label_costs
-        → IfOk result (λ run. IfSome run.bound (λ bound. pos bound.vmax ≤ℤ
-        smooth_limit)) }
+    ensures bounded { (m : Instance) →
+        IsInstanceOf (F.post data_cost.f) pairs request.start.labels prices.entry.smooth.now m →
+        HasCosts m prices.entry.label_costs →
+        IfOk result (λ run. IfSome run.bound (λ bound. pos bound.vmax ≤ℤ smooth_limit)) }
     ensures sized { IfOk result (IsRunInRange request.start) }
 {
     let labels = request.start.labels();
+    let smooth = prices.smooth;
     pairs.keeps();
     let cost = |first: u32, second: u32| -> i64
         requires { (first * labels + second < length smooth.now) × (labels ≤ 256) }
@@ -105,8 +111,8 @@ pub fn run_with_table<F: Fn(u32, u32) -> i64 + Sync, H: How>(
     let problem = Problem {
         pairs,
         data_cost,
-        smooth_cost: SmoothCost::with_metric(cost, labels, by_metric),
-        label_costs,
+        smooth_cost: SmoothCost::with_metric(cost, labels, prices.by_metric),
+        label_costs: prices.label_costs,
     };
     run_problem(alloc, &problem, request, how)
 }
@@ -153,17 +159,12 @@ pub fn run_tables<H: How>(
         sites,
         labels,
     );
-    let by_metric = is_metric(smooth, labels);
-    run_with_table(
-        alloc,
-        pairs,
-        data_cost,
+    let prices = LabelPrices {
         smooth,
-        by_metric,
+        by_metric: is_metric(smooth, labels),
         label_costs,
-        request,
-        how,
-    )
+    };
+    run_with_table(alloc, pairs, data_cost, prices, request, how)
 }
 
 /// Makes the moves of a request over a problem, and tells the energy where they end.

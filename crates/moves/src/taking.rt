@@ -12,7 +12,7 @@ ghost use Rattle.moves.specs.LabelCosts.{IsFreeFor};
 ghost use Rattle.moves.specs.Problems.{IsMade};
 ghost use Rattle.moves.specs.Stages.{HasTaken};
 
-use crate::listed::lowers;
+use crate::listed_change::lowers;
 use crate::workspace::Workspace;
 use cost_store::Problem;
 use label_field::Labelling;

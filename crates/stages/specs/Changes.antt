@@ -1,6 +1,7 @@
 -- What a run of expansions remembers of its moves: their numbers, those of the last that changed
 -- each site, and those of each label's last.
-use Rattle.std.specs.Prelude.{◌≡◌, ◌⊎◌, ℕ, ◌+◌, ◌-◌, ◌^◌, ◌<◌, ◌≤◌, Bool, cond, [], length, slice_index, slice_set}
+use Rattle.std.specs.Prelude.{◌≡◌, ◌⊎◌, ℕ, ◌+◌, ◌-◌, ◌^◌, ◌<◌, ◌≤◌, Bool, cond, [], length}
+use Rattle.std.specs.Prelude.{slice_index, slice_set}
 use Rattle.labellings.specs.Energies.{Instance}
 use Rattle.stages.specs.declared.changes.Changes.{Changes}
 use Rattle.stages.specs.Fresh.{WasExpanded}

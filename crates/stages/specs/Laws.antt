@@ -7,7 +7,8 @@ use Rattle.labellings.specs.Energies.{Instance, IsInstance, AreLabelsFree, label
 use Rattle.labellings.specs.Moves.{IsAllowed, IsBest}
 use Rattle.deciding.specs.Decisions.{IsSmallestLeast}
 use Rattle.deciding.specs.MoveValues.{move_value}
-use Rattle.closing_in.specs.Fixing.{with_choices, fixed_value, AreLeastZeros, OnesLieWithin, IsLeftOpen}
+use Rattle.closing_in.specs.Fixing.{with_choices, fixed_value, AreLeastZeros, OnesLieWithin}
+use Rattle.closing_in.specs.Fixing.{IsLeftOpen}
 use Rattle.stages.specs.Fresh.{WasExpanded, AreFresh, HoldsNoFresh, HoldsFresh, IsApart, IsPartOf}
 use Rattle.stages.specs.declared.changes.Changes.{Changes}
 use Rattle.stages.specs.Changes.{AreStamped, IsNotedMove}

@@ -1,5 +1,6 @@
 //! What a run of expansions remembers of its moves.
-ghost use Rattle.std.specs.Prelude.{◌≡◌, ◌↔◌, ◌+◌, ◌<◌, ℕ, Bool, true, false, cond, [], replicate, length, slice_index, slice_set, IfOk, IsTrue, IsFalse};
+ghost use Rattle.std.specs.Prelude.{◌≡◌, ◌↔◌, ◌+◌, ◌<◌, ℕ, Bool, true, false, cond, [], replicate};
+ghost use Rattle.std.specs.Prelude.{length, slice_index, slice_set, IfOk, IsTrue, IsFalse};
 ghost use Rattle.std.specs.List.{Contains};
 ghost use Rattle.move_energy.specs.Choices.{bit_of, choice_at};
 ghost use Rattle.stages.specs.Changes.{made_of, IsForgotten, IsNotedMove};

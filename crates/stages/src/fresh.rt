@@ -1,6 +1,7 @@
 //! Marking the fresh sites.
-ghost use Rattle.std.specs.Prelude.{◌≡◌, ◌≢◌, ◌⊎◌, ℕ, ◌<◌, ◌≤◌, true, false, length, slice_index, OnOk};
-ghost use Rattle.move_energy.specs.BySite.{AreBySite, degree, pair_of};
+ghost use Rattle.std.specs.Prelude.{◌≡◌, ◌≢◌, ◌⊎◌, ℕ, ◌<◌, true, length};
+ghost use Rattle.std.specs.Prelude.{OnOk};
+ghost use Rattle.move_energy.specs.BySite.{AreBySite};
 ghost use Rattle.labellings.specs.Energies.{labelling};
 ghost use Rattle.stages.specs.Looking.{is_marked, changed_since, AreBeside, AreFreshSites};
 ghost use Rattle.stages.specs.Working.{AreSiteMarks, StaysMarked, IsMarkedAround};

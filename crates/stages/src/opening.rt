@@ -1,11 +1,13 @@
 //! Opening the sites of a stage.
-ghost use Rattle.std.specs.Prelude.{◌≡◌, ◌==◌, ◌↔◌, ◌++◌, ◌∷◌, [], cond, not, ℕ, ◌+◌, ◌<◌, ◌≤◌, true, false, length, OnOk};
+ghost use Rattle.std.specs.Prelude.{◌≡◌, ◌==◌, ◌↔◌, ◌++◌, ◌∷◌, [], cond, not, ℕ, ◌+◌, ◌<◌, ◌≤◌};
+ghost use Rattle.std.specs.Prelude.{true, false, length, OnOk};
 ghost use Rattle.std.specs.List.{All};
 ghost use Rattle.label_field.specs.Limits.{site_limit};
 ghost use Rattle.move_energy.specs.BySite.{AreBySite, IsListing};
 ghost use Rattle.labellings.specs.Energies.{labelling};
 ghost use Rattle.move_energy.specs.declared.choice.Choice.TheVariants.{Zero};
-ghost use Rattle.move_energy.specs.Choices.{choice_at, choice_of, is_open, open_at, value_of, open_count, AreOpenSites, AreSettled};
+ghost use Rattle.move_energy.specs.Choices.{choice_at, choice_of, is_open, open_at, value_of};
+ghost use Rattle.move_energy.specs.Choices.{open_count, AreOpenSites, AreSettled};
 ghost use Rattle.stages.specs.Looking.{AreTaking};
 ghost use Rattle.stages.specs.Working.{KeepsZeros};
 

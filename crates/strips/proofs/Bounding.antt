@@ -43,7 +43,7 @@ use Rattle.strips.proofs.Listing.{listing_left}
 pub open_now : (known : List Choice) (from to p : ℕ) → open_at (strip_view known from to) p ≡ true → choice_at known p ≡ Open
 open_now known from to p opened = true_open (choice_at known p) (open_inside known from to p opened).1
 
-inside_length : (view : List Choice) (p : ℕ) → open_at view p ≡ true → p < length view
+pub inside_length : (view : List Choice) (p : ℕ) → open_at view p ≡ true → p < length view
 inside_length view p opened = elim (cases_lt p (length view)) [
   | inl l ↦ l
   | inr past ↦ absurd (let e = sym opened ∙ ap is_open (get_or_past view p Zero (omega (arith, past))) in cc (e))

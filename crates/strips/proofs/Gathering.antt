@@ -2,6 +2,7 @@
 use Rattle.std.proofs.Common.{◌≡◌, ◌⊎◌, ℕ, zero, suc, ◌+◌, ◌-◌, ◌*◌, ◌/◌, ◌%◌, ◌<◌, ◌≤◌, ◌≢◌, Bool, List, length, Result, Ok, Err, ℤ, refl, sym, ap, ◌∙◌, inl, inr, subst, arith}
 use Rattle.std.specs.Prelude.{slice_index_or, IfOk}
 use Rattle.std.specs.Global.{Vec}
+use Rattle.std.specs.Int.{div_ceil}
 use Rattle.std.specs.Result.{IsOk}
 use Rattle.std.proofs.lemmas.Bool.{cases_lt}
 use Rattle.std.proofs.lemmas.Nat.{div-add-mod'}
@@ -12,11 +13,11 @@ use Rattle.labellings.specs.Moves.{IsAllowed}
 use Rattle.move_energy.specs.declared.choice.Choice.{Choice}
 use Rattle.move_energy.specs.declared.choice.Choice.TheVariants.{Open, Zero, One}
 use Rattle.move_energy.specs.Choices.{choice_at}
-use Rattle.deciding.specs.declared.finding.RiseNumbers.{RiseNumbers}
+use Rattle.deciding.specs.declared.move_to_find.RiseNumbers.{RiseNumbers}
 use Rattle.deciding.specs.Decisions.{Passes}
 use Rattle.deciding.specs.MoveValues.{move_value}
 use Rattle.deciding.specs.Parts.{AreRisesOf, ArePassedChoices}
-use Rattle.strips.specs.Parts.{ArePartCodes, IsPartAnswer, OfParts, FillsPart, IsPartJoined, DecidesTold, known_or, coded_at, part_start}
+use Rattle.strips.specs.Parts.{ArePartCodes, IsPartAnswer, OfParts, FillsPart, IsPartJoined, DecidesTold, EndsWithStrip, PartsEndWithStrips, known_or, coded_at, part_start}
 use Rattle.deciding.proofs.Putting.{passed_forced}
 use Rattle.deciding.proofs.Rises.{move_falls}
 use Rattle.closing_in.specs.Agreeing.{Agree}
@@ -180,3 +181,46 @@ all_told {E} numbers before old new size count parts default same long all cover
     let stands : choice_at new p ≡ known_or (choice_at old (part_start (length old) size i + k)) (coded_at codes k) =
     ap (choice_at new) (sym at.4 ∙ ap (λ q. q + k) (sym from)) ∙ takes k (omega (arith, part.count, inside)) in
     λ shut. stays_told (choice_at old (part_start (length old) size i + k)) (coded_at codes k) code (sym stands ∙ shut))
+
+-- ---- each part ends with a strip
+
+kept_or : (c t : Choice) → (c ≢ Open → t ≡ c) → known_or c t ≡ t
+kept_or Open t kept = refl
+kept_or Zero t kept = sym (kept (λ is. cc is))
+kept_or One t kept = sym (kept (λ is. cc is))
+
+pub all_end : {E : Type 0} (m : Instance) (move : Move) (numbers : RiseNumbers) (before old new : List Choice) (size count : ℕ) (parts : List (Result (Vec ℕ) E)) (default : Result (Vec ℕ) E)
+    → AreRisesOf m move numbers → IsInstance m → ArePassedChoices m move (labelling numbers.at.now) (choice_at before)
+    → old ≡ before → length before ≡ length numbers.at.now → length parts ≡ count → size ≡ div_ceil (length before) count
+    → OfParts (IsPartAnswer numbers before size) parts
+    → ((i : ℕ) (part : _) → i < length parts → IsOk (slice_index_or parts i part))
+    → OfParts (IsPartJoined size old new) parts → PartsEndWithStrips m move (labelling numbers.at.now) before count (choice_at new)
+all_end {E} m move numbers before old new size count parts default rises is_one passed same long all sized closed whole joined i l =
+    let f = labelling numbers.at.now in
+    let n = length numbers.at.now in
+    let start : ℕ = part_start n size i in
+    let end : ℕ = part_start n size (i + 1) in
+    let here : i < length parts = omega (arith, l, all) in
+    let from : part_start (length old) size i ≡ start = ap (λ (cs : List Choice). part_start (length cs) size i) same ∙ ap (λ k. part_start k size i) long in
+    let Q : ℕ → Type 0 = λ k. EndsWithStrip m move f before (part_start k size i) (part_start k size (i + 1)) (choice_at new) in
+    let P : ℕ → Type 0 = λ s. EndsWithStrip m move f before (part_start (length before) s i) (part_start (length before) s (i + 1)) (choice_at new) in
+    subst P sized (subst Q (sym long) (told_here (slice_index_or parts i default) (IsPartAnswer numbers before size i) (IsPartJoined size old new i) (Q n)
+    (whole i default here) (closed i default here) (joined i default here) (λ codes part takes.
+    let ends = part.ends m move rises is_one passed in
+    record {
+      before = ends.before;
+      count = ends.count;
+      kept = ends.kept;
+      agree = ends.agree;
+      strip = ends.strip;
+      whole = ends.whole;
+      bounded = ends.bounded;
+      tells = λ p above below.
+          let k : ℕ = p - start in
+          let inside : k < end - start = omega (arith, above, below) in
+          let is : start + k ≡ p = omega (arith, above) in
+          let was : choice_at old (part_start (length old) size i + k) ≡ choice_at before (start + k) = (λ j. choice_at (same j) (from j + k)) in
+          ap (choice_at new) (sym is ∙ ap (λ q. q + k) (sym from)) ∙ takes k (omega (arith, part.count, inside))
+          ∙ kept_or (choice_at old (part_start (length old) size i + k)) (coded_at codes k) (λ shuts. part.kept k inside (λ o. shuts (was ∙ o)) ∙ sym was)
+          ∙ ends.tells p above below;
+    })))

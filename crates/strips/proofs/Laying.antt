@@ -23,7 +23,7 @@ use Rattle.move_energy.specs.declared.choice.Choice.{Choice}
 use Rattle.move_energy.specs.BySite.{AreBySite, met_at}
 use Rattle.move_energy.specs.Built.{AddsCost, IsLonger}
 use Rattle.move_energy.specs.Choices.{choice_at, open_at, open_rank, AreOpenSites, StandsFor}
-use Rattle.move_energy.specs.Weights.{AreWeights, IsOfWeights, unsaved_surplus, open_weights}
+use Rattle.move_energy.specs.Weights.{IsOfWeights, unsaved_surplus, open_weights}
 use Rattle.move_energy.proofs.Opened.{opened_within}
 use Rattle.move_energy.proofs.Weighed.{form_value, weighted_stands, listed_weights_are, listed_savings}
 use Rattle.strips.specs.Views.{strip_view, KeepsChosen, weight_now}

@@ -6,6 +6,7 @@ pub mod Inside
 pub mod Laying
 pub mod Lessening
 pub mod Listing
+pub mod Numbering
 pub mod Ranges
 pub mod Views
 pub mod Weighing

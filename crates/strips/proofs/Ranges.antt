@@ -1,13 +1,32 @@
 -- A range of sites told: what was chosen stays, and the sites that are left open are listed.
-use Rattle.std.proofs.Common.{◌≡◌, ◌<◌, ◌≤◌, ℕ, List, Bool, length, Result, Ok, Err, refl, sym, ap, subst, ◌∙◌, arith}
-use Rattle.std.specs.Prelude.{OnOk, filter}
+use Rattle.std.proofs.Common.{◌≡◌, ◌<◌, ◌≤◌, ℕ, List, Bool, true, false, length, Result, Ok, Err, refl, sym, ap, ◌∙◌, inl, inr, arith}
+use Rattle.std.specs.Prelude.{OnOk, filter, vec_len}
+use Rattle.std.proofs.lemmas.Bool.{cases_lt}
+use Rattle.std.proofs.lemmas.List.{get_or_past}
+use Rattle.labellings.specs.declared.change.Move.{Move}
+use Rattle.labellings.specs.Energies.{Instance, IsInstance}
+use Rattle.labellings.specs.Moves.{IsAllowed}
+use Rattle.plain_cut.specs.declared.both.BothSides.{BothSides}
+use Rattle.pseudo_bool.specs.Energies.{assignment}
+use Rattle.compile_cut.specs.declared.quadratic.Quadratic.{Quadratic}
+use Rattle.compile_cut.specs.Quadratics.{quadratic_value}
 use Rattle.move_energy.specs.declared.choice.Choice.{Choice}
+use Rattle.move_energy.specs.declared.choice.Choice.TheVariants.{Zero}
 use Rattle.move_energy.specs.Choices.{choice_at, open_at, AreOpenSites}
-use Rattle.closing_in.specs.Agreeing.{choices_or}
+use Rattle.deciding.specs.Decisions.{IsSmallestLeast}
+use Rattle.deciding.specs.MoveValues.{move_value}
+use Rattle.closing_in.specs.Agreeing.{Agree, or_else, choices_or}
+use Rattle.closing_in.specs.Borders.{is_inside, range_of}
 use Rattle.closing_in.specs.Strips.{Strip, told_by}
 use Rattle.closing_in.specs.Telling.{IsStripListed}
+use Rattle.strips.specs.declared.material.StripSites.{StripSites}
+use Rattle.strips.specs.Building.{IsStripSized, IsStripForm}
+use Rattle.strips.specs.Parts.{EndsWithStrip}
+use Rattle.strips.specs.Sides.{AreBounds, IsAsTold, IsLessBorder}
 use Rattle.strips.specs.Views.{KeepsChosen, strip_view}
-use Rattle.strips.proofs.Bounding.{strip_of, strip_listed, told_goes_on, told_left}
+use Rattle.strips.proofs.Lessening.{less_exists}
+use Rattle.strips.proofs.Views.{inside_is}
+use Rattle.strips.proofs.Bounding.{strip_of, strip_listed, strip_bounded, told_goes_on, told_left, told_agree}
 
 -- each listed site that is open has what the sides tell
 pub record HasTold (known new : List Choice) (opened : List ℕ) (lower upper : List Bool) : Type 0 where
@@ -26,10 +45,78 @@ told_opened known new from to opened lower upper has listed =
     told_left known new from to opened (told_by (strip_of known from to lower upper)) has.count
     (has.each (strip_of known from to lower upper) (strip_listed known from to opened lower upper listed)) listed
 
--- what was told of a list was told of the same list
-pub told_same : (known new : List Choice) (opened mine : List ℕ) (lower upper : List Bool) → opened ≡ mine → HasTold known new opened lower upper → HasTold known new mine lower upper
-told_same known new opened mine lower upper is has = (let P : List ℕ → Type 0 = λ xs. HasTold known new xs lower upper in subst P is has)
+-- what two sides tell of a range that agreed agrees
+pub told_right : (m : Instance) (move : Move) (f : ℕ → ℕ) (known new : List Choice) (opened : List ℕ) (sides : BothSides) → IsInstance m → IsAllowed m move f → length known ≡ m.sites
+    → IsAsTold known new opened sides → AreBounds m move f known opened sides → Agree m.sites (move_value m move f) (choice_at known) → Agree m.sites (move_value m move f) (choice_at new)
+told_right m move f known new opened sides pairs allowed size told bounds agree =
+    told_agree m move f known new bounds.0 pairs allowed size (told bounds.0 bounds.1) bounds.2 agree
+
+-- ---- the strip that a range ends with
+
+bool_same : (a b : Bool) → (a ≡ true → b ≡ true) → (b ≡ true → a ≡ true) → a ≡ b
+bool_same true b f g = sym (f refl)
+bool_same false true f g = g refl
+bool_same false false f g = refl
+
+strip_whole : (known : List Choice) (from to : ℕ) (opened : List ℕ) (lower upper : List Bool) (strip : Strip) → AreOpenSites (strip_view known from to) opened
+    → IsStripListed opened lower upper strip → (p : ℕ) → strip.set p ≡ is_inside (choice_at known) (range_of from to) p
+strip_whole known from to opened lower upper strip listed is p =
+    let own = strip_listed known from to opened lower upper listed in
+    bool_same (strip.set p) (open_at (strip_view known from to) p) (λ h. (own.set p).1 ((is.set p).0 h)) (λ h. (is.set p).1 ((own.set p).0 h))
+    ∙ sym (inside_is known from to p)
+
+told_past : (known new : List Choice) (tells : ℕ → Choice) (p : ℕ) → length new ≡ length known → length known ≤ p → choice_at new p ≡ choices_or (choice_at known) tells p
+told_past known new tells p count past =
+    get_or_past new p Zero (omega (arith, past, count)) ∙ sym (ap (λ (c : Choice). or_else c (tells p)) (get_or_past known p Zero past))
+
+pub told_ends : (m : Instance) (move : Move) (f : ℕ → ℕ) (known new : List Choice) (from to : ℕ) (opened : List ℕ) (sides : BothSides) → length new ≡ length known
+    → AreOpenSites (strip_view known from to) opened → IsAsTold known new opened sides → AreBounds m move f known opened sides
+    → Agree m.sites (move_value m move f) (choice_at known) → EndsWithStrip m move f known from to (choice_at new)
+told_ends m move f known new from to opened sides count listed told bounds agree = record {
+  before = known;
+  count = refl;
+  kept = λ p l shuts. refl;
+  agree = agree;
+  strip = bounds.0;
+  whole = strip_whole known from to opened sides.lower.items sides.upper.items bounds.0 listed bounds.1;
+  bounded = bounds.2;
+  tells = λ p above below. elim (cases_lt p (length known)) [
+    | inl l ↦ told bounds.0 bounds.1 p l
+    | inr past ↦ told_past known new (told_by bounds.0) p count past
+  ];
+}
 
 pub on_ok : {A B : Type 0} (r : Result A B) (P : Type 0) → P → OnOk r P
 on_ok (Ok a) P holds = holds
 on_ok (Err e) P holds = tt
+
+-- the same of what was known before that
+pub ends_from : (m : Instance) (move : Move) (f : ℕ → ℕ) (start known : List Choice) (from to : ℕ) (now : ℕ → Choice) → length known ≡ length start → KeepsChosen start known
+    → EndsWithStrip m move f known from to now → EndsWithStrip m move f start from to now
+ends_from m move f start known from to now count keeps ends = record {
+  before = ends.before;
+  count = ends.count ∙ count;
+  kept = λ p l shuts.
+      let was = keeps p (omega (arith, l, ends.count)) shuts in
+      ends.kept p l (λ o. shuts (sym was ∙ o)) ∙ was;
+  agree = ends.agree;
+  strip = ends.strip;
+  whole = ends.whole;
+  bounded = ends.bounded;
+  tells = ends.tells;
+}
+
+-- ---- the two cuts of a strip
+
+pub sides_bound : (m : Instance) (move : Move) (f : ℕ → ℕ) (known : List Choice) (sites : StripSites) (form : Quadratic) (borders : List ℕ) (sides : BothSides) → IsInstance m → IsAllowed m move f
+    → length known ≡ m.sites → AreOpenSites (strip_view known sites.from sites.to) sites.opened.now → IsStripSized sites form borders → IsStripForm m move f known sites form borders
+    → IsSmallestLeast (vec_len form.weights) (quadratic_value form) (assignment sides.lower.items)
+    → ((less : Quadratic) → IsLessBorder borders form less → IsSmallestLeast (vec_len form.weights) (quadratic_value less) (assignment sides.upper.items))
+    → AreBounds m move f known sites.opened.now sides
+sides_bound m move f known sites form borders sides pairs allowed size listed sized built lower upper =
+    let less = less_exists borders form (sized.count ∙ sym sized.nodes) in (
+      strip_of known sites.from sites.to sides.lower.items sides.upper.items,
+      strip_listed known sites.from sites.to sites.opened.now sides.lower.items sides.upper.items listed,
+      strip_bounded m move f known sites.from sites.to sites.opened.now borders form less.0 sides.lower.items sides.upper.items pairs allowed size listed built.stands sized.nodes built.each
+          lower less.1 (upper less.0 less.1),
+    )

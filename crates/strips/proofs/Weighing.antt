@@ -1,5 +1,5 @@
 -- What the listed sites of a strip weigh.
-use Rattle.std.proofs.Common.{◌≡◌, ◌≢◌, ◌<◌, ◌≤◌, ◌+◌, ◌*◌, ◌∷◌, ◌++◌, [], ℕ, ℤ, List, All, length, map, take, sum_by, get_or, pos, unsigned_abs, refl, sym, ap, ◌∙◌, subst, arith}
+use Rattle.std.proofs.Common.{◌≡◌, ◌≢◌, ◌<◌, ◌≤◌, ◌+◌, ◌*◌, ◌∷◌, ◌++◌, [], ℕ, ℤ, List, All, length, map, take, sum_by, get_or, unsigned_abs, refl, sym, ap, ◌∙◌, arith}
 use Rattle.std.proofs.lemmas.List.{length-map, take_all}
 use Rattle.std.proofs.lemmas.List.Sums.{sum_by_push, sum_by_more}
 use Rattle.std.proofs.lemmas.List.Elements.{All-head, All-tail, All-from_get_or}
@@ -11,7 +11,7 @@ use Rattle.move_energy.specs.declared.by_site.Neighbours.{Neighbours}
 use Rattle.move_energy.specs.declared.choice.Choice.{Choice}
 use Rattle.move_energy.specs.declared.choice.Choice.TheVariants.{Open, Zero, One}
 use Rattle.move_energy.specs.BySite.{AreBySite, degree}
-use Rattle.move_energy.specs.Choices.{choice_at, is_open, AreOpenSites}
+use Rattle.move_energy.specs.Choices.{choice_at, AreOpenSites}
 use Rattle.move_energy.specs.Weights.{weight_at, AreWeights}
 use Rattle.move_energy.proofs.Opened.{opened_has, opened_few, open_true, true_open}
 use Rattle.deciding.specs.Parts.{site_weight}

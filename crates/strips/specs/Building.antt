@@ -1,22 +1,30 @@
 -- What a strip is built from: what its sites and pairs are, what is known of them, and a closure
 -- that answers what the two ends of a pair save together.
-use Rattle.std.specs.Prelude.{◌≡◌, ℕ, ◌≤◌, Bool, List, map, length, ℤ, unsigned_abs}
+use Rattle.std.specs.Prelude.{◌≡◌, ℕ, ◌<◌, ◌≤◌, ◌-◌, Bool, List, map, length, slice_index, sum}
+use Rattle.std.specs.Prelude.{ℤ, unsigned_abs, vec_len}
+use Rattle.label_field.specs.Limits.{site_limit}
 use Rattle.label_field.specs.declared.pair.Pair.{Pair}
 use Rattle.label_field.specs.PairLists.{IsPair, IsPairList, PairList}
 use Rattle.labellings.specs.declared.change.Move.{Move}
 use Rattle.labellings.specs.Energies.{Instance, IsInstance}
 use Rattle.labellings.specs.Moves.{IsAllowed}
+use Rattle.pseudo_bool.specs.Limits.{term_limit}
+use Rattle.compile_cut.specs.declared.quadratic.Quadratic.{Quadratic}
+use Rattle.compile_cut.specs.Quadratics.{IsQuadraticBounded}
 use Rattle.compile_cut.specs.Weights.{weights_size}
 use Rattle.move_energy.specs.declared.by_site.Neighbours.{Neighbours}
 use Rattle.move_energy.specs.declared.choice.Choice.{Choice}
+use Rattle.move_energy.specs.declared.choice.Choice.TheVariants.{Open}
 use Rattle.move_energy.specs.BySite.{AreBySite, is_counted, met_at, pair_beside}
-use Rattle.move_energy.specs.Choices.{choice_at, open_at, open_rank, AreOpenSites}
+use Rattle.move_energy.specs.Choices.{choice_at, open_at, open_rank, open_count, AreOpenSites}
+use Rattle.move_energy.specs.Choices.{StandsFor}
 use Rattle.move_energy.specs.Limits.{surplus_limit, weights_limit}
 use Rattle.move_energy.specs.Weights.{surplus_of, pair_table, unsaved_surplus}
 use Rattle.deciding.specs.Parts.{site_weight}
 use Rattle.closing_in.specs.Borders.{border_at, range_of}
 use Rattle.strips.specs.declared.material.Material.{Material}
 use Rattle.strips.specs.declared.material.StripSites.{StripSites}
+use Rattle.strips.specs.Limits.{borders_limit}
 use Rattle.strips.specs.Views.{KeepsChosen, strip_view, weight_now}
 
 -- the closure takes each pair that the neighbours tell
@@ -79,6 +87,38 @@ view_by sites material = strip_view material.known.now sites.from sites.to
 -- the list has the open sites of the strip
 abbrev pub AreStripSites : Material → StripSites → Type 0
 AreStripSites material sites = AreOpenSites (view_by sites material) sites.opened.now
+
+-- the number of each open site of a strip is how many are open before it; places are counted from
+-- the strip's first site on, and what stands at other places means nothing
+pub record IsStripNumbering (known : List Choice) (sites : StripSites) (numbers : List ℕ)
+    : Type 0 where
+  pub count : sites.to - sites.from ≤ length numbers
+  pub each : (p : ℕ) → choice_at (strip_view known sites.from sites.to) p ≡ Open
+      → slice_index numbers (p - sites.from) ≡ open_rank (strip_view known sites.from sites.to) p
+
+-- the nodes of the form are the open sites of the strip, by these numbers
+pub record HasStripNodes (material : Material) (sites : StripSites) (numbers : List ℕ)
+    (form : Quadratic) : Type 0 where
+  pub numbering : IsStripNumbering material.known.now sites numbers
+  pub nodes : vec_len form.weights ≡ open_count (view_by sites material)
+
+-- a form with a node for each listed site, and a border for each of them, in their limits
+pub record IsStripSized (sites : StripSites) (form : Quadratic) (borders : List ℕ) : Type 0 where
+  pub bounded : IsQuadraticBounded term_limit form
+  pub few : vec_len form.weights ≤ site_limit
+  pub nodes : vec_len form.weights ≡ length sites.opened.now
+  pub count : length borders ≡ length sites.opened.now
+  pub small : sum borders ≤ borders_limit
+
+-- the form stands for the move with the open sites outside the strip at 0, and these are the
+-- borders of the listed sites
+pub record IsStripForm (m : Instance) (move : Move) (f : ℕ → ℕ) (known : List Choice)
+    (sites : StripSites) (form : Quadratic) (borders : List ℕ) : Type 0 where
+  pub stands : StandsFor m move f (choice_at (strip_view known sites.from sites.to)) form
+      (open_rank (strip_view known sites.from sites.to))
+  pub each : (k : ℕ) → k < length sites.opened.now → slice_index borders k
+      ≡ border_at m move f (choice_at known) (range_of sites.from sites.to)
+      (slice_index sites.opened.now k)
 
 -- the neighbour at this place is one of two ends in the strip, and its pair counts at this site
 abbrev pub counts_in : Material → StripSites → ℕ → ℕ → Bool

@@ -1,7 +1,8 @@
 -- Closing in by parts of the sites, each by numbers alone.
-use Rattle.std.specs.Prelude.{◌≡◌, ◌≢◌, ◌==◌, ℕ, ◌+◌, ◌-◌, ◌*◌, ◌<◌, Bool, cond, min, List, length}
-use Rattle.std.specs.Prelude.{slice_index_or, ℤ, Result, IfOk}
+use Rattle.std.specs.Prelude.{◌≡◌, ◌≢◌, ◌==◌, ℕ, ◌+◌, ◌-◌, ◌*◌, ◌<◌, ◌≤◌, Bool, cond, min}
+use Rattle.std.specs.Prelude.{List, length, slice_index_or, ℤ, Result, IfOk}
 use Rattle.std.specs.Global.{Vec}
+use Rattle.std.specs.Int.{div_ceil}
 use Rattle.labellings.specs.declared.change.Move.{Move}
 use Rattle.labellings.specs.Energies.{Instance, IsInstance, labelling}
 use Rattle.move_energy.specs.declared.choice.Choice.{Choice}
@@ -9,9 +10,12 @@ use Rattle.move_energy.specs.declared.choice.Choice.TheVariants.{Open, Zero, One
 use Rattle.move_energy.specs.Choices.{choice_at}
 use Rattle.deciding.specs.Decisions.{Passes}
 use Rattle.deciding.specs.MoveValues.{move_value}
-use Rattle.deciding.specs.declared.finding.RiseNumbers.{RiseNumbers}
+use Rattle.deciding.specs.declared.move_to_find.RiseNumbers.{RiseNumbers}
 use Rattle.deciding.specs.Parts.{AreRisesOf, ArePassedChoices, WhereRead}
-use Rattle.closing_in.specs.Agreeing.{Agree}
+use Rattle.closing_in.specs.Agreeing.{Agree, choices_or}
+use Rattle.closing_in.specs.Borders.{is_inside, range_of}
+use Rattle.closing_in.specs.Strips.{Strip, IsStripBounded, told_by}
+use Rattle.strips.specs.Views.{KeepsChosen}
 
 -- the code of what is known of a site: 1 for the value 0, 2 for the value 1, and others for nothing
 abbrev pub choice_of_code : ℕ → Choice
@@ -37,11 +41,27 @@ pub record ArePartCodes (n : ℕ) (E : (ℕ → Bool) → ℤ) (from to : ℕ) (
   pub agree : Agree n E (choice_at known)
   pub inside : (k : ℕ) → k < to - from → coded_at codes k ≡ choice_at known (from + k)
 
--- the answer of a part that was closed in by numbers alone: each site that passed the test by what
--- was known before is decided, and what is told agrees
+-- the sites from one on, before another, end with a strip of all of them that were open before it,
+-- where what was known at the start was known too: what stays open there is what both bounds of
+-- that strip leave open
+pub record EndsWithStrip (m : Instance) (move : Move) (f : ℕ → ℕ) (start : List Choice)
+    (from to : ℕ) (now : ℕ → Choice) : Type 0 where
+  pub before : List Choice
+  pub count : length before ≡ length start
+  pub kept : KeepsChosen start before
+  pub agree : Agree m.sites (move_value m move f) (choice_at before)
+  pub strip : Strip
+  pub whole : (p : ℕ) → strip.set p ≡ is_inside (choice_at before) (range_of from to) p
+  pub bounded : IsStripBounded m.sites (move_value m move f) (choice_at before) strip
+  pub tells : (p : ℕ) → from ≤ p → p < to → now p ≡ choices_or (choice_at before) (told_by strip) p
+
+-- the answer of a part that was closed in by numbers alone: what was known before stays, each site
+-- that passed the test by that is decided, what is told agrees, and the part ends with a strip
 pub record IsPartClosed (numbers : RiseNumbers) (before : List Choice) (from to : ℕ)
     (codes : List ℕ) : Type 0 where
   pub count : length codes ≡ to - from
+  pub kept : (k : ℕ) → k < to - from → choice_at before (from + k) ≢ Open
+      → coded_at codes k ≡ choice_at before (from + k)
   pub told : WhereRead numbers (λ m move f. IsInstance m
       → ArePassedChoices m move f (choice_at before)
       → ArePartCodes m.sites (move_value m move f) from to codes)
@@ -49,6 +69,9 @@ pub record IsPartClosed (numbers : RiseNumbers) (before : List Choice) (from to 
       → (ds : ArePassedChoices m move (labelling numbers.at.now) (choice_at before)) → k < to - from
       → Passes (move_value m move (labelling numbers.at.now)) ds.decisions (from + k) b
       → coded_at codes k ≢ Open
+  pub ends : WhereRead numbers (λ m move f. IsInstance m
+      → ArePassedChoices m move f (choice_at before)
+      → EndsWithStrip m move f before from to (λ p. coded_at codes (p - from)))
 
 -- the answer of part i, where each part has so many sites
 abbrev pub IsPartAnswer : RiseNumbers → List Choice → ℕ → ℕ → List ℕ → Type 0
@@ -70,6 +93,14 @@ DecidesTold numbers before now = (m : Instance) (move : Move) (p : ℕ) (b : Boo
     → p < length numbers.at.now
     → Passes (move_value m move (labelling numbers.at.now)) ds.decisions p b
     → choice_at now p ≢ Open
+
+-- each of so many parts, which are of one size, ends with a strip
+abbrev pub PartsEndWithStrips : Instance → Move → (ℕ → ℕ) → List Choice → ℕ → (ℕ → Choice)
+    → Type 0
+PartsEndWithStrips m move f start count now = (i : ℕ) → i < count
+    → EndsWithStrip m move f start
+    (part_start (length start) (div_ceil (length start) count) i)
+    (part_start (length start) (div_ceil (length start) count) (i + 1)) now
 
 -- the codes of part i fill its range
 abbrev pub FillsPart : ℕ → ℕ → ℕ → List ℕ → Type 0

@@ -1,9 +1,10 @@
 -- The form of a strip less its border, and what its two sides tell.
-use Rattle.std.specs.Prelude.{◌≡◌, ℕ, ◌<◌, List, slice_index, pos, ◌+ℤ◌, vec_len}
+use Rattle.std.specs.Prelude.{◌≡◌, ℕ, ◌<◌, List, length, slice_index, pos, ◌+ℤ◌, vec_len}
 use Rattle.pseudo_bool.specs.Energies.{entry}
 use Rattle.compile_cut.specs.declared.quadratic.Quadratic.{Quadratic}
 use Rattle.closing_in.specs.Forms.{IsReweighed}
-use Rattle.closing_in.specs.Strips.{Strip, IsStripBounded}
+use Rattle.closing_in.specs.Agreeing.{choices_or}
+use Rattle.closing_in.specs.Strips.{Strip, IsStripBounded, told_by}
 use Rattle.closing_in.specs.Telling.{IsStripListed}
 use Rattle.labellings.specs.declared.change.Move.{Move}
 use Rattle.labellings.specs.Energies.{Instance}
@@ -23,3 +24,9 @@ abbrev pub AreBounds : Instance → Move → (ℕ → ℕ) → List Choice → L
 AreBounds m move f known opened sides =
     (strip : Strip) × IsStripListed opened sides.lower.items sides.upper.items strip
     × IsStripBounded m.sites (move_value m move f) (choice_at known) strip
+
+-- what was known stays, and each listed site of which nothing was known is as the two sides tell
+abbrev pub IsAsTold : List Choice → List Choice → List ℕ → BothSides → Type 0
+IsAsTold known new opened sides =
+    (strip : Strip) → IsStripListed opened sides.lower.items sides.upper.items strip
+    → (p : ℕ) → p < length known → choice_at new p ≡ choices_or (choice_at known) (told_by strip) p

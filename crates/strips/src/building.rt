@@ -1,18 +1,16 @@
 //! The form of a strip and its border.
 ghost use Rattle.std.specs.Prelude.{◌≡◌, ◌<◌, ◌≤◌, ◌+◌, ◌+ℤ◌, ℕ, Bool, List, All, pos, length};
-ghost use Rattle.std.specs.Prelude.{vec_len, sum, slice_index, OnOk};
+ghost use Rattle.std.specs.Prelude.{vec_len, OnOk};
 ghost use Rattle.label_field.specs.Limits.{site_limit};
-ghost use Rattle.pseudo_bool.specs.Limits.{term_limit};
 ghost use Rattle.compile_cut.specs.Limits.{form_size};
-ghost use Rattle.compile_cut.specs.Quadratics.{IsQuadraticBounded, IsConstant};
+ghost use Rattle.compile_cut.specs.Quadratics.{IsConstant};
 ghost use Rattle.compile_cut.specs.Weights.{weights_size, weights_value};
-ghost use Rattle.move_energy.specs.Choices.{choice_at, open_rank, IsNumbering};
-ghost use Rattle.move_energy.specs.Choices.{AreOpenSites, StandsFor};
+ghost use Rattle.move_energy.specs.Choices.{AreOpenSites};
 ghost use Rattle.move_energy.specs.declared.choice.Choice.{Choice as AnyChoice};
 ghost use Rattle.strips.specs.Building.{CanAsk, CanBuild, WhereSaved, AreStartWeights};
-ghost use Rattle.strips.specs.Building.{AreWeighed};
-ghost use Rattle.strips.specs.Building.{AreStripSites, view_by, border_of_site};
-ghost use Rattle.strips.specs.Limits.{borders_limit};
+ghost use Rattle.strips.specs.Building.{AreWeighed, IsStripNumbering};
+ghost use Rattle.strips.specs.Building.{AreStripSites, IsStripSized, IsStripForm};
+ghost use Rattle.strips.specs.Views.{strip_view};
 
 use crate::material::{Material, StripSites};
 use crate::rows::add_rows;
@@ -20,17 +18,22 @@ use compile_cut::Quadratic;
 use label_field::Pair;
 use std::alloc::AllocError;
 
-/// Numbers the listed sites in their order. What stands at the other sites means nothing. It takes
-/// time in proportion to the listed sites, and at the first use to all sites.
-fn number_sites(numbers: &mut Vec<u32>, sites: usize, opened: &[u32]) -> Result<(), AllocError>
-    requires few { length opened.now ≤ site_limit }
-    requires inside { All (λ site. site < sites) opened.now }
-    ensures { OnOk result ((view : List AnyChoice) → length view ≡ sites →
-        AreOpenSites view opened.now → IsNumbering view numbers.new.items) }
+/// Numbers the listed sites of a strip in their order, at places that are counted from its first
+/// site. What stands at other places means nothing. It takes time in proportion to the listed
+/// sites, and at the first use to all sites of the strip.
+fn number_sites(numbers: &mut Vec<u32>, sites: &StripSites) -> Result<(), AllocError>
+    requires few { length sites.now.opened.now ≤ site_limit }
+    requires from { All (λ site. sites.now.from ≤ site) sites.now.opened.now }
+    requires to { All (λ site. site < sites.now.to) sites.now.opened.now }
+    ensures { OnOk result ((known : List AnyChoice) →
+        AreOpenSites (strip_view known sites.now.from sites.now.to) sites.now.opened.now →
+        IsStripNumbering known sites.now numbers.new.items) }
 {
-    numbers.resize(sites, 0)?;
-    for index in 0..opened.len() {
-        numbers[opened[index] as usize] = index as u32;
+    let size = sites.to.saturating_sub(sites.from) as usize;
+    numbers.resize(numbers.len().max(size), 0)?;
+    for index in 0..sites.opened.len() {
+        let place = sites.opened[index] - sites.from;
+        numbers[place as usize] = index as u32;
     }
     Ok(())
 }
@@ -83,20 +86,12 @@ pub(crate) fn build_strip<S: Fn(Pair) -> i64>(
     requires can { CanBuild material.now }
     requires opened { AreStripSites material.now sites.now }
     requires weighed { AreWeighed sites.now }
-    ensures bounded { OnOk result (IsQuadraticBounded term_limit form.new) }
-    ensures nodes { OnOk result (vec_len form.new.weights ≡ length sites.now.opened.now) }
-    ensures few { OnOk result (vec_len form.new.weights ≤ site_limit) }
+    ensures sized { OnOk result (IsStripSized sites.now form.new borders.new.items) }
     ensures built { WhereSaved (S.post savings.now) material.now (λ m move f.
-        AreStartWeights material.now sites.now m move f → OnOk result (StandsFor m move f
-        (choice_at (view_by sites.now material.now)) form.new
-        (open_rank (view_by sites.now material.now)))) }
-    ensures count { OnOk result (length borders.new.items ≡ length sites.now.opened.now) }
-    ensures small { OnOk result (sum borders.new.items ≤ borders_limit) }
-    ensures borders { WhereSaved (S.post savings.now) material.now (λ m move f. OnOk result
-        ((k : ℕ) → k < length sites.now.opened.now → slice_index borders.new.items k ≡
-        border_of_site m move f material.now sites.now (slice_index sites.now.opened.now k))) }
+        AreStartWeights material.now sites.now m move f → OnOk result (IsStripForm m move f
+        material.now.known.now sites.now form.new borders.new.items)) }
 {
-    number_sites(numbers, material.known.len(), sites.opened)?;
+    number_sites(numbers, sites)?;
     clear_form(form, sites.opened.len())?;
     add_rows(savings, material, sites, form, numbers, list, borders)?;
     add_weights(&mut form.weights, list);

@@ -1,10 +1,10 @@
 //! Strip after strip: each is built with what is known by then, and what its two sides tell is
 //! known from then on.
-ghost use Rattle.std.specs.Prelude.{◌≡◌, ◌<◌, ◌≤◌, [], ℕ, All, List, length, vec_len, unsigned_abs, OnOk};
+ghost use Rattle.std.specs.Prelude.{◌≡◌, ◌<◌, ◌≤◌, [], ℕ, All, List, length, vec_len, unsigned_abs};
+ghost use Rattle.std.specs.Prelude.{OnOk};
 ghost use Rattle.label_field.specs.Limits.{site_limit};
 ghost use Rattle.labellings.specs.declared.change.Move.{Move as AnyMove};
 ghost use Rattle.labellings.specs.Energies.{Instance, IsInstance};
-ghost use Rattle.labellings.specs.Moves.{IsAllowed};
 ghost use Rattle.pseudo_bool.specs.Limits.{term_limit};
 ghost use Rattle.compile_cut.specs.Quadratics.{IsQuadraticBounded};
 ghost use Rattle.cost_store.specs.Posed.{WhereMeant};
@@ -19,10 +19,11 @@ ghost use Rattle.deciding.specs.Parts.{AreReadable, WhereRead};
 ghost use Rattle.deciding.specs.Savings.{CoversPair, IsTableFrom};
 ghost use Rattle.closing_in.specs.Agreeing.{Agree};
 ghost use Rattle.strips.specs.Closing.{IsBasisOf, CanClose};
-ghost use Rattle.strips.specs.Sides.{AreBounds};
+ghost use Rattle.strips.specs.Parts.{EndsWithStrip};
+ghost use Rattle.strips.specs.Sides.{IsAsTold};
 ghost use Rattle.strips.specs.Views.{IsView, KeepsChosen, strip_view};
 
-use crate::cutting::{build_last, cut_asked, cut_strip, list_weights};
+use crate::cutting::{build_asked, cut_asked, cut_strip, list_weights};
 use crate::material::{Basis, Material, Room, StripSites};
 use crate::opening::list_next;
 use crate::parting::read_weights;
@@ -41,7 +42,7 @@ pub struct Strips {
     pub opened: Vec<u32>,
     left: Vec<u32>,
     weights: Vec<i64>,
-    room: Room,
+    pub(crate) room: Room,
 }
 
 /// What is known at the start: what was decided.
@@ -73,18 +74,11 @@ impl Strips {
         requires lower { length sides.now.lower.items ≡ length self.old.opened.items }
         requires upper { length sides.now.upper.items ≡ length self.old.opened.items }
         ensures count { length known.new.items ≡ length known.old.items }
-        ensures goes_on { (start : List AnyChoice) (from to : ℕ) →
-            AreOpenSites (strip_view known.old.items from to) self.old.opened.items →
-            KeepsChosen start known.old.items → KeepsChosen start known.new.items }
+        ensures told { IsAsTold known.old.items known.new.items self.old.opened.items sides.now }
         ensures opened { (from to : ℕ) →
             AreOpenSites (strip_view known.old.items from to) self.old.opened.items →
             OnOk result (AreOpenSites (strip_view known.new.items from to)
             self.new.opened.items) }
-        ensures agree { (m : Instance) (move : AnyMove) (f : ℕ → ℕ) → IsInstance m →
-            IsAllowed m move f → m.sites ≤ length known.old.items →
-            AreBounds m move f known.old.items self.old.opened.items sides.now →
-            Agree m.sites (move_value m move f) (choice_at known.old.items) →
-            Agree m.sites (move_value m move f) (choice_at known.new.items) }
     {
         self.left.clear();
         tell_strip(known, &self.opened, &mut self.left, sides)?;
@@ -142,6 +136,10 @@ impl Strips {
         ensures agree { WhereRead numbers.now (λ m move f. IsInstance m →
             Agree m.sites (move_value m move f) (choice_at known.old.items) →
             OnOk result (Agree m.sites (move_value m move f) (choice_at known.new.items))) }
+        ensures ends { WhereRead numbers.now (λ m move f. IsInstance m →
+            Agree m.sites (move_value m move f) (choice_at known.old.items) →
+            OnOk result (EndsWithStrip m move f known.old.items from to
+            (choice_at known.new.items))) }
     {
         read_weights(&mut self.weights, numbers, known, from, to, &self.opened)?;
         let savings = |pair: Pair| -> i64
@@ -196,6 +194,7 @@ impl Strips {
     {
         know_start(&mut built.variables.choices, basis.start)?;
         swap(&mut built.variables.of_sites, &mut self.room.numbers);
+        self.room.numbers.resize(basis.start.len(), 0)?;
         self.opened.clear();
         let all = basis.start.len() as u32;
         let mut to = list_next(&built.variables.choices, &mut self.opened, 0, 0, all, size)?;
@@ -211,7 +210,7 @@ impl Strips {
             opened: &self.opened,
             weights: &self.weights,
         };
-        build_last(
+        build_asked(
             step,
             basis,
             &built.variables.choices,

@@ -1,17 +1,13 @@
 //! A strip, built and cut.
-ghost use Rattle.std.specs.Prelude.{◌≡◌, ◌≤◌, ◌<◌, ℕ, All, map, length, vec_len, unsigned_abs};
+ghost use Rattle.std.specs.Prelude.{◌≡◌, ◌≤◌, ◌<◌, All, map, length, unsigned_abs};
 ghost use Rattle.std.specs.Prelude.{IfOk, OnOk};
-ghost use Rattle.label_field.specs.Limits.{site_limit};
 ghost use Rattle.label_field.specs.PairLists.{IsPair};
-ghost use Rattle.pseudo_bool.specs.Limits.{term_limit};
-ghost use Rattle.compile_cut.specs.Quadratics.{IsQuadraticBounded};
-ghost use Rattle.compile_cut.specs.Weights.{weights_size};
-ghost use Rattle.move_energy.specs.Choices.{choice_at, open_rank, AreOpenSites, StandsFor};
-ghost use Rattle.move_energy.specs.Limits.{surplus_limit, weights_limit};
+ghost use Rattle.move_energy.specs.Choices.{AreOpenSites};
+ghost use Rattle.move_energy.specs.Limits.{surplus_limit};
 ghost use Rattle.move_energy.specs.Weights.{weight_at, surplus_of, pair_table};
 ghost use Rattle.deciding.specs.Finding.{IsPosedMove, WhereFound};
 ghost use Rattle.strips.specs.Building.{CanAsk, CanBuild, WhereSaved, AreStartWeights};
-ghost use Rattle.strips.specs.Building.{AreStripSites, AreWeighed};
+ghost use Rattle.strips.specs.Building.{AreStripSites, AreWeighed, IsStripSized, IsStripForm};
 ghost use Rattle.strips.specs.Closing.{CanClose};
 ghost use Rattle.strips.specs.Sides.{AreBounds};
 ghost use Rattle.strips.specs.Views.{strip_view};
@@ -76,43 +72,8 @@ pub(crate) fn list_weights(
     Ok(())
 }
 
-/// Builds a strip by the costs of the move's pairs, and cuts it twice.
-pub(crate) fn cut_asked<F: Fn(u32, u32) -> i64 + Sync, V: Fn(u32, u32) -> i64 + Sync>(
-    step: &MoveToFind<F, V>,
-    basis: &Basis,
-    known: &[Choice],
-    sites: &StripSites,
-    room: &mut Room,
-) -> Result<BothSides, AllocError>
-    requires can { CanClose F.Fn V.Fn step.now basis.now known.now }
-    requires opened { AreOpenSites (strip_view known.now sites.now.from sites.now.to)
-        sites.now.opened.now }
-    requires weights { sites.now.weights.now
-        ≡ map (weight_at basis.now.weights.now) sites.now.opened.now }
-    ensures lower { IfOk result (λ sides. length sides.lower.items ≡ length sites.now.opened.now) }
-    ensures upper { IfOk result (λ sides. length sides.upper.items ≡ length sites.now.opened.now) }
-    ensures tells { WhereFound F.Fn V.Fn step.now (λ m move f.
-        IfOk result (AreBounds m move f known.now sites.now.opened.now)) }
-{
-    let savings = |pair: Pair| -> i64
-        requires posed { IsPosedMove F.Fn V.Fn step.now }
-        requires pair { IsPair (length step.now.at.now) pair }
-        ensures value { WhereFound F.Fn V.Fn step.entry.now
-            (λ m move f. result ≡ surplus_of (pair_table m move f pair)) }
-        ensures range { unsigned_abs result ≤ surplus_limit }
-    { pair_surplus(step, pair) };
-    let material = Material {
-        pairs: &step.problem.pairs,
-        ends: step.ends,
-        start: basis.start,
-        known,
-    };
-    cut_strip(&savings, &material, sites, room)
-}
-
-/// The form of the last strip of a move, which has all that is left open before a site: nothing
-/// beyond it is unknown.
-pub(crate) fn build_last<F: Fn(u32, u32) -> i64 + Sync, V: Fn(u32, u32) -> i64 + Sync>(
+/// The form of a strip by the costs of the move's pairs, and the borders of its open sites.
+pub(crate) fn build_asked<F: Fn(u32, u32) -> i64 + Sync, V: Fn(u32, u32) -> i64 + Sync>(
     step: &MoveToFind<F, V>,
     basis: &Basis,
     known: &[Choice],
@@ -125,11 +86,9 @@ pub(crate) fn build_last<F: Fn(u32, u32) -> i64 + Sync, V: Fn(u32, u32) -> i64 +
         sites.now.opened.now }
     requires weights { sites.now.weights.now
         ≡ map (weight_at basis.now.weights.now) sites.now.opened.now }
-    ensures bounded { OnOk result (IsQuadraticBounded term_limit form.new) }
-    ensures few { OnOk result (vec_len form.new.weights ≤ site_limit) }
-    ensures stands { WhereFound F.Fn V.Fn step.now (λ m move f. OnOk result (StandsFor m move f
-        (choice_at (strip_view known.now sites.now.from sites.now.to)) form.new
-        (open_rank (strip_view known.now sites.now.from sites.now.to)))) }
+    ensures sized { OnOk result (IsStripSized sites.now form.new room.new.more.items) }
+    ensures built { WhereFound F.Fn V.Fn step.now (λ m move f. OnOk result
+        (IsStripForm m move f known.now sites.now form.new room.new.more.items)) }
 {
     let savings = |pair: Pair| -> i64
         requires posed { IsPosedMove F.Fn V.Fn step.now }
@@ -153,4 +112,29 @@ pub(crate) fn build_last<F: Fn(u32, u32) -> i64 + Sync, V: Fn(u32, u32) -> i64 +
         &mut room.weights,
         &mut room.more,
     )
+}
+
+/// Builds a strip by the costs of the move's pairs, and cuts it twice.
+pub(crate) fn cut_asked<F: Fn(u32, u32) -> i64 + Sync, V: Fn(u32, u32) -> i64 + Sync>(
+    step: &MoveToFind<F, V>,
+    basis: &Basis,
+    known: &[Choice],
+    sites: &StripSites,
+    room: &mut Room,
+) -> Result<BothSides, AllocError>
+    requires can { CanClose F.Fn V.Fn step.now basis.now known.now }
+    requires opened { AreOpenSites (strip_view known.now sites.now.from sites.now.to)
+        sites.now.opened.now }
+    requires weights { sites.now.weights.now
+        ≡ map (weight_at basis.now.weights.now) sites.now.opened.now }
+    ensures lower { IfOk result (λ sides. length sides.lower.items ≡ length sites.now.opened.now) }
+    ensures upper { IfOk result (λ sides. length sides.upper.items ≡ length sites.now.opened.now) }
+    ensures tells { WhereFound F.Fn V.Fn step.now (λ m move f.
+        IfOk result (AreBounds m move f known.now sites.now.opened.now)) }
+{
+    let alloc = *room.more.allocator();
+    let mut form = Quadratic::new(alloc);
+    build_asked(step, basis, known, sites, &mut form, room)?;
+    let sides = least_sides(alloc, form, &room.more, &mut room.space)?;
+    Ok(sides)
 }

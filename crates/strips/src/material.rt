@@ -36,7 +36,7 @@ pub(crate) struct StripSites<'a> {
 /// The lists that a strip is built and cut with. They keep their memory from strip to strip.
 #[derive(Drop)]
 pub(crate) struct Room {
-    /// The node of each site.
+    /// The node of each site of the strip, counted from its first site.
     pub numbers: Vec<u32>,
     /// What the nodes weigh.
     pub weights: Vec<i64>,

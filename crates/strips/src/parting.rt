@@ -1,6 +1,6 @@
 //! A move closed in by parts of its sites, side by side: each part is decided and closed in by
 //! numbers alone, strip by strip, with the sites of all other parts unknown.
-ghost use Rattle.std.specs.Prelude.{◌≡◌, ◌≢◌, ◌+◌, ◌<◌, ◌≤◌, ℕ, List, map, length, vec_len};
+ghost use Rattle.std.specs.Prelude.{◌≡◌, ◌+◌, ◌<◌, ◌≤◌, List, map, length, vec_len};
 ghost use Rattle.std.specs.Prelude.{IfOk, OnOk};
 ghost use Rattle.label_field.specs.Limits.{site_limit};
 ghost use Rattle.labellings.specs.Energies.{IsInstance};
@@ -12,6 +12,7 @@ ghost use Rattle.deciding.specs.MoveValues.{move_value};
 ghost use Rattle.deciding.specs.Parts.{AreReadable, ArePassedChoices, WhereRead, site_weight};
 ghost use Rattle.closing_in.specs.Agreeing.{Agree};
 ghost use Rattle.strips.specs.Parts.{IsPartClosed, IsPartAnswer, OfParts, DecidesTold};
+ghost use Rattle.strips.specs.Parts.{EndsWithStrip, PartsEndWithStrips};
 ghost use Rattle.strips.specs.Views.{KeepsChosen, strip_view};
 
 use crate::closing::Strips;
@@ -66,8 +67,12 @@ fn close_range(
     ensures agree { WhereRead numbers.now (λ m move f. IsInstance m →
         Agree m.sites (move_value m move f) (choice_at known.old.items) →
         OnOk result (Agree m.sites (move_value m move f) (choice_at known.new.items))) }
+    ensures ends { WhereRead numbers.now (λ m move f. IsInstance m →
+        Agree m.sites (move_value m move f) (choice_at known.old.items) →
+        OnOk result (EndsWithStrip m move f known.old.items from to (choice_at known.new.items))) }
 {
     let mut strips = Strips::new(*known.allocator());
+    strips.room.numbers.reserve((to - from) as usize)?;
     let mut end = list_next(known, &mut strips.opened, from, from, to, size)?;
     'strips: while end < to {
         strips.close_read(numbers, known, from, end)?;
@@ -140,8 +145,9 @@ fn close_each<K: Fork>(
 /// Decides and closes in the sites of a move by so many parts, side by side, in strips of so many
 /// open sites. Each site that can be told by what is known at first is decided. Only what lies near
 /// the borders of the parts stays open, and what no strip of a part can tell. The choices agree
-/// with the least assignment with the fewest ones, whatever the number of parts. It refuses only
-/// where memory runs out.
+/// with the least assignment with the fewest ones, whatever the number of parts. Each part ends
+/// with a strip of all its sites that are open then: what stays open of it is what both sides of
+/// that strip leave open. It refuses only where memory runs out.
 pub fn close_parts<K: Fork>(
     fork: &K,
     numbers: &RiseNumbers,
@@ -159,6 +165,10 @@ pub fn close_parts<K: Fork>(
         ArePassedChoices m move f (choice_at known.old.items) →
         OnOk result (Agree m.sites (move_value m move f) (choice_at known.new.items))) }
     ensures told { OnOk result (DecidesTold numbers.now known.old.items known.new.items) }
+    ensures ends { WhereRead numbers.now (λ m move f. IsInstance m →
+        ArePassedChoices m move f (choice_at known.old.items) →
+        OnOk result (PartsEndWithStrips m move f known.old.items count
+        (choice_at known.new.items))) }
 {
     let sites = known.len().div_ceil(count);
     let alloc = *known.allocator();

@@ -5,7 +5,8 @@ ghost use Rattle.std.specs.Result.{IsOk};
 ghost use Rattle.label_field.specs.Limits.{site_limit};
 ghost use Rattle.move_energy.specs.Choices.{choice_at};
 ghost use Rattle.closing_in.specs.Agreeing.{Agree};
-ghost use Rattle.strips.specs.Parts.{ArePartCodes, OfParts, FillsPart, IsPartJoined, choice_of_code};
+ghost use Rattle.strips.specs.Parts.{ArePartCodes, OfParts, FillsPart, IsPartJoined};
+ghost use Rattle.strips.specs.Parts.{choice_of_code};
 ghost use Rattle.strips.specs.Parts.{coded_at, known_or, part_start as start_of};
 
 use move_energy::Choice;

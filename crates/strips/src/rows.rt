@@ -1,7 +1,7 @@
 //! The rows of a strip: what its sites weigh by now, what pairs within it save, and its border. All
 //! are found in one pass over the neighbours of each site.
 ghost use Rattle.std.specs.Prelude.{◌≡◌, ◌<◌, ◌≤◌, ◌+◌, ◌*◌, ◌-◌, ◌-ℤ◌, ◌<ℤ◌, ◌∷◌, [], ◌&&◌};
-ghost use Rattle.std.specs.Prelude.{Bool, true, not, pos, map, length, vec_len, sum, sum_by, All};
+ghost use Rattle.std.specs.Prelude.{true, not, pos, map, length, vec_len, sum, sum_by, All};
 ghost use Rattle.std.specs.Prelude.{unsigned_abs, IfOk, OnOk};
 ghost use Rattle.sums.specs.Sums.{count_if};
 ghost use Rattle.label_field.specs.Limits.{pair_limit};
@@ -13,13 +13,13 @@ ghost use Rattle.compile_cut.specs.Weights.{weights_size};
 ghost use Rattle.move_energy.specs.BySite.{degree, neighbours_start};
 ghost use Rattle.move_energy.specs.BySite.{pair_beside as beside_at};
 ghost use Rattle.move_energy.specs.Built.{AddsCost, IsLonger};
-ghost use Rattle.move_energy.specs.Choices.{choice_at, open_at, open_count, IsNumbering};
+ghost use Rattle.move_energy.specs.Choices.{choice_at, open_at};
 ghost use Rattle.move_energy.specs.Limits.{surplus_limit, weights_limit};
 ghost use Rattle.move_energy.specs.Weights.{pair_surplus as surplus_between};
 ghost use Rattle.closing_in.specs.Borders.{border_at, is_beyond as beyond_of, not_ones, range_of};
 ghost use Rattle.closing_in.specs.Borders.{is_inside as inside_of};
 ghost use Rattle.strips.specs.Building.{CanAsk, CanBuild, WhereSaved, AreStripSites, view_by};
-ghost use Rattle.strips.specs.Building.{AreStartWeights, AreWeighed};
+ghost use Rattle.strips.specs.Building.{AreStartWeights, AreWeighed, HasStripNodes};
 ghost use Rattle.strips.specs.Building.{counts_in, met_inside, unsaved_in, unsaved_at};
 ghost use Rattle.strips.specs.Building.{border_of_site, weight_by_now};
 ghost use Rattle.strips.specs.Limits.{borders_limit};
@@ -113,7 +113,8 @@ fn add_saving(form: &mut Quadratic, first: u32, second: u32, surplus: i64) -> Re
 }
 
 /// Adds what the pair of a site and a neighbour saves where both are in the strip and at 1. It is
-/// added at its first end, and nothing at its second one. `numbers` has the node of each site.
+/// added at its first end, and nothing at its second one. `numbers` has the node of each site of
+/// the strip.
 #[inline]
 fn add_inside<S: Fn(Pair) -> i64>(
     savings: &S,
@@ -126,8 +127,7 @@ fn add_inside<S: Fn(Pair) -> i64>(
 ) -> Result<(), AllocError>
     requires ask { CanAsk (S.pre savings.now) (S.post savings.now) material.now }
     requires can { CanBuild material.now }
-    requires numbering { IsNumbering (view_by sites.now material.now) numbers.now }
-    requires nodes { vec_len form.old.weights ≡ open_count (view_by sites.now material.now) }
+    requires nodes { HasStripNodes material.now sites.now numbers.now form.old }
     requires site { (site < material.now.pairs.now.sites)
         × (open_at (view_by sites.now material.now) site ≡ true) }
     requires place { (neighbours_start material.now.ends.now site ≤ place)
@@ -153,8 +153,8 @@ fn add_inside<S: Fn(Pair) -> i64>(
     if surplus <= 0 {
         return Ok(());
     }
-    let first = numbers[pair.first as usize];
-    let second = numbers[pair.second as usize];
+    let first = numbers[(pair.first - sites.from) as usize];
+    let second = numbers[(pair.second - sites.from) as usize];
     add_saving(form, first, second, surplus)
 }
 
@@ -179,8 +179,7 @@ fn add_row<S: Fn(Pair) -> i64>(
 ) -> Result<SiteBorders, AllocError>
     requires ask { CanAsk (S.pre savings.now) (S.post savings.now) material.now }
     requires can { CanBuild material.now }
-    requires numbering { IsNumbering (view_by sites.now material.now) numbers.now }
-    requires nodes { vec_len form.old.weights ≡ open_count (view_by sites.now material.now) }
+    requires nodes { HasStripNodes material.now sites.now numbers.now form.old }
     requires site { (site < material.now.pairs.now.sites)
         × (open_at (view_by sites.now material.now) site ≡ true) }
     requires met { met_inside material.now sites.now site ≤ term_limit }
@@ -227,8 +226,7 @@ pub(crate) fn add_rows<S: Fn(Pair) -> i64>(
     requires can { CanBuild material.now }
     requires opened { AreStripSites material.now sites.now }
     requires weighed { AreWeighed sites.now }
-    requires numbering { IsNumbering (view_by sites.now material.now) numbers.now }
-    requires nodes { vec_len form.old.weights ≡ open_count (view_by sites.now material.now) }
+    requires nodes { HasStripNodes material.now sites.now numbers.now form.old }
     requires bounded { IsQuadraticBounded 0 form.old }
     ensures count { OnOk result ((length list.new.items ≡ length sites.now.opened.now)
         × (length borders.new.items ≡ length sites.now.opened.now)) }

@@ -1,4 +1,5 @@
-ghost use Rattle.std.specs.Prelude.{◌≡◌, ℕ, ◌+◌, ◌≤◌, IfOk, length, sum, vec_len};
+//! The two cuts of a strip's form.
+ghost use Rattle.std.specs.Prelude.{◌≡◌, ◌+◌, ◌≤◌, IfOk, length, sum, vec_len};
 ghost use Rattle.label_field.specs.Limits.{site_limit, label_limit};
 ghost use Rattle.pseudo_bool.specs.Energies.{assignment};
 ghost use Rattle.pseudo_bool.specs.Limits.{term_limit};

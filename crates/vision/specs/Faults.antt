@@ -17,10 +17,14 @@ use Rattle.pgm_image.specs.declared.error.WriteError.TheVariants as write
 use Rattle.run_options.specs.declared.options.RestoreOptions.{RestoreOptions}
 use Rattle.run_options.specs.declared.options.StereoOptions.{StereoOptions}
 use Rattle.run_options.specs.declared.options.SegmentOptions.{SegmentOptions}
-use Rattle.vision.specs.Inputs.{HoldsPicture, HoldsTwo, SameSizes, RefusesSecond, IsRestoreJob, IsStereoJob, IsSegmentJob}
+use Rattle.vision.specs.Inputs.{HoldsPicture, HoldsTwo, SameSizes, RefusesSecond, IsRestoreJob}
+use Rattle.vision.specs.Inputs.{IsStereoJob, IsSegmentJob}
 use Rattle.vision.specs.Jobs.{Job, RefusesMove, StopsAfter}
 use Rattle.vision.specs.declared.error.VisionError.{VisionError}
-use Rattle.vision.specs.declared.error.VisionError.TheVariants.{OutOfMemory, Image, SizesDiffer, BadSeed, TooManyLevels, PairNotRegular, LabelCostInSwap, Workers, BadOptions, Write}
+use Rattle.vision.specs.declared.error.VisionError.TheVariants.{OutOfMemory, Image, SizesDiffer}
+use Rattle.vision.specs.declared.error.VisionError.TheVariants.{BadSeed, TooManyLevels}
+use Rattle.vision.specs.declared.error.VisionError.TheVariants.{PairNotRegular, LabelCostInSwap}
+use Rattle.vision.specs.declared.error.VisionError.TheVariants.{Workers, BadOptions, Write}
 
 -- why there is no image, as a command tells it: memory as memory, whoever asked for it
 abbrev pub image_error : PgmError → VisionError

@@ -1,8 +1,10 @@
 -- What a command does with the problem that its pictures and options name.
-use Rattle.std.specs.Prelude.{◌≡◌, ℕ, ◌-◌, max, Bool, false, IsTrue, IsFalse, IfSome, ◌≤◌, List, replicate, None, pos, Err}
+use Rattle.std.specs.Prelude.{◌≡◌, ℕ, ◌-◌, max, Bool, false, IsTrue, IsFalse, IfSome, ◌≤◌, List}
+use Rattle.std.specs.Prelude.{replicate, None, pos, Err}
 use Rattle.byte_streams.specs.Streams.{Stops, Stream, Takes}
 use Rattle.labellings.specs.declared.change.Move.{Move}
-use Rattle.labellings.specs.Energies.{Instance, labelling, data_energy, smooth_energy, label_energy, energy}
+use Rattle.labellings.specs.Energies.{Instance, labelling, data_energy, smooth_energy, label_energy}
+use Rattle.labellings.specs.Energies.{energy}
 use Rattle.labellings.specs.Chains.{IsChain, moves_of}
 use Rattle.moves.specs.Runs.{MayMake, TellsBound}
 use Rattle.moves.specs.Problems.{IsRunOfCycles}

@@ -1,6 +1,7 @@
 -- The problems of labels that pictures and options name. A site is a pixel, row by row from the
 -- top, each row from the left.
-use Rattle.std.specs.Prelude.{◌≡◌, ℕ, ◌+◌, ◌-◌, ◌*◌, ◌<◌, ◌==◌, nat_lt, nat_le, min, List, length, map, slice_index, unwrap_or, if◌then◌else◌}
+use Rattle.std.specs.Prelude.{◌≡◌, ℕ, ◌+◌, ◌-◌, ◌*◌, ◌<◌, ◌==◌, nat_lt, nat_le, min, List, length}
+use Rattle.std.specs.Prelude.{map, slice_index, unwrap_or, if◌then◌else◌}
 use Rattle.label_field.specs.declared.pair.Pair.{Pair}
 use Rattle.label_field.specs.Grids.{grid, steps4, steps8, column, distance}
 use Rattle.labellings.specs.Energies.{Instance}

@@ -2,7 +2,8 @@
 ghost use Rattle.std.specs.Prelude.{◌≡◌, ◌+◌, ◌<◌, ◌≤◌, ◌^◌, IfOk, IfErr, length};
 ghost use Rattle.pgm_image.specs.Signs.{is_space};
 ghost use Rattle.vision.specs.Faults.{HasImageError, HasPairError};
-ghost use Rattle.vision.specs.Inputs.{HoldsPicture, HoldsTwo, IsPastSpaces, SameSizes, refusal_from, position_of};
+ghost use Rattle.vision.specs.Inputs.{HoldsPicture, HoldsTwo, IsPastSpaces, SameSizes};
+ghost use Rattle.vision.specs.Inputs.{refusal_from, position_of};
 
 use crate::VisionError;
 use pgm_image::{Image, PgmError, is_space, read_image};

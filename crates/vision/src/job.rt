@@ -1,7 +1,8 @@
 //! The run of a problem of labels over the pixels of a picture, and the picture that it makes.
-ghost use Rattle.std.specs.Prelude.{◌≡◌, ◌↔◌, ℕ, ◌+◌, ◌*◌, ◌<◌, ◌≤◌, pos, ◌≤ℤ◌, ◌+ℤ◌, All, IfOk, IfErr, IfSome, IsTrue, MatchResult, OnOk, length, unwrap_or, if◌then◌else◌};
+ghost use Rattle.std.specs.Prelude.{◌≡◌, ◌↔◌, ℕ, ◌+◌, ◌*◌, ◌<◌, ◌≤◌, pos, ◌≤ℤ◌, ◌+ℤ◌, All, IfOk};
+ghost use Rattle.std.specs.Prelude.{IfErr, IfSome, IsTrue, MatchResult, OnOk, length, unwrap_or};
+ghost use Rattle.std.specs.Prelude.{if◌then◌else◌};
 ghost use Rattle.byte_streams.specs.Streams.{Stops, Takes};
-ghost use Rattle.label_field.specs.LabelFields.{AreSizes};
 ghost use Rattle.label_field.specs.Limits.{label_limit};
 ghost use Rattle.labellings.specs.Energies.{Instance};
 ghost use Rattle.cost_store.specs.Limits.{data_energy_limit, data_limit, label_energy_limit};
@@ -9,7 +10,7 @@ ghost use Rattle.cost_store.specs.Limits.{smooth_energy_limit, smooth_limit};
 ghost use Rattle.cost_store.specs.LabelCosts.{cost_at, AreLabelCosts, HasCosts, costs_of};
 ghost use Rattle.cost_store.specs.Promises.{IsCost, IsMetricTable, IsTable, Keeps};
 ghost use Rattle.moves.specs.Instances.{IsInstanceOf};
-ghost use Rattle.moves.specs.Runs.{IsRunInRange};
+ghost use Rattle.moves.specs.Prices.{ArePrices};
 ghost use Rattle.pgm_image.specs.Picture.{IsPicture, maxval_limit, picture};
 ghost use Rattle.pgm_image.specs.Written.{written_form};
 ghost use Rattle.run_options.specs.Limits.{greatest_label_cost, trunc_limit};
@@ -23,7 +24,7 @@ use byte_streams::Sink;
 use cost_store::{DataCost, is_metric};
 use label_field::{Labelling, Pairs};
 use labellings::Moves;
-use moves::{Bound, How, Request, Run, run_with_table};
+use moves::{Bound, How, LabelPrices, Request, Run, run_with_table};
 use pgm_image::{Image, put_image};
 use run_options::{Shape, smooth_table};
 use std::alloc::{AllocError, Global};
@@ -36,15 +37,6 @@ pub(crate) struct Plan {
     pub cycles: u32,
     pub bound: bool,
     pub maxval: u32,
-}
-
-/// What pairs of labels and labels by themselves cost: a table of smooth costs, whether they are a
-/// metric, and what each label costs, if any does.
-#[derive(Drop)]
-pub(crate) struct LabelPrices<'a> {
-    pub smooth: &'a [i64],
-    pub by_metric: bool,
-    pub label_costs: Option<Vec<i64>>,
 }
 
 /// A picture that is ready to be written, and what its labels cost.
@@ -73,10 +65,7 @@ pub(crate) fn run_job<F: Fn(u32, u32) -> i64 + Sync, H: How>(
         × (plan.maxval ≤ maxval_limit) }
     requires costs { Keeps (F.pre data_cost.f) (F.post data_cost.f) data_cost.sites data_cost.labels
         data_limit }
-    requires smooth { (length prices.smooth.now ≡ data_cost.labels * data_cost.labels)
-        × All (IsCost smooth_limit) prices.smooth.now }
-    requires known { IsTrue prices.by_metric ↔ IsMetricTable data_cost.labels prices.smooth.now }
-    requires label_costs { AreLabelCosts data_cost.labels prices.label_costs }
+    requires prices { ArePrices data_cost.labels prices }
     ensures run { (m : Instance) →
         IsInstanceOf (F.post data_cost.f) pairs data_cost.labels prices.entry.smooth.now m →
         HasCosts m prices.entry.label_costs →
@@ -95,9 +84,7 @@ pub(crate) fn run_job<F: Fn(u32, u32) -> i64 + Sync, H: How>(
         alloc,
         pairs,
         data_cost,
-        prices.smooth,
-        prices.by_metric,
-        prices.label_costs,
+        prices,
         Request {
             start,
             moves: plan.moves,

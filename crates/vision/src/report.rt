@@ -1,3 +1,4 @@
+//! What an image command reports.
 use moves::Bound;
 
 /// What the labels of the picture that was made cost.

@@ -1,22 +1,24 @@
 //! Restoring a picture.
-ghost use Rattle.std.specs.Prelude.{◌≡◌, ◌≢◌, ◌+◌, ◌<◌, ◌≤◌, pos, IfOk, IfErr, MatchResult, length, slice_index};
+ghost use Rattle.std.specs.Prelude.{◌≡◌, ◌≢◌, ◌+◌, ◌<◌, ◌≤◌, pos, IfOk, IfErr, MatchResult, length};
+ghost use Rattle.std.specs.Prelude.{slice_index};
 ghost use Rattle.label_field.specs.Grids.{distance};
 ghost use Rattle.label_field.specs.Limits.{label_limit};
 ghost use Rattle.run_options.specs.Ranges.{AreRestoreOptions};
 ghost use Rattle.run_options.specs.declared.shape.Shape.TheVariants.{Quadratic};
-ghost use Rattle.vision.specs.Faults.{HasRestoreError, HasRunError, IsWrite, LeavesWriter, IsOfPair};
+ghost use Rattle.vision.specs.Faults.{HasRestoreError, HasRunError, IsWrite, LeavesWriter};
+ghost use Rattle.vision.specs.Faults.{IsOfPair};
 ghost use Rattle.vision.specs.Inputs.{IsRestoreJob};
 ghost use Rattle.vision.specs.Jobs.{WritesPicture, IsReadyToWrite, Job, restore_job};
 
 use crate::inputs::read_one;
 use crate::job::{
-    Finished, LabelPrices, Plan, equal_costs, is_metric_cost, put_finished, run_job, smooth_costs,
+    Finished, Plan, equal_costs, is_metric_cost, put_finished, run_job, smooth_costs,
 };
 use crate::pairs::pairs_of;
 use crate::{Report, VisionError};
 use byte_streams::Sink;
 use cost_store::DataCost;
-use moves::How;
+use moves::{How, LabelPrices};
 use pgm_image::Image;
 use run_options::RestoreOptions;
 use std::alloc::Global;

@@ -1,22 +1,22 @@
 //! Parting a picture in two.
-ghost use Rattle.std.specs.Prelude.{◌≡◌, ◌*◌, ◌<◌, ◌≤◌, pos, All, IfOk, IfErr, MatchOption, MatchResult, length, slice_index};
+ghost use Rattle.std.specs.Prelude.{◌≡◌, ◌*◌, ◌<◌, ◌≤◌, pos, All, IfOk, IfErr, MatchOption};
+ghost use Rattle.std.specs.Prelude.{MatchResult, length, slice_index};
 ghost use Rattle.run_options.specs.Ranges.{AreSegmentOptions};
 ghost use Rattle.pgm_image.specs.Raster.{IsFirstAbove};
-ghost use Rattle.vision.specs.Faults.{HasRunError, HasSegmentError, IsWrite, LeavesWriter, IsOfPair};
-ghost use Rattle.vision.specs.Inputs.{AreSeeds, IsSegmentJob, SameSizes};
+ghost use Rattle.vision.specs.Faults.{HasRunError, HasSegmentError, IsWrite, LeavesWriter};
+ghost use Rattle.vision.specs.Faults.{IsOfPair};
+ghost use Rattle.vision.specs.Inputs.{IsSegmentJob, SameSizes};
 ghost use Rattle.vision.specs.Jobs.{WritesPicture, IsReadyToWrite, Job, segment_job};
 ghost use Rattle.vision.specs.Problems.{part_cost};
 
 use crate::inputs::read_two;
-use crate::job::{
-    Finished, LabelPrices, Plan, is_metric_cost, put_finished, run_job, smooth_costs,
-};
+use crate::job::{Finished, Plan, is_metric_cost, put_finished, run_job, smooth_costs};
 use crate::pairs::edge_pairs;
 use crate::{Report, VisionError};
 use byte_streams::Sink;
 use cost_store::DataCost;
 use labellings::Moves;
-use moves::How;
+use moves::{How, LabelPrices};
 use pgm_image::Image;
 use run_options::{SegmentOptions, Shape};
 use std::alloc::Global;

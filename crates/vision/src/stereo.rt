@@ -1,6 +1,6 @@
 //! Matching a left and a right picture.
-ghost use Rattle.std.specs.Prelude.{◌≡◌, ◌≢◌, ◌+◌, ◌-◌, ◌*◌, ◌%◌, ◌<◌, ◌≤◌, pos, min, nat_lt, if◌then◌else◌, IfOk, IfErr, MatchResult, length, slice_index};
-ghost use Rattle.run_options.specs.Limits.{cap_limit};
+ghost use Rattle.std.specs.Prelude.{◌≡◌, ◌≢◌, ◌-◌, ◌*◌, ◌%◌, ◌<◌, ◌≤◌, pos, min};
+ghost use Rattle.std.specs.Prelude.{IfOk, IfErr, MatchResult, length};
 ghost use Rattle.run_options.specs.Ranges.{AreStereoOptions};
 ghost use Rattle.pgm_image.specs.Picture.{sample_limit};
 ghost use Rattle.run_options.specs.declared.shape.Shape.TheVariants.{Quadratic};
@@ -10,14 +10,12 @@ ghost use Rattle.vision.specs.Jobs.{WritesPicture, IsReadyToWrite, Job, stereo_j
 ghost use Rattle.vision.specs.Problems.{AreColumns, cost_by_columns};
 
 use crate::inputs::read_two;
-use crate::job::{
-    Finished, LabelPrices, Plan, is_metric_cost, put_finished, run_job, smooth_costs,
-};
+use crate::job::{Finished, Plan, is_metric_cost, put_finished, run_job, smooth_costs};
 use crate::pairs::pairs_of;
 use crate::{Report, VisionError};
 use byte_streams::Sink;
 use cost_store::DataCost;
-use moves::How;
+use moves::{How, LabelPrices};
 use pgm_image::Image;
 use run_options::StereoOptions;
 use std::alloc::{AllocError, Global};

@@ -8,25 +8,25 @@ use Rattle.moves.proofs.tables.run_with_table.Goals as goal
 
 pub with_metric-requires-clause-keeps : goal.with_metric-requires-clause-keeps
 with_metric-requires-clause-keeps g c =
-    smooth_keeps (pos 10000) c.args.smooth.now c.labels-labels.result c.labels-labels.result
-    (c.requires.smooth.0 ∙ (λ i. sym c.labels-labels.ensures.value i * sym c.labels-labels.ensures.value i))
-    c.labels-labels.ensures.sizes.2 c.requires.smooth.1
+    smooth_keeps (pos 10000) c.args.prices.smooth.now c.labels-labels.result c.labels-labels.result
+    (c.requires.prices.size ∙ (λ i. sym c.labels-labels.ensures.value i * sym c.labels-labels.ensures.value i))
+    c.labels-labels.ensures.sizes.2 c.requires.prices.range
 
 pub with_metric-requires-clause-metric : goal.with_metric-requires-clause-metric
 with_metric-requires-clause-metric g c = λ met cost entries.
-    let T : ℕ → Type 0 = λ k. IsMetricTable k c.args.smooth.now in
-    metric_kept c.labels-labels.result c.args.smooth.now (subst T (sym c.labels-labels.ensures.value) (c.requires.known.0 met)) cost entries
+    let T : ℕ → Type 0 = λ k. IsMetricTable k c.args.prices.smooth.now in
+    metric_kept c.labels-labels.result c.args.prices.smooth.now (subst T (sym c.labels-labels.ensures.value) (c.requires.prices.known.0 met)) cost entries
 
 pub run_problem-requires-clause-posed : goal.run_problem-requires-clause-posed
 run_problem-requires-clause-posed g c = λ lives within.
-    let A : ℕ → Type 0 = λ k. AreLabelCosts k c.args.label_costs in
+    let A : ℕ → Type 0 = λ k. AreLabelCosts k c.args.prices.label_costs in
     record {
       costs = c.requires.costs;
       smooth = c.with_metric.ensures.keeps;
       pairs = c.keeps.ensures;
       data_sites = c.requires.sites.1;
       smooth_labels = rw c.with_metric.ensures.stored (c.labels-labels.ensures.value ∙ sym c.requires.labels);
-      label_costs = subst A (sym c.requires.labels) c.requires.label_costs;
+      label_costs = subst A (sym c.requires.labels) c.requires.prices.label_costs;
     }
 
 pub run_problem-requires-clause-fits : goal.run_problem-requires-clause-fits
@@ -35,11 +35,11 @@ run_problem-requires-clause-fits g c = λ lives within. record { sites = c.requi
 pub run_problem-requires-clause-known : goal.run_problem-requires-clause-known
 run_problem-requires-clause-known g c = λ lives within.
     let labels = c.labels-labels.ensures.value in
-    let T : ℕ → Type 0 = λ k. IsMetricTable k c.args.smooth.now in
+    let T : ℕ → Type 0 = λ k. IsMetricTable k c.args.prices.smooth.now in
     rw c.with_metric.ensures.stored
-    (λ m meant metric. c.requires.known.1 (subst T labels
-    (table_metric m c.labels-labels.result c.args.data_cost.labels c.args.smooth.now c.labels-labels.ensures.sizes.1
-    (c.requires.smooth.0 ∙ (λ i. sym labels i * sym labels i)) meant.labels_are (c.requires.labels ∙ sym labels) meant.smooth_are metric)))
+    (λ m meant metric. c.requires.prices.known.1 (subst T labels
+    (table_metric m c.labels-labels.result c.args.data_cost.labels c.args.prices.smooth.now c.labels-labels.ensures.sizes.1
+    (c.requires.prices.size ∙ (λ i. sym labels i * sym labels i)) meant.labels_are (c.requires.labels ∙ sym labels) meant.smooth_are metric)))
 
 pub returns-clause-run : goal.returns-clause-run
 returns-clause-run g c = λ m is has.
@@ -50,7 +50,7 @@ returns-clause-run g c = λ m is has.
       labels_are = is.labels_are ∙ sym c.requires.labels;
       pairs_are = is.pairs_are;
       data_are = λ a b z la lb ans. is.data_are a b z la (below_along b _ _ lb c.requires.labels) ans;
-      smooth_are = λ a b z la lb ans. smooth_along c.args.smooth.now a b z _ _ labels ans
+      smooth_are = λ a b z la lb ans. smooth_along c.args.prices.smooth.now a b z _ _ labels ans
           ∙ is.smooth_are.each a b (below_along a _ _ la c.requires.labels) (below_along b _ _ lb c.requires.labels);
       costs_are = has;
     }))
@@ -58,13 +58,13 @@ returns-clause-run g c = λ m is has.
 pub returns-clause-metric : goal.returns-clause-metric
 returns-clause-metric g c = λ metric m is has.
     let labels = c.labels-labels.ensures.value in
-    c.run_problem.ensures.metric (rw c.with_metric.ensures.stored (c.requires.known.1 metric)) m
+    c.run_problem.ensures.metric (rw c.with_metric.ensures.stored (c.requires.prices.known.1 metric)) m
     (rw c.with_metric.ensures.stored (record {
       sites_are = is.sites_are;
       labels_are = is.labels_are ∙ sym c.requires.labels;
       pairs_are = is.pairs_are;
       data_are = λ a b z la lb ans. is.data_are a b z la (below_along b _ _ lb c.requires.labels) ans;
-      smooth_are = λ a b z la lb ans. smooth_along c.args.smooth.now a b z _ _ labels ans
+      smooth_are = λ a b z la lb ans. smooth_along c.args.prices.smooth.now a b z _ _ labels ans
           ∙ is.smooth_are.each a b (below_along a _ _ la c.requires.labels) (below_along b _ _ lb c.requires.labels);
       costs_are = has;
     }))
@@ -78,12 +78,12 @@ returns-clause-over_metric g c = λ m is has.
       labels_are = is.labels_are ∙ sym c.requires.labels;
       pairs_are = is.pairs_are;
       data_are = λ a b z la lb ans. is.data_are a b z la (below_along b _ _ lb c.requires.labels) ans;
-      smooth_are = λ a b z la lb ans. smooth_along c.args.smooth.now a b z _ _ labels ans
+      smooth_are = λ a b z la lb ans. smooth_along c.args.prices.smooth.now a b z _ _ labels ans
           ∙ is.smooth_are.each a b (below_along a _ _ la c.requires.labels) (below_along b _ _ lb c.requires.labels);
       costs_are = has;
     }))
 
 pub returns-clause-bounded : goal.returns-clause-bounded
 returns-clause-bounded g c = λ m is has.
-    bound_small m (pos 10000) c.args.request.start.labels c.args.smooth.now c.args.request.moves c.args.request.cycles c.args.request.start.at c.run_problem.result
-    is.labels_are c.requires.smooth.1 is.smooth_are (omega (arith, ints)) (returns-clause-run g c m is has)
+    bound_small m (pos 10000) c.args.request.start.labels c.args.prices.smooth.now c.args.request.moves c.args.request.cycles c.args.request.start.at c.run_problem.result
+    is.labels_are c.requires.prices.range is.smooth_are (omega (arith, ints)) (returns-clause-run g c m is has)

@@ -1,33 +1,19 @@
-use Rattle.std.proofs.Common.{◌≡◌, ◌∙◌, length, sym}
+use Rattle.std.proofs.Common.{◌≡◌, ◌∙◌, ℕ, List, length, sym, subst}
 use Rattle.labellings.specs.Energies.{labelling}
 use Rattle.deciding.proofs.Places.{meant_pairs}
-use Rattle.strips.specs.Views.{strip_view}
-use Rattle.strips.proofs.Views.{view_length}
-use Rattle.strips.proofs.Weighing.{listed_count, listed_few, starts_listed}
+use Rattle.strips.specs.Sides.{IsLessBorder}
+use Rattle.strips.proofs.Ranges.{sides_bound}
 use Rattle.strips.proofs.cutting.cut_asked.Goals as goal
-
-pub cut_strip-requires-clause-weighed : goal.cut_strip-requires-clause-weighed
-cut_strip-requires-clause-weighed g c =
-    let a = c.args in
-    let can = c.requires.can in
-    let view = strip_view a.known.now a.sites.now.from a.sites.now.to in
-    record {
-      count = listed_count a.sites.now.opened.now a.basis.now.weights.now a.sites.now.weights.now c.requires.weights;
-      size = listed_few view a.sites.now.opened.now a.basis.now.weights.now a.sites.now.weights.now c.requires.weights
-          (can.begins.weighed ∙ sym can.count ∙ sym (view_length a.known.now a.sites.now.from a.sites.now.to)) c.requires.opened can.begins.size;
-    }
 
 pub returns-clause-tells : goal.returns-clause-tells
 returns-clause-tells g c = λ m meant.
     let a = c.args in
     let can = c.requires.can in
-    let sites : length a.known.now ≡ m.sites = can.count ∙ can.begins.posed.asked.sites ∙ sym meant.sites_are in
-    c.cut_strip.ensures.tells m a.step.now.change (labelling a.step.now.at.now) (λ pair z gives. gives.1.0 m meant)
-    record {
-      sites_are = meant.sites_are;
-      pairs_are = meant.pairs_are;
-      instance = meant_pairs m a.step.now.problem.now.pairs meant.pairs_are meant.sites_are can.begins.posed.posed.pairs;
-      allowed = can.begins.allowed m meant;
-    }
-    (starts_listed m a.step.now.change (labelling a.step.now.at.now) a.basis.now.start.now a.known.now a.sites.now.from a.sites.now.to a.sites.now.opened.now a.basis.now.weights.now a.sites.now.weights.now
-    sites c.requires.weights c.requires.opened can.goes_on (can.begins.weights m meant))
+    let form = c.build_asked.new.form in
+    let built = c.in_ok-build_asked.ensures in
+    let found = c.in_ok-sides.ensures in
+    let size : length a.known.now ≡ m.sites = can.count ∙ can.begins.posed.asked.sites ∙ sym meant.sites_are in
+    sides_bound m a.step.now.change (labelling a.step.now.at.now) a.known.now a.sites.now form c.build_asked.new.room.more.items c.in_ok-sides.sides
+    (meant_pairs m a.step.now.problem.now.pairs meant.pairs_are meant.sites_are can.begins.posed.posed.pairs) (can.begins.allowed m meant)
+    size c.requires.opened built.sized (built.built m meant) found.lower
+    (λ less is. let L : List ℕ → Type 0 = λ xs. IsLessBorder xs form less in found.upper less (subst L (sym c.deref.ensures.value) is))

@@ -1,8 +1,11 @@
-use Rattle.std.proofs.Common.{◌≡◌, ◌≤◌, ◌∙◌, ℕ, List, length, sym, ap, subst, arith}
+use Rattle.std.proofs.Common.{◌∙◌, List, refl, subst, arith}
+use Rattle.std.proofs.lemmas.Result.{on_ok_weaker}
+use Rattle.labellings.specs.Energies.{labelling}
 use Rattle.move_energy.specs.declared.choice.Choice.{Choice}
 use Rattle.move_energy.specs.Choices.{AreOpenSites}
 use Rattle.strips.specs.Views.{strip_view}
 use Rattle.strips.proofs.Listing.{none_listed}
+use Rattle.strips.proofs.Ranges.{ends_from}
 use Rattle.strips.proofs.parting.close_range.Goals as goal
 
 pub list_next-requires-clause-opened : goal.list_next-requires-clause-opened
@@ -35,3 +38,11 @@ returns-clause-goes_on c = λ start on. c.close_read-2.ensures.goes_on start (c.
 
 pub returns-clause-agree : goal.returns-clause-agree
 returns-clause-agree c = λ m move told is agree. c.close_read-2.ensures.agree m move told is (c.strips.invariant.agree m move told is agree)
+
+pub returns-clause-ends : goal.returns-clause-ends
+returns-clause-ends c = λ m move told is agree.
+    let a = c.args in
+    let inv = c.strips.invariant in
+    on_ok_weaker c.close_read-2.result
+    (λ ends. ends_from m move (labelling a.numbers.now.at.now) a.known.now.items c.strips.known.items a.from a.to _ inv.count (inv.goes_on a.known.now.items (λ p l shuts. refl)) ends)
+    (c.close_read-2.ensures.ends m move told is (inv.agree m move told is agree))

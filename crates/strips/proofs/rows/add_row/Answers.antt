@@ -39,11 +39,8 @@ is_beyond-past-requires g c =
     let within = head_inside a.material.now.pairs.now a.material.now.ends.now a.site p c.requires.can.pairs_are.each c.requires.can.by_site inside from to in
     omega (arith, head, within, c.requires.can.count)
 
-pub add_inside-requires-clause-numbering : goal.add_inside-requires-clause-numbering
-add_inside-requires-clause-numbering g c = c.requires.numbering
-
 pub add_inside-requires-clause-nodes : goal.add_inside-requires-clause-nodes
-add_inside-requires-clause-nodes g c = c.loop-place.invariant.longer.nodes ∙ c.requires.nodes
+add_inside-requires-clause-nodes g c = record { numbering = c.requires.nodes.numbering; nodes = c.loop-place.invariant.longer.nodes ∙ c.requires.nodes.nodes }
 
 pub add_inside-requires-clause-site : goal.add_inside-requires-clause-site
 add_inside-requires-clause-site g c = c.requires.site

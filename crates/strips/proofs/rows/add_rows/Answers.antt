@@ -34,13 +34,9 @@ loop-index-init g c =
       adds = λ m move f gives over. cost_none c.args.form.now (λ x. 0) (λ x. refl);
     }
 
-pub add_row-requires-clause-numbering : goal.add_row-requires-clause-numbering
-add_row-requires-clause-numbering g c =
-    c.requires.numbering
-
 pub add_row-requires-clause-nodes : goal.add_row-requires-clause-nodes
 add_row-requires-clause-nodes g c =
-    c.loop-index.invariant.longer.nodes ∙ c.requires.nodes
+    record { numbering = c.requires.nodes.numbering; nodes = c.loop-index.invariant.longer.nodes ∙ c.requires.nodes.nodes }
 
 pub add_row-requires-clause-site : goal.add_row-requires-clause-site
 add_row-requires-clause-site g c =

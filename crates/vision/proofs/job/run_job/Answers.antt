@@ -1,10 +1,7 @@
 use Rattle.std.proofs.Common.{◌∙◌, ℕ, replicate, inl, refl, sym, ap, subst}
 use Rattle.std.proofs.lemmas.Result.{err_from_is_err_and}
 use Rattle.label_field.specs.LabelFields.{LabelField}
-use Rattle.std.specs.Prelude.{◌↔◌}
-use Rattle.std.proofs.Common.{IsTrue}
-use Rattle.cost_store.specs.LabelCosts.{AreLabelCosts}
-use Rattle.cost_store.specs.Promises.{IsMetricTable}
+use Rattle.moves.specs.Prices.{ArePrices}
 use Rattle.vision.proofs.Coming.{any_run}
 use Rattle.vision.proofs.Finishing.{finished, refused}
 use Rattle.vision.proofs.Metrics.{move_tells}
@@ -50,12 +47,7 @@ run_with_table-requires-clause-costs g c = λ lives within. c.requires.costs
 pub returns-clause-metric : goal.returns-clause-metric
 returns-clause-metric g c = λ metric m is has. tt
 
-pub run_with_table-requires-clause-label_costs : goal.run_with_table-requires-clause-label_costs
-run_with_table-requires-clause-label_costs g c = λ lives within.
-    let A : ℕ → Type 0 = λ k. AreLabelCosts k c.args.prices.label_costs in
-    subst A (sym (ap (λ (f : LabelField). f.labels) c.in_ok-start.ensures)) c.requires.label_costs
-
-pub run_with_table-requires-clause-known : goal.run_with_table-requires-clause-known
-run_with_table-requires-clause-known g c = λ lives within.
-    let K : ℕ → Type 0 = λ k. IsTrue c.args.prices.by_metric ↔ IsMetricTable k c.args.prices.smooth.now in
-    subst K (sym (ap (λ (f : LabelField). f.labels) c.in_ok-start.ensures)) c.requires.known
+pub run_with_table-requires-clause-prices : goal.run_with_table-requires-clause-prices
+run_with_table-requires-clause-prices g c = λ lives within.
+    let A : ℕ → Type 0 = λ k. ArePrices k c.args.prices in
+    subst A (sym (ap (λ (f : LabelField). f.labels) c.in_ok-start.ensures)) c.requires.prices

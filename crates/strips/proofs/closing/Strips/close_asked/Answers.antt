@@ -1,4 +1,4 @@
-use Rattle.std.proofs.Common.{◌≡◌, ◌≤◌, ◌∙◌, ℕ, List, length, sym, subst, arith}
+use Rattle.std.proofs.Common.{◌≡◌, ◌∙◌, ℕ, List, length, sym, subst}
 use Rattle.labellings.specs.Energies.{labelling}
 use Rattle.move_energy.specs.declared.choice.Choice.{Choice}
 use Rattle.move_energy.specs.Choices.{AreOpenSites}
@@ -6,7 +6,7 @@ use Rattle.move_energy.proofs.Opened.{opened_within}
 use Rattle.deciding.proofs.Places.{meant_pairs}
 use Rattle.strips.specs.Sides.{AreBounds}
 use Rattle.strips.specs.Views.{strip_view}
-use Rattle.strips.proofs.Ranges.{on_ok}
+use Rattle.strips.proofs.Ranges.{on_ok, told_keeps, told_right}
 use Rattle.strips.proofs.Views.{view_length}
 use Rattle.strips.proofs.closing.Strips.close_asked.Goals as goal
 
@@ -33,6 +33,19 @@ returns-clause-agree g c = λ m meant agree.
     let f = labelling a.step.now.at.now in
     let K : List Choice → Type 0 = λ ks. AreBounds m a.step.now.change f ks c.deref-2.result.now c.in_ok-sides.sides in
     let B : List ℕ → Type 0 = λ xs. AreBounds m a.step.now.change f a.known.now.items xs c.in_ok-sides.sides in
-    let few : m.sites ≤ length a.known.now.items = omega (arith, meant.sites_are, can.begins.posed.asked.sites, can.count) in
-    on_ok c.tell.result _ (c.tell.ensures.agree m a.step.now.change f (meant_pairs m a.step.now.problem.now.pairs meant.pairs_are meant.sites_are can.begins.posed.posed.pairs)
-    (can.begins.allowed m meant) few (subst B c.deref-2.ensures.value (subst K c.deref-4.ensures.value (c.in_ok-sides.ensures.tells m meant))) agree)
+    let size : length a.known.now.items ≡ m.sites = can.count ∙ can.begins.posed.asked.sites ∙ sym meant.sites_are in
+    on_ok c.tell.result _ (told_right m a.step.now.change f a.known.now.items c.tell.new.known.items a.self.now.opened.items c.in_ok-sides.sides
+    (meant_pairs m a.step.now.problem.now.pairs meant.pairs_are meant.sites_are can.begins.posed.posed.pairs) (can.begins.allowed m meant) size c.tell.ensures.told
+    (subst B c.deref-2.ensures.value (subst K c.deref-4.ensures.value (c.in_ok-sides.ensures.tells m meant))) agree)
+
+pub returns-clause-can : goal.returns-clause-can
+returns-clause-can g c =
+    let a = c.args in
+    let can = c.requires.can in
+    let sides = c.in_ok-sides.sides in
+    on_ok c.tell.result _ record {
+      begins = can.begins;
+      count = c.tell.ensures.count ∙ can.count;
+      goes_on = told_keeps a.basis.now.start.now a.known.now.items c.tell.new.known.items 0 a.to a.self.now.opened.items sides.lower.items sides.upper.items
+          record { count = c.tell.ensures.count; each = c.tell.ensures.told } c.requires.opened can.goes_on;
+    }

@@ -1,4 +1,4 @@
-use Rattle.std.proofs.Common.{◌≤◌, ◌-◌, length}
+use Rattle.std.proofs.Common.{◌≤◌, ◌-◌}
 use Rattle.cost_store.specs.Posed.{IsMeant}
 use Rattle.labellings.specs.Energies.{Instance, labelling}
 use Rattle.move_energy.specs.Choices.{choice_at, AreOpenSites}

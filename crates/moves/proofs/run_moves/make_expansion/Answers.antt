@@ -1,0 +1,20 @@
+use Rattle.std.proofs.Common.{◌∙◌, List, refl, sym, subst}
+use Rattle.label_field.specs.LabelFields.{LabelField}
+use Rattle.labellings.specs.Energies.{labelling}
+use Rattle.move_energy.specs.declared.choice.Choice.{Choice}
+use Rattle.stages.specs.Changes.{AreStamped}
+use Rattle.moves.specs.Building.{site_values}
+use Rattle.moves.specs.Stages.{HasTaken}
+use Rattle.moves.proofs.run_moves.make_expansion.Goals as goal
+
+pub returns-clause-stamped : goal.returns-clause-stamped
+returns-clause-stamped g c = λ m meant.
+    let a = c.args.alpha in
+    let f = c.make_later.new.labelling.at in
+    let h = c.make_move.new.labelling.at in
+    let same = c.in_ok-later.ensures.kept c.in-None.is in
+    let S : LabelField → Type 0 = λ field. AreStamped m (labelling field.at) c.args.changes.now in
+    let T : List Choice → Type 0 = λ choices. HasTaken a (site_values choices) f h in
+    let taken = subst T (sym c.deref.ensures.value) (c.in_ok-changed.ensures.taken a refl) in
+    c.note_whole.ensures f h taken m meant (c.in_ok-later.ensures.sizes.sites ∙ c.requires.under_way.fits.sites ∙ sym meant.sites_are)
+    (c.in_ok-changed.ensures.moved m meant).2 (subst S (sym same) (c.requires.under_way.stamped m meant))

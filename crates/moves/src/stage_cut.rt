@@ -1,0 +1,150 @@
+//! One stage of an expansion that is made once more: its cut, and what is done with what the cut
+//! shows.
+ghost use Rattle.std.specs.Prelude.{◌≡◌, ◌+◌, ◌<◌, ℕ, false, true, length};
+ghost use Rattle.std.specs.Prelude.{OnOk, IfOk, IfErr};
+ghost use Rattle.labellings.specs.declared.change.Move.TheVariants.{Expand};
+ghost use Rattle.labellings.specs.Energies.{labelling};
+ghost use Rattle.cost_store.specs.Posed.{IsPosed, WhereMeant, IsAsked};
+ghost use Rattle.move_energy.specs.declared.choice.Choice.TheVariants.{Zero};
+ghost use Rattle.move_energy.specs.Choices.{choice_at, value_of, open_count, IsNumbering};
+ghost use Rattle.stages.specs.Looking.{is_marked, IsClosedIn, AreTaking};
+ghost use Rattle.move_energy.specs.OpenMoves.{IsAllowedFrom, IsValuedMove, AreSitesListed};
+ghost use Rattle.moves.specs.Building.{KeepsDecided};
+ghost use Rattle.moves.specs.Problems.{IsCutRefusal};
+ghost use Rattle.moves.specs.Stages.{IsStageLeast, IsStageReady, AreStageZeros, EndsMove};
+
+use crate::one_move::{cut_small, least_nodes};
+use crate::workspace::Workspace;
+use crate::{How, MoveError};
+use compile_cut::Quadratic;
+use cost_store::Problem;
+use label_field::Pairs;
+use labellings::Move;
+use move_energy::{MoveEnergy, OpenSites};
+use std::alloc::{AllocError, Global};
+use std::mem::replace;
+
+/// What a stage leaves: the sites that take the label are found, or there are more sites to look
+/// at.
+#[derive(Clone, Copy)]
+pub(crate) enum Standing {
+    Closed,
+    Open,
+}
+
+/// The cut of a partly fixed move, over the listed open sites: a bit for each.
+fn cut_stage<F: Fn(u32, u32) -> i64 + Sync, V: Fn(u32, u32) -> i64 + Sync, H: How>(
+    problem: &Problem<F, V>,
+    built: &mut MoveEnergy,
+    sites: &OpenSites,
+    at: &[u8],
+    change: Move,
+    how: &H,
+    cutting: &mut plain_cut::Workspace,
+) -> Result<Vec<bool>, MoveError>
+    requires ready { H.ready how.now }
+    requires valued { IsValuedMove F.Fn V.Fn problem.now at.now change
+        built.old.variables.choices.items }
+    requires sites { AreSitesListed problem.now.pairs built.old.variables.choices.items sites.now }
+    requires allowed { IsAllowedFrom F.Fn V.Fn problem.now at.now change }
+    ensures kept { built.new.variables.choices.items ≡ built.old.variables.choices.items }
+    ensures numbering { OnOk result (IsNumbering built.new.variables.choices.items
+        built.new.variables.of_sites.items) }
+    ensures count { IfOk result
+        (λ bits. length bits.items ≡ open_count built.new.variables.choices.items) }
+    ensures least { WhereMeant F.Fn V.Fn problem.now (λ m. IfOk result (λ bits. IsStageLeast m
+        change (labelling at.now) built.new.variables.choices.items bits.items)) }
+    ensures refused { IfErr result (IsCutRefusal (H.refuses how.now)) }
+{
+    let alloc = *built.form.weights.allocator();
+    built.build_listed(alloc, problem, sites, at, change)?;
+    let form = replace(&mut built.form, Quadratic::new(alloc));
+    let small = least_nodes(how.parts(usize::MAX), at.len(), true).max(how.strip_sites());
+    cut_small(alloc, form, small, how, cutting)
+}
+
+/// What is done with what a cut showed: where the sites that take the label are not closed in, more
+/// sites are opened.
+fn end_stage(space: &mut Workspace, pairs: &Pairs, bits: &[bool]) -> Result<Standing, AllocError>
+    requires ready { IsStageReady pairs.now space.old }
+    requires numbering { IsNumbering space.old.built.variables.choices.items
+        space.old.built.variables.of_sites.items }
+    requires bits { length bits.now ≡ open_count space.old.built.variables.choices.items }
+    ensures same { KeepsDecided space.old space.new }
+    ensures fresh { space.new.stage.fresh.items ≡ space.old.stage.fresh.items }
+    ensures closed { IfOk result (λ standing. standing ≡ Standing.Closed → IsClosedIn pairs.now
+        (value_of space.old.built.variables.choices.items bits.now)
+        (choice_at space.old.built.variables.choices.items)
+        (is_marked space.new.stage.taken.items) (is_marked space.old.stage.fresh.items)) }
+    ensures taking { IfOk result (λ standing. standing ≡ Standing.Closed →
+        AreTaking pairs.now.sites space.new.stage) }
+    ensures open { IfOk result
+        (λ standing. standing ≡ Standing.Open → IsStageReady pairs.now space.new) }
+    ensures zeros { IfOk result
+        (λ standing. standing ≡ Standing.Open → (p : ℕ) → p < pairs.now.sites →
+        choice_at space.new.built.variables.choices.items p ≡ Zero →
+        value_of space.old.built.variables.choices.items bits.now p ≡ false) }
+{
+    let closed = space.stage.close(
+        pairs,
+        &space.deciding.ends,
+        &space.built.variables.choices,
+        &space.built.variables.of_sites,
+        bits,
+    )?;
+    if closed {
+        return Ok(Standing::Closed);
+    }
+    space.stage.reopen(
+        &mut space.built.variables.choices,
+        pairs,
+        &space.deciding.ends,
+        bits,
+    )?;
+    Ok(Standing::Open)
+}
+
+/// One stage: its cut, and what is done with what that shows.
+pub(crate) fn make_stage<F: Fn(u32, u32) -> i64 + Sync, V: Fn(u32, u32) -> i64 + Sync, H: How>(
+    problem: &Problem<F, V>,
+    space: &mut Workspace,
+    at: &[u8],
+    alpha: u32,
+    how: &H,
+) -> Result<Standing, MoveError>
+    requires ready { H.ready how.now }
+    requires asked { IsAsked problem.now at.now (Expand alpha) }
+    requires posed { IsPosed F.Fn V.Fn problem.now }
+    requires stage { IsStageReady problem.now.pairs space.old }
+    requires allowed { IsAllowedFrom F.Fn V.Fn problem.now at.now (Expand alpha) }
+    ensures same { KeepsDecided space.old space.new }
+    ensures fresh { space.new.stage.fresh.items ≡ space.old.stage.fresh.items }
+    ensures closed { WhereMeant F.Fn V.Fn problem.now (λ m. IfOk result (λ standing.
+        standing ≡ Standing.Closed → EndsMove m alpha at.now space.old space.new)) }
+    ensures taking { IfOk result (λ standing. standing ≡ Standing.Closed →
+        AreTaking problem.now.pairs.sites space.new.stage) }
+    ensures open { IfOk result (λ standing. standing ≡ Standing.Open →
+        IsStageReady problem.now.pairs space.new) }
+    ensures zeros { WhereMeant F.Fn V.Fn problem.now
+        (λ m. IfOk result (λ standing. standing ≡ Standing.Open →
+        AreStageZeros m alpha at.now space.old → AreStageZeros m alpha at.now space.new)) }
+    ensures refused { IfErr result (IsCutRefusal (H.refuses how.now)) }
+{
+    let sites = OpenSites {
+        ends: &space.deciding.ends,
+        opened: &space.stage.opened,
+    };
+    let bits = cut_stage(
+        problem,
+        &mut space.built,
+        &sites,
+        at,
+        Move::Expand(alpha),
+        how,
+        &mut space.cutting,
+    )?;
+    match end_stage(space, &problem.pairs, &bits) {
+        Ok(standing) => Ok(standing),
+        Err(_) => Err(MoveError::OutOfMemory),
+    }
+}
