@@ -13,15 +13,17 @@ map_split f (x ∷ items) (suc i) d h = ap (λ rest. f x ∷ rest) (map_split f 
 
 -- in a loop over the items of which the terms are made
 pub loop_refused : {T : Type 0} (f : T → Term) (e reached : Energy) (items : List T) (i : ℕ) (d : T) (refusal : Refusal)
-    → i < length items → reached ≡ record e { terms = e.terms ++ map f (take i items) }
-    → IsTermTold reached (f (get_or items i d)) refusal → AreTermsRefused e (map f items) refusal
-loop_refused f e reached items i d refusal inside is told = record {
-  before = map f (take i items);
-  term = f (get_or items i d);
-  after = map f (drop (suc i) items);
-  terms_are = map_split f items i d inside;
-  told = (let P : Energy → Type 0 = λ x. IsTermTold x (f (get_or items i d)) refusal in subst P is told);
-}
+    → i < length items → reached ≡ record e { terms = e.terms ++ map f (take i items) } → d ≡ get_or items i d
+    → IsTermTold reached (f d) refusal → AreTermsRefused e (map f items) refusal
+loop_refused {T} f e reached items i d refusal inside is item told =
+    let I : T → Type 0 = λ x. IsTermTold reached (f x) refusal in
+    let own = subst I item told in record {
+      before = map f (take i items);
+      term = f (get_or items i d);
+      after = map f (drop (suc i) items);
+      terms_are = map_split f items i d inside;
+      told = (let P : Energy → Type 0 = λ x. IsTermTold x (f (get_or items i d)) refusal in subst P is own);
+    }
 
 -- further terms behind those of which one is refused
 pub refused_before : (e : Energy) (terms more : List Term) (refusal : Refusal) → AreTermsRefused e terms refusal

@@ -1,5 +1,6 @@
 -- What a call from C means.
-use Rattle.std.specs.Prelude.{◌≡◌, ◌⊎◌, ℕ, ◌*◌, ◌<◌, Bool, List, length, map, All, ℤ, pos, Option, Ok}
+use Rattle.std.specs.Prelude.{◌≡◌, ◌⊎◌, ℕ, ◌*◌, ◌<◌, Bool, List, length, map, All, ℤ, pos, Option}
+use Rattle.std.specs.Prelude.{Ok}
 use Rattle.label_field.specs.LabelFields.{AreSizes}
 use Rattle.label_field.specs.PairLists.{PairList, IsPairList}
 use Rattle.label_field.specs.declared.pair.Pair.{Pair}

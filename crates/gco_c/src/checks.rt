@@ -1,5 +1,5 @@
 //! Whether the arrays of a call are as long as they must be, and their costs in their ranges.
-ghost use Rattle.std.specs.Prelude.{◌≡◌, ◌↔◌, pos, All, map, IsTrue, IsOk, IfOk, IfErr};
+ghost use Rattle.std.specs.Prelude.{◌≡◌, ◌↔◌, All, map, IsTrue, IsOk, IfOk, IfErr};
 ghost use Rattle.cost_store.specs.Promises.{IsCost, IsFirstOutside};
 ghost use Rattle.label_field.specs.LabelFields.{AreSizes};
 ghost use Rattle.gco_c.specs.Calls.{AreCounted, AreCostsInRange};

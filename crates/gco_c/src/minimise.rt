@@ -1,6 +1,5 @@
 //! Least assignments for C.
-ghost use Rattle.std.specs.Prelude.{◌≡◌, ◌≢◌, ◌≤◌, length, map, IfOk, IfErr};
-ghost use Rattle.pseudo_bool.specs.Limits.{variable_limit};
+ghost use Rattle.std.specs.Prelude.{◌≡◌, ◌≢◌, length, map, IfOk, IfErr};
 ghost use Rattle.pseudo_bool.specs.Energies.{IsEnergy, assignment, value_at};
 ghost use Rattle.compile_cut.specs.Shown.{IsSmallestLeastAssignment};
 ghost use Rattle.gco_c.specs.Energies.{bits, digit_of, energy_given};

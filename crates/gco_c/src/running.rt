@@ -1,5 +1,6 @@
 //! Runs and moves over tables of costs where they lie, in the caller's memory.
-ghost use Rattle.std.specs.Prelude.{◌≡◌, pos, ◌+◌, ◌*◌, ◌<◌, ◌≤◌, All, IfOk, IfErr, OnErr, length, map};
+ghost use Rattle.std.specs.Prelude.{◌≡◌, ◌+◌, ◌*◌, ◌<◌, ◌≤◌, All, IfOk, IfErr, length};
+ghost use Rattle.std.specs.Prelude.{map};
 ghost use Rattle.cost_store.specs.Limits.{data_limit, smooth_limit};
 ghost use Rattle.cost_store.specs.Promises.{IsCost, cost_in, entry_at};
 ghost use Rattle.label_field.specs.Limits.{label_limit};
@@ -15,7 +16,7 @@ use crate::ready::Ready;
 use crate::refusal::Refusal;
 use cost_store::{DataCost, is_metric};
 use labellings::Moves;
-use moves::{Alone, MoveError, Request, Run, run_with_table};
+use moves::{Alone, LabelPrices, MoveError, Request, Run, run_with_table};
 use std::alloc::Global;
 
 /// Makes moves over tables of costs.
@@ -49,14 +50,16 @@ pub(crate) fn run_over<N: Number>(
         sites,
         labels,
     );
-    let by_metric = is_metric(smooth, labels);
+    let prices = LabelPrices {
+        smooth,
+        by_metric: is_metric(smooth, labels),
+        label_costs: ready.label_costs,
+    };
     run_with_table(
         alloc,
         ready.pairs,
         data_cost,
-        smooth,
-        by_metric,
-        ready.label_costs,
+        prices,
         Request {
             start: ready.start,
             moves,

@@ -1,9 +1,13 @@
 //! The terms of a call over yes-no variables.
-ghost use Rattle.std.specs.Prelude.{◌≡◌, ◌≤◌, ◌++◌, [], ◌∷◌, ◌+ℤ◌, pos, map, IfOk, IfErr, OnOk};
+ghost use Rattle.std.specs.Prelude.{◌≡◌, ◌≤◌, ◌++◌, pos, map, IfOk, IfErr, OnOk};
 ghost use Rattle.pseudo_bool.specs.Limits.{variable_limit};
 ghost use Rattle.pseudo_bool.specs.Energies.{IsEnergy, IsValue};
-ghost use Rattle.gco_c.specs.Energies.{energy_given, one_of, three_numbers, three_of, two_numbers, two_of};
-ghost use Rattle.gco_c.specs.TermRefusals.{AreTermsRefused, IsTermTold, IsTermsRefusal, term_refusal};
+ghost use Rattle.pseudo_bool.specs.Refusals.{IsAdded, IsTermRefusal};
+ghost use Rattle.pseudo_bool.specs.declared.term.Term.{Term};
+ghost use Rattle.gco_c.specs.Energies.{energy_given, one_of, three_numbers, three_of, two_numbers};
+ghost use Rattle.gco_c.specs.Energies.{two_of};
+ghost use Rattle.gco_c.specs.TermRefusals.{AreTermsRefused, IsTermTold, IsTermsRefusal};
+ghost use Rattle.gco_c.specs.TermRefusals.{term_refusal};
 
 use crate::refusal::Refusal;
 use pseudo_bool::{Energy, EnergyError};
@@ -72,9 +76,9 @@ pub(crate) fn energy_of(
     let mut energy = Energy::new(alloc);
     energy.clear(variables);
     add_constant(&mut energy, constant)?;
-    add_ones(&mut energy, ones)?;
-    add_twos(&mut energy, twos)?;
-    add_threes(&mut energy, threes)?;
+    add_terms(&mut energy, ones)?;
+    add_terms(&mut energy, twos)?;
+    add_terms(&mut energy, threes)?;
     let _constant = energy.constant();
     Ok(energy)
 }
@@ -93,75 +97,61 @@ fn add_constant(energy: &mut Energy, constant: i64) -> Result<(), Refusal>
     }
 }
 
-/// Adds the terms of one variable that were given.
-fn add_ones(energy: &mut Energy, ones: &[GcoOne]) -> Result<(), Refusal>
+/// A term as C hands it over.
+trait TermGiven {
+    /// The term that it is.
+    ghost term: { Self → Term };
+
+    /// Adds it at the end of the list of an energy.
+    fn add_to(&self, energy: &mut Energy) -> Result<(), EnergyError>
+        ensures added { OnOk result (IsAdded energy.old energy.new (term self.now)) }
+        ensures refused { IfErr result (IsTermRefusal energy.old (term self.now)) };
+}
+
+impl TermGiven for GcoOne {
+    ghost term = { one_of };
+
+    fn add_to(&self, energy: &mut Energy) -> Result<(), EnergyError> {
+        energy.add_term1(self.variable, [self.at0, self.at1])
+    }
+}
+
+impl TermGiven for GcoTwo {
+    ghost term = { two_of };
+
+    fn add_to(&self, energy: &mut Energy) -> Result<(), EnergyError> {
+        let table = two_table(self);
+        energy.add_term2(self.first, self.second, table)
+    }
+}
+
+impl TermGiven for GcoThree {
+    ghost term = { three_of };
+
+    fn add_to(&self, energy: &mut Energy) -> Result<(), EnergyError> {
+        let table = three_table(self);
+        energy.add_term3(self.first, self.second, self.third, table)
+    }
+}
+
+/// Adds the terms that were given, in their order.
+fn add_terms<T: TermGiven>(energy: &mut Energy, given: &[T]) -> Result<(), Refusal>
     ensures added { OnOk result (energy.new
-        ≡ record energy.old { terms = energy.old.terms ++ map one_of ones.now }) }
-    ensures refused { IfErr result (AreTermsRefused energy.old (map one_of ones.now)) }
+        ≡ record energy.old { terms = energy.old.terms ++ map T.term given.now }) }
+    ensures refused { IfErr result (AreTermsRefused energy.old (map T.term given.now)) }
 {
-    for one in ones {
-        add_one(energy, one)?;
+    for term in given {
+        add_term(energy, term)?;
     }
     Ok(())
 }
 
-fn add_one(energy: &mut Energy, one: &GcoOne) -> Result<(), Refusal>
-    ensures added { OnOk result (energy.new
-        ≡ record energy.old { terms = energy.old.terms ++ one_of one.now ∷ [] }) }
-    ensures refused { IfErr result (IsTermTold energy.old (one_of one.now)) }
+fn add_term<T: TermGiven>(energy: &mut Energy, given: &T) -> Result<(), Refusal>
+    ensures added { OnOk result (IsAdded energy.old energy.new (T.term given.now)) }
+    ensures refused { IfErr result (IsTermTold energy.old (T.term given.now)) }
 {
     let place = energy.term_count();
-    match energy.add_term1(one.variable, [one.at0, one.at1]) {
-        Ok(()) => Ok(()),
-        Err(error) => Err(refusal_of(place, error)),
-    }
-}
-
-/// Adds the terms of two variables that were given.
-fn add_twos(energy: &mut Energy, twos: &[GcoTwo]) -> Result<(), Refusal>
-    ensures added { OnOk result (energy.new
-        ≡ record energy.old { terms = energy.old.terms ++ map two_of twos.now }) }
-    ensures refused { IfErr result (AreTermsRefused energy.old (map two_of twos.now)) }
-{
-    for two in twos {
-        add_two(energy, two)?;
-    }
-    Ok(())
-}
-
-fn add_two(energy: &mut Energy, two: &GcoTwo) -> Result<(), Refusal>
-    ensures added { OnOk result (energy.new
-        ≡ record energy.old { terms = energy.old.terms ++ two_of two.now ∷ [] }) }
-    ensures refused { IfErr result (IsTermTold energy.old (two_of two.now)) }
-{
-    let place = energy.term_count();
-    let table = two_table(two);
-    match energy.add_term2(two.first, two.second, table) {
-        Ok(()) => Ok(()),
-        Err(error) => Err(refusal_of(place, error)),
-    }
-}
-
-/// Adds the terms of three variables that were given.
-fn add_threes(energy: &mut Energy, threes: &[GcoThree]) -> Result<(), Refusal>
-    ensures added { OnOk result (energy.new
-        ≡ record energy.old { terms = energy.old.terms ++ map three_of threes.now }) }
-    ensures refused { IfErr result (AreTermsRefused energy.old (map three_of threes.now)) }
-{
-    for three in threes {
-        add_three(energy, three)?;
-    }
-    Ok(())
-}
-
-fn add_three(energy: &mut Energy, three: &GcoThree) -> Result<(), Refusal>
-    ensures added { OnOk result (energy.new
-        ≡ record energy.old { terms = energy.old.terms ++ three_of three.now ∷ [] }) }
-    ensures refused { IfErr result (IsTermTold energy.old (three_of three.now)) }
-{
-    let place = energy.term_count();
-    let table = three_table(three);
-    match energy.add_term3(three.first, three.second, three.third, table) {
+    match given.add_to(energy) {
         Ok(()) => Ok(()),
         Err(error) => Err(refusal_of(place, error)),
     }
