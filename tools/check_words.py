@@ -5,8 +5,8 @@
     python3 tools/check_words.py --wrap [CRATE ..] first breaks wide lines, then `rt fmt` is due
     python3 tools/check_words.py --renew           first writes the list of what still stands
 
-A comment, a clause and a definition of specs/ are at most 100 columns wide. The name of a
-definition stands in one crate. The name of a definition or a function is not a bare participle.
+A comment, a clause and a definition of specs/ are at most 100 columns wide, and so are the imports
+of specs/ and src/. The name of a definition stands in one crate. The name of a definition or a function is not a bare participle.
 The file wide_crates.txt lists the crates that still have wide lines. It may only lose lines: an
 entry that breaks no rule is told, too. ALLOWED and BARE have the names that stay for good.
 """
@@ -58,6 +58,9 @@ OPERATORS = [
 # What is too short for a line of its own.
 SHORT = re.compile(r".{0,16}")
 MARK = re.compile(r"^\s*(?:///|//!|//|--)")
+IMPORT = re.compile(r"\s*(?:pub )?(?:ghost )?use ")
+# An import of names: what stands before them, the names, and what stands after them.
+NAMES = re.compile(r"(.*\{)(.*)(\};?)")
 LISTED = re.compile(r"(?:[-*] |\d+\. |#|\||```)")
 
 
@@ -81,20 +84,21 @@ def clause_lines(lines):
 
 
 def kinds_of(path, lines):
-    """What each line is held to: `comment`, `clause`, `definition`, or nothing."""
+    """What each line is held to: `comment`, `import`, `clause`, `definition`, or nothing."""
     is_code = path.suffix == ".rt"
+    is_proof = "proofs" in path.relative_to(TOP).parts
     clauses = clause_lines(lines) if is_code else set()
     found, in_use = [], False
     for number, line in enumerate(lines):
         text = line.strip()
         if text.startswith("//" if is_code else "--"):
             found.append("comment")
-        elif not is_code and (in_use or text.startswith(("use ", "pub use "))):
+        elif in_use or IMPORT.match(text):
             in_use = "}" not in text if "{" in text or in_use else False
-            found.append("")
+            found.append("" if is_proof else "import")
         elif number in clauses:
             found.append("clause")
-        elif not is_code and text and "specs" in path.relative_to(TOP).parts:
+        elif not is_code and text and not is_proof:
             found.append("definition")
         else:
             found.append("")
@@ -218,14 +222,28 @@ def wrapped_line(line, indent):
     return done + [line]
 
 
+def wrapped_import(line):
+    """The imports that a wide import is broken into, each of some of its names."""
+    head, names, tail = NAMES.fullmatch(line).groups()
+    done, part = [], []
+    for name in names.split(", "):
+        if part and len(head + ", ".join(part + [name]) + tail) > COLUMNS:
+            done.append(head + ", ".join(part) + tail)
+            part = []
+        part.append(name)
+    return done + [head + ", ".join(part) + tail]
+
+
 def wrap_terms(path, lines):
-    """All clauses and definitions with their wide lines broken."""
+    """All imports, clauses and definitions with their wide lines broken."""
     kinds, done, base = kinds_of(path, lines), [], 0
     for line, kind in zip(lines, kinds):
         own = len(line) - len(line.lstrip())
         if kind == "clause" and re.match(r"(?:requires|ensures|ghost)\b", line.strip()):
             base = own
-        if kind in ("clause", "definition") and len(line) > COLUMNS:
+        if kind == "import" and len(line) > COLUMNS and NAMES.fullmatch(line):
+            done += wrapped_import(line)
+        elif kind in ("clause", "definition") and len(line) > COLUMNS:
             hang = max(own, base + 4) if kind == "clause" else max(own, 4) if own != 2 else 4
             done += wrapped_line(line, hang)
         else:

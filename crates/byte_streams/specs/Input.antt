@@ -1,10 +1,12 @@
 -- What a call of a source does to its stream, and what reading a whole input answers.
-use Rattle.std.specs.Prelude.{◌≡◌, ◌<◌, ◌≤◌, ℕ, Bool, true, false, List, length, Result, Ok, Err, IfOk, is_err, Vec, ⊤}
+use Rattle.std.specs.Prelude.{◌≡◌, ◌<◌, ◌≤◌, ℕ, Bool, true, false, List, length, Result, Ok, Err}
+use Rattle.std.specs.Prelude.{IfOk, is_err, Vec, ⊤}
 use Rattle.std.specs.Io.KnownBytes.{ReadConsumes}
 use Rattle.std.specs.declared.alloc.Global.{Global}
 use Rattle.byte_streams.specs.Streams.{Stream, failures_after}
 use Rattle.byte_streams.specs.declared.input.ReadError.{ReadError}
-use Rattle.byte_streams.specs.declared.input.ReadError.TheVariants.{OutOfMemory, ReadFailed, InputTooLong}
+use Rattle.byte_streams.specs.declared.input.ReadError.TheVariants.{OutOfMemory, ReadFailed}
+use Rattle.byte_streams.specs.declared.input.ReadError.TheVariants.{InputTooLong}
 
 -- the most bytes that an input may have: 256 MiB
 abbrev pub input_limit : ℕ

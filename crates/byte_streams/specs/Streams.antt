@@ -1,5 +1,6 @@
 -- A stream of bytes, and what happens to it.
-use Rattle.std.specs.Prelude.{◌≡◌, ◌⊎◌, ◌<◌, ◌+◌, ◌%◌, ◌^◌, ℕ, Bool, true, false, List, length, Option, take}
+use Rattle.std.specs.Prelude.{◌≡◌, ◌⊎◌, ◌<◌, ◌+◌, ◌%◌, ◌^◌, ℕ, Bool, true, false, List, length}
+use Rattle.std.specs.Prelude.{Option, take}
 use Rattle.std.specs.Io.KnownBytes.{Appends}
 
 -- the bytes that a stream has still to give, or has taken, where they are known; and how many of

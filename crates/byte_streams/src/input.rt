@@ -1,5 +1,5 @@
 //! Reading a whole input, up to a limit.
-ghost use Rattle.std.specs.Prelude.{◌≡◌, ◌+◌, ◌<◌, ◌≤◌, Bool, true, IfSome, IfOk, OnOk, length};
+ghost use Rattle.std.specs.Prelude.{◌≡◌, ◌≤◌, Bool, true, IfSome, IfOk, OnOk, length};
 ghost use Rattle.std.specs.Io.{ReadsAtMost};
 ghost use Rattle.byte_streams.specs.Input.{Gives, IsReadOr, NotesEnd, TellsFault, input_limit};
 ghost use Rattle.byte_streams.specs.Streams.{Stream};

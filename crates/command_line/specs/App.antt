@@ -3,7 +3,8 @@ use Rattle.std.specs.Prelude.{◌≡◌, false, true, codes}
 use Rattle.clap.specs.Words.{App, app_of, new_app, with_subcommand}
 use Rattle.clap.specs.declared.builder.command.Command.{Command}
 use Rattle.clap.specs.declared.builder.command.Command.TheViews.{out-Command}
-use Rattle.command_line.specs.Rules.{label_rules, restore_rules, segment_rules, shared_rules, stereo_rules, with_rules, worker_rules}
+use Rattle.command_line.specs.Rules.{label_rules, restore_rules, segment_rules, shared_rules}
+use Rattle.command_line.specs.Rules.{stereo_rules, with_rules, worker_rules}
 
 -- each command has the options of the workers; `energy` has none of its own
 unfoldable pub energy_app : App

@@ -1,9 +1,11 @@
 -- What the options of a subcommand say, by its matches.
 use Rattle.block_net.specs.Limits.{block_limit}
-use Rattle.std.specs.Prelude.{◌≡◌, ◌≢◌, ◌↔◌, ℕ, ◌≤◌, Bool, IsTrue, Option, Some, None, option_and_then, IsSomeAnd, List, codes}
+use Rattle.std.specs.Prelude.{◌≡◌, ◌≢◌, ◌↔◌, ℕ, ◌≤◌, Bool, IsTrue, Option, Some, None}
+use Rattle.std.specs.Prelude.{option_and_then, IsSomeAnd, List, codes}
 use Rattle.std.specs.Str.Parse.{IsNumeral, digits_value, without_leading_plus}
 use Rattle.clap.specs.Words.{Row, Text, first_of, one_of}
-use Rattle.run_options.specs.Limits.{cap_limit, cycle_limit, greatest_label_cost, greatest_sample, trunc_limit}
+use Rattle.run_options.specs.Limits.{cap_limit, cycle_limit, greatest_label_cost, greatest_sample}
+use Rattle.run_options.specs.Limits.{trunc_limit}
 use Rattle.run_options.specs.declared.options.Neighbours.{Neighbours}
 use Rattle.run_options.specs.declared.options.Neighbours.TheVariants.{Four, Eight}
 use Rattle.run_options.specs.declared.options.RestoreOptions.{RestoreOptions}

@@ -5,7 +5,8 @@ use Rattle.clap.specs.declared.builder.action.ArgAction.TheVariants.{SetTrue}
 use Rattle.clap.specs.declared.builder.command.Command.{Command}
 use Rattle.clap.specs.declared.builder.command.Command.TheViews.{out-Command}
 use Rattle.clap.specs.declared.builder.value_parser.ValueParser.TheVariants.{Signed}
-use Rattle.run_options.specs.Limits.{cap_limit, cycle_limit, greatest_label_cost, greatest_sample, trunc_limit}
+use Rattle.run_options.specs.Limits.{cap_limit, cycle_limit, greatest_label_cost, greatest_sample}
+use Rattle.run_options.specs.Limits.{trunc_limit}
 use Rattle.label_field.specs.Limits.{label_limit, weight_limit}
 use Rattle.block_net.specs.Limits.{block_limit}
 use Rattle.worker_options.specs.Limits.{ring_limit, round_limit, thread_limit, turn_limit}

@@ -5,11 +5,13 @@ use Rattle.clap.specs.Words.{Text as Word}
 use Rattle.clap.specs.declared.builder.command.Command.{Command}
 use Rattle.clap.specs.declared.builder.command.Command.TheViews.{out-Command}
 use Rattle.clap.specs.declared.builder.value_parser.ValueParser.TheVariants.{Signed}
-use Rattle.command_line.specs.Rules.{defaulted_rule, flag_rule, number_rule, required_rule, text_rule, with_rules, worker_rules}
+use Rattle.command_line.specs.Rules.{defaulted_rule, flag_rule, number_rule, required_rule}
+use Rattle.command_line.specs.Rules.{text_rule, with_rules, worker_rules}
 use Rattle.command_line.specs.declared.app.Chapter.{Chapter}
 use Rattle.command_line.specs.declared.rules.Choice.{Choice}
 use Rattle.command_line.specs.declared.rules.Value.{Value}
-use Rattle.command_line.specs.declared.rules.Value.TheVariants.{Text, Number, Required, Optional, Flag}
+use Rattle.command_line.specs.declared.rules.Value.TheVariants.{Text, Number, Required, Optional}
+use Rattle.command_line.specs.declared.rules.Value.TheVariants.{Flag}
 
 -- a rule whose value is a number from the least to the most
 abbrev pub with_range : Rule → ℕ → ℕ → Rule

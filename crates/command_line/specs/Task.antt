@@ -1,14 +1,17 @@
 -- What the words of a command line ask for.
-use Rattle.std.specs.Prelude.{◌≡◌, ◌≢◌, ◌⊎◌, ◌<◌, ⊤, [], List, length, IfSome, IsSomeAnd, codes, string_bytes}
+use Rattle.std.specs.Prelude.{◌≡◌, ◌≢◌, ◌⊎◌, ◌<◌, ⊤, [], List, length, IfSome, IsSomeAnd, codes}
+use Rattle.std.specs.Prelude.{string_bytes}
 use Rattle.clap.specs.Words.{IsAmong, Row, Text, fault_of, kind_of, subcommand_of}
 use Rattle.clap.specs.declared.error.Error.{Error}
 use Rattle.clap.specs.declared.error.ErrorKind.{ErrorKind}
 use Rattle.clap.specs.declared.error.ErrorKind.TheVariants as kind
 use Rattle.run_options.specs.Ranges.{AreRestoreOptions, AreSegmentOptions, AreStereoOptions}
 use Rattle.command_line.specs.App.{gco_app}
-use Rattle.command_line.specs.Options.{HasFlag, HasWorkers, IsFirstBad, IsOnlyBad, IsRestore, IsSegment, IsStereo}
+use Rattle.command_line.specs.Options.{HasFlag, HasWorkers, IsFirstBad, IsOnlyBad, IsRestore}
+use Rattle.command_line.specs.Options.{IsSegment, IsStereo}
 use Rattle.command_line.specs.declared.task.NoTask.{NoTask}
-use Rattle.command_line.specs.declared.task.NoTask.TheVariants.{OutOfMemory, Help, Refused, BadOption}
+use Rattle.command_line.specs.declared.task.NoTask.TheVariants.{OutOfMemory, Help, Refused}
+use Rattle.command_line.specs.declared.task.NoTask.TheVariants.{BadOption}
 use Rattle.command_line.specs.declared.task.OptionName.{OptionName}
 use Rattle.worker_options.specs.Ranges.{AreInRange}
 use Rattle.command_line.specs.declared.task.Request.{Request}

@@ -1,8 +1,12 @@
 //! The options of a subcommand, read from what `clap` matched.
-ghost use Rattle.std.specs.Prelude.{◌≡◌, ℕ, ◌≤◌, ◌<◌, ◌^◌, Some, option_map, IfOk, IfErr, IfSome, IfNone};
+ghost use Rattle.std.specs.Prelude.{◌≡◌, ℕ, ◌≤◌, ◌<◌, ◌^◌, Some, option_map, IfOk, IfErr, IfSome};
+ghost use Rattle.std.specs.Prelude.{IfNone};
 ghost use Rattle.clap.specs.Words.{first_of, found_of, rows_of};
 ghost use Rattle.run_options.specs.declared.options.Neighbours.{Neighbours};
-ghost use Rattle.command_line.specs.Options.{AreNames, AreWorkers, HasFlag, HasLabelCost, HasNeighbours, HasNumber, HasValue, IsFirstBad, IsFirstNone, IsOnlyBad, IsRestore, IsSegment, IsShared, IsStereo, moves_option, smooth_of};
+ghost use Rattle.command_line.specs.Options.{AreNames, AreWorkers, HasFlag, HasLabelCost};
+ghost use Rattle.command_line.specs.Options.{HasNeighbours, HasNumber, HasValue, IsFirstBad};
+ghost use Rattle.command_line.specs.Options.{IsFirstNone, IsOnlyBad, IsRestore, IsSegment};
+ghost use Rattle.command_line.specs.Options.{IsShared, IsStereo, moves_option, smooth_of};
 ghost use Rattle.command_line.specs.Task.{HasNo};
 
 use crate::OptionName;

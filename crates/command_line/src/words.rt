@@ -1,8 +1,11 @@
 //! From the words to the task.
-ghost use Rattle.std.specs.Prelude.{◌≡◌, ◌<◌, Some, None, OnOk, IfOk, IfErr, IsSomeAnd, MatchOption, length, map, string_bytes};
+ghost use Rattle.std.specs.Prelude.{◌≡◌, ◌<◌, Some, None, OnOk, IfOk, IfErr, IsSomeAnd};
+ghost use Rattle.std.specs.Prelude.{MatchOption, length, map, string_bytes};
 ghost use Rattle.clap.specs.Words.{found_of, rows_of, subcommand_of, subcommand_rows_of};
 ghost use Rattle.command_line.specs.App.{gco_app};
-ghost use Rattle.command_line.specs.Task.{Asks, FitsRequest, HasNo, HasText, AreWordsAccepted, IsBadOptionOf, IsNoTaskFor, IsNoTaskOf, IsPictureOf, IsRequestOf, IsTaskOf};
+ghost use Rattle.command_line.specs.Task.{Asks, FitsRequest, HasNo, HasText, AreWordsAccepted};
+ghost use Rattle.command_line.specs.Task.{IsBadOptionOf, IsNoTaskFor, IsNoTaskOf, IsPictureOf};
+ghost use Rattle.command_line.specs.Task.{IsRequestOf, IsTaskOf};
 
 use crate::app::gco_command;
 use crate::values::{Unmet, flag_in, restore_in, segment_in, stereo_in, workers_in};

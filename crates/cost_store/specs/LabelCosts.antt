@@ -1,5 +1,6 @@
 -- What labels cost by themselves.
-use Rattle.std.specs.Prelude.{◌≡◌, ◌<◌, ℕ, Bool, false, List, [], length, Option, Some, None, ℤ, pos, unsigned_abs, slice_index_or}
+use Rattle.std.specs.Prelude.{◌≡◌, ◌<◌, ℕ, Bool, false, List, [], length, Option, Some, None, ℤ}
+use Rattle.std.specs.Prelude.{pos, unsigned_abs, slice_index_or}
 use Rattle.std.specs.List.{All}
 use Rattle.std.specs.Global.{Vec}
 use Rattle.label_field.specs.Limits.{label_limit}

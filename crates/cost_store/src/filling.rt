@@ -1,3 +1,4 @@
+//! Tables of data costs, by several threads where they can be had.
 ghost use Rattle.std.specs.Prelude.{◌≡◌, ℕ, pos, ◌*◌, ◌/◌, ◌%◌, ◌^◌, ◌<◌, IfOk};
 ghost use Rattle.cost_store.specs.Limits.{data_limit};
 ghost use Rattle.cost_store.specs.Promises.{Keeps, AnswersTable, IsTable, IsColumn};

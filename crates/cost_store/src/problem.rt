@@ -10,7 +10,8 @@ ghost use Rattle.labellings.specs.Energies.{pair_cost as cost_of_pair};
 ghost use Rattle.cost_store.specs.Limits.{data_limit, data_energy_limit, smooth_energy_limit};
 ghost use Rattle.cost_store.specs.Limits.{label_energy_limit, site_cost_limit, pair_cost_limit};
 ghost use Rattle.cost_store.specs.LabelCosts.{costs_of as costs_in, AreLabelCosts, IsSetRefusal};
-ghost use Rattle.cost_store.specs.Posed.{IsPosed, IsMeant, WhereMeant, FitsProblem, instance_of_costs};
+ghost use Rattle.cost_store.specs.Posed.{IsPosed, IsMeant, WhereMeant, FitsProblem};
+ghost use Rattle.cost_store.specs.Posed.{instance_of_costs};
 ghost use Rattle.cost_store.specs.Promises.{AnswersTable, Keeps, KeepsSmooth};
 
 use crate::by_label::total_paid;

@@ -1,5 +1,5 @@
 //! The least and the greatest cost of two unequal labels.
-ghost use Rattle.std.specs.Prelude.{◌≡◌, ◌+◌, ◌<◌, ◌≤◌, ℕ};
+ghost use Rattle.std.specs.Prelude.{◌+◌, ◌<◌, ◌≤◌, ℕ};
 ghost use Rattle.labellings.specs.Energies.{IsRatio};
 ghost use Rattle.cost_store.specs.Promises.{AnswersTable, KeepsSmooth};
 ghost use Rattle.cost_store.specs.Ratios.{IsRatioSoFar, IsWithCost};

@@ -1,5 +1,6 @@
 -- Nets and cuts (Ford, Fulkerson 1956; Boykov, Veksler, Zabih 2001, section 3).
-use Rattle.std.specs.Prelude.{◌≡◌, ℕ, ◌+◌, ◌<◌, ◌≤◌, Bool, true, false, not, ◌&&◌, List, length, slice_index, slice_index_or, sum, sum_by, All}
+use Rattle.std.specs.Prelude.{◌≡◌, ℕ, ◌+◌, ◌<◌, ◌≤◌, Bool, true, false, not, ◌&&◌, List, length}
+use Rattle.std.specs.Prelude.{slice_index, slice_index_or, sum, sum_by, All}
 use Rattle.std.specs.Simd.Lanes.{zip2}
 use Rattle.sums.specs.Sums.{sum_below, count_if}
 use Rattle.flow_network.specs.declared.arc.Arc.{Arc}

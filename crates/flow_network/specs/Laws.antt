@@ -1,6 +1,7 @@
 -- What is true of every net's preflows and cuts.
 use Rattle.std.specs.Prelude.{◌≡◌, ℕ, ◌≤◌, ◌<◌, Bool, true}
-use Rattle.flow_network.specs.Cut.{Network, nodes, capacity_of, IsNet, IsLeastCut, IsSmallestLeastCut}
+use Rattle.flow_network.specs.Cut.{Network, nodes, capacity_of, IsNet, IsLeastCut}
+use Rattle.flow_network.specs.Cut.{IsSmallestLeastCut}
 use Rattle.flow_network.specs.Preflow.{Flow, IsPreflow, IsCertified, IsReach, excess, sink_gets}
 
 -- what the sink gets by a preflow is at most the capacity of each cut (Ford, Fulkerson 1956)

@@ -1,6 +1,7 @@
 -- Preflows, residual directions and certified cuts (Goldberg, Tarjan 1988, "A new approach to the
 -- maximum-flow problem", section 2).
-use Rattle.std.specs.Prelude.{◌≡◌, ℕ, zero, suc, ◌+◌, ◌-◌, ◌<◌, ◌≤◌, ◌⊎◌, Bool, true, ◌==◌, List, length, slice_index, slice_index_or}
+use Rattle.std.specs.Prelude.{◌≡◌, ℕ, zero, suc, ◌+◌, ◌-◌, ◌<◌, ◌≤◌, ◌⊎◌, Bool, true, ◌==◌, List}
+use Rattle.std.specs.Prelude.{length, slice_index, slice_index_or}
 use Rattle.std.specs.Simd.Lanes.{zip2}
 use Rattle.sums.specs.Sums.{sum_below, count_if}
 use Rattle.flow_network.specs.declared.arc.Arc.{Arc}

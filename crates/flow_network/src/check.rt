@@ -1,8 +1,11 @@
-ghost use Rattle.std.specs.Prelude.{◌≡◌, ◌+◌, ◌<◌, ◌≤◌, ◌↔◌, ℕ, IfOk, IsTrue, length, sum, slice_index, not};
+//! The test of a cut and of the preflow that is to certify it.
+ghost use Rattle.std.specs.Prelude.{◌≡◌, ◌+◌, ◌<◌, ◌≤◌, ◌↔◌, ℕ, IfOk, IsTrue, length, sum};
+ghost use Rattle.std.specs.Prelude.{slice_index, not};
 ghost use Rattle.sums.specs.Sums.{sum_below, count_if};
 ghost use Rattle.flow_network.specs.Limits.{capacity_limit};
 ghost use Rattle.flow_network.specs.Cut.{nodes, set_of, capacity_of, IsNet};
-ghost use Rattle.flow_network.specs.Preflow.{flow_by, gets, total_outflow, IsWithinArcs, IsWithinSinks, IsPreflow};
+ghost use Rattle.flow_network.specs.Preflow.{flow_by, gets, total_outflow, IsWithinArcs};
+ghost use Rattle.flow_network.specs.Preflow.{IsWithinSinks, IsPreflow};
 ghost use Rattle.flow_network.specs.Preflow.{IsCertified};
 ghost use Rattle.flow_network.specs.Answer.{IsRightCut, side_of};
 ghost use Rattle.flow_network.specs.Laws.{IsLeastCutOf};

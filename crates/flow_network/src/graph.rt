@@ -1,3 +1,4 @@
+//! The arcs of a net by themselves.
 ghost use Rattle.std.specs.Prelude.{◌≡◌};
 ghost use Rattle.flow_network.specs.Cut.{network_of, nodes, IsNet};
 

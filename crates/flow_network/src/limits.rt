@@ -1,3 +1,5 @@
+//! The greatest sizes of a net.
+
 /// The most nodes that a net may have, 2^24: a node's number, and its label up to two more than
 /// there are nodes, is a `u32`. `Net::fits` answers no for more.
 pub const NODE_LIMIT: usize = 1 << 24;

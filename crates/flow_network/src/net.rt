@@ -1,4 +1,5 @@
-ghost use Rattle.std.specs.Prelude.{◌≡◌, ◌↔◌, ◌+◌, ◌<◌, IsTrue, length, sum, sum_by, All, MatchOption};
+//! Nets with a source and a sink.
+ghost use Rattle.std.specs.Prelude.{◌≡◌, ◌↔◌, ◌+◌, ◌<◌, IsTrue, sum, sum_by, All, MatchOption};
 ghost use Rattle.flow_network.specs.Cut.{network_of, nodes, AreExtras, IsArc, IsNet};
 
 use crate::{Arc, CAPACITY_LIMIT, Graph, NODE_LIMIT};

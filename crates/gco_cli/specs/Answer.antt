@@ -1,5 +1,6 @@
 -- The answer to an energy.
-use Rattle.std.specs.Prelude.{◌≡◌, ◌==◌, ℕ, Bool, true, false, ℤ, List, [], ◌++◌, codes, length, map, if◌then◌else◌}
+use Rattle.std.specs.Prelude.{◌≡◌, ◌==◌, ℕ, Bool, true, false, ℤ, List, [], ◌++◌, codes, length}
+use Rattle.std.specs.Prelude.{map, if◌then◌else◌}
 use Rattle.std.specs.Fmt.{signed_decimal}
 use Rattle.pseudo_bool.specs.Energies.{Energy, assignment, value_at}
 use Rattle.compile_cut.specs.Shown.{IsSmallestLeastAssignment}

@@ -1,5 +1,6 @@
 -- The line that says why a run was refused.
-use Rattle.std.specs.Prelude.{ℕ, Bool, true, false, List, [], ◌++◌, Option, Some, None, codes, decimal}
+use Rattle.std.specs.Prelude.{ℕ, Bool, true, false, List, [], ◌++◌, Option, Some, None, codes}
+use Rattle.std.specs.Prelude.{decimal}
 use Rattle.regular.specs.declared.fixed.Fixed.{Fixed}
 use Rattle.problem_files.specs.EnergyFieldName.{field_name}
 use Rattle.problem_files.specs.LabelFieldNames.{field_name as label_field_name}
@@ -14,7 +15,11 @@ use Rattle.problem_files.specs.declared.label_fault.LabelKey.TheVariants.{LabelC
 use Rattle.command_line.specs.declared.task.OptionName.{OptionName}
 use Rattle.command_line.specs.declared.task.OptionName.TheVariants as option
 use Rattle.gco_cli.specs.declared.fault.Fault.{Fault}
-use Rattle.gco_cli.specs.declared.fault.Fault.TheVariants.{OutOfMemory, Image, Write, EnergyFile, LabelFile, TermNotRegular, Workers, BadOptions, PairNotRegular, SizesDiffer, BadSeed, LabelCostInSwap, BadOption, TooManyLevels, ReadFailed, InputTooLong}
+use Rattle.gco_cli.specs.declared.fault.Fault.TheVariants.{OutOfMemory, Image, Write, EnergyFile}
+use Rattle.gco_cli.specs.declared.fault.Fault.TheVariants.{LabelFile, TermNotRegular, Workers}
+use Rattle.gco_cli.specs.declared.fault.Fault.TheVariants.{BadOptions, PairNotRegular, SizesDiffer}
+use Rattle.gco_cli.specs.declared.fault.Fault.TheVariants.{BadSeed, LabelCostInSwap, BadOption}
+use Rattle.gco_cli.specs.declared.fault.Fault.TheVariants.{TooManyLevels, ReadFailed, InputTooLong}
 
 -- a yes-no value as a digit
 abbrev pub bit_text : Bool → List ℕ

@@ -13,7 +13,11 @@ use Rattle.moves.specs.declared.error.MoveError.TheVariants as move
 use Rattle.vision.specs.declared.error.VisionError.{VisionError}
 use Rattle.vision.specs.declared.error.VisionError.TheVariants as vision
 use Rattle.gco_cli.specs.declared.fault.Fault.{Fault}
-use Rattle.gco_cli.specs.declared.fault.Fault.TheVariants.{OutOfMemory, Image, Write, EnergyFile, LabelFile, Workers, BadOptions, PairNotRegular, SizesDiffer, BadSeed, LabelCostInSwap, TooManyLevels, ReadFailed, InputTooLong}
+use Rattle.gco_cli.specs.declared.fault.Fault.TheVariants.{OutOfMemory, Image, Write, EnergyFile}
+use Rattle.gco_cli.specs.declared.fault.Fault.TheVariants.{LabelFile, Workers, BadOptions}
+use Rattle.gco_cli.specs.declared.fault.Fault.TheVariants.{PairNotRegular, SizesDiffer, BadSeed}
+use Rattle.gco_cli.specs.declared.fault.Fault.TheVariants.{LabelCostInSwap, TooManyLevels}
+use Rattle.gco_cli.specs.declared.fault.Fault.TheVariants.{ReadFailed, InputTooLong}
 
 -- why an input was not read
 abbrev pub read_fault : ReadError → Fault

@@ -1,5 +1,6 @@
 -- What `gco label` is.
-use Rattle.std.specs.Prelude.{◌≡◌, ◌≤◌, ◌⊎◌, ◌+◌, ◌++◌, ⊤, ℕ, Bool, List, length, Ok, Err, IsUtf8, codes, decimal, is_some, unsigned_abs}
+use Rattle.std.specs.Prelude.{◌≡◌, ◌≤◌, ◌⊎◌, ◌+◌, ◌++◌, ⊤, ℕ, Bool, List, length, Ok, Err, IsUtf8}
+use Rattle.std.specs.Prelude.{codes, decimal, is_some, unsigned_abs}
 use Rattle.std.specs.List.{flat_map}
 use Rattle.byte_streams.specs.Input.{IsReadRefusal, input_limit}
 use Rattle.problem_files.specs.Names.{Problem, problem_in}

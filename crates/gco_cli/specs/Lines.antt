@@ -1,5 +1,6 @@
 -- The lines that tell an energy, and how near it is to the least.
-use Rattle.std.specs.Prelude.{ℕ, ◌*◌, Bool, true, false, List, [], ◌++◌, Option, Some, None, codes, decimal}
+use Rattle.std.specs.Prelude.{ℕ, ◌*◌, Bool, true, false, List, [], ◌++◌, Option, Some, None, codes}
+use Rattle.std.specs.Prelude.{decimal}
 use Rattle.moves.specs.declared.bound.Bound.{Bound}
 use Rattle.gco_cli.specs.declared.lines.Parts.{Parts}
 

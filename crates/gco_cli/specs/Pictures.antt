@@ -1,5 +1,6 @@
 -- What the image commands are.
-use Rattle.std.specs.Prelude.{◌≡◌, ◌≤◌, ◌⊎◌, ◌++◌, ℕ, Bool, false, List, length, Option, IsTrue, codes, is_some, unsigned_abs}
+use Rattle.std.specs.Prelude.{◌≡◌, ◌≤◌, ◌⊎◌, ◌++◌, ℕ, Bool, false, List, length, Option, IsTrue}
+use Rattle.std.specs.Prelude.{codes, is_some, unsigned_abs}
 use Rattle.command_line.specs.declared.task.PictureOptions.{PictureOptions}
 use Rattle.command_line.specs.declared.task.PictureOptions.TheVariants.{Restore, Stereo, Segment}
 use Rattle.byte_streams.specs.Input.{IsReadRefusal, input_limit}

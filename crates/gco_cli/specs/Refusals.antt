@@ -2,7 +2,8 @@
 use Rattle.std.specs.Prelude.{◌≡◌, ◌<◌, ℕ, List, [], length, Result, Ok, Err, string_bytes}
 use Rattle.command_line.specs.Task.{IsNoTaskFor}
 use Rattle.command_line.specs.declared.task.NoTask.{NoTask}
-use Rattle.command_line.specs.declared.task.NoTask.TheVariants.{OutOfMemory, Help, Refused, BadOption}
+use Rattle.command_line.specs.declared.task.NoTask.TheVariants.{OutOfMemory, Help, Refused}
+use Rattle.command_line.specs.declared.task.NoTask.TheVariants.{BadOption}
 use Rattle.gco_cli.specs.FaultLine.{fault_line}
 use Rattle.gco_cli.specs.declared.fault.Fault.TheVariants as fault
 use Rattle.gco_cli.specs.Run.{IsCut, IsDue, LeavesSource, Refuses, IsFaultOf, Writes}

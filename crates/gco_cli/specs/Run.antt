@@ -1,5 +1,6 @@
 -- What a run answers and leaves.
-use Rattle.std.specs.Prelude.{◌≡◌, ◌≢◌, ◌⊎◌, ◌<◌, ◌≤◌, ℕ, Bool, true, false, List, [], length, Result, Ok, Err, String, string_bytes, codes}
+use Rattle.std.specs.Prelude.{◌≡◌, ◌≢◌, ◌⊎◌, ◌<◌, ◌≤◌, ℕ, Bool, true, false, List, [], length}
+use Rattle.std.specs.Prelude.{Result, Ok, Err, String, string_bytes, codes}
 use Rattle.std.specs.declared.alloc.Global.{Global}
 use Rattle.std.specs.declared.io.ErrorKind.{ErrorKind}
 use Rattle.std.specs.declared.io.ErrorKind.TheVariants.{InvalidData}
@@ -10,7 +11,8 @@ use Rattle.command_line.specs.declared.task.OptionName.{OptionName}
 use Rattle.command_line.specs.declared.task.Request.{Request}
 use Rattle.gco_cli.specs.FaultLine.{fault_line}
 use Rattle.gco_cli.specs.declared.fault.Fault.{Fault}
-use Rattle.gco_cli.specs.declared.fault.Fault.TheVariants.{OutOfMemory, Write, BadOption, ReadFailed}
+use Rattle.gco_cli.specs.declared.fault.Fault.TheVariants.{OutOfMemory, Write, BadOption}
+use Rattle.gco_cli.specs.declared.fault.Fault.TheVariants.{ReadFailed}
 use Rattle.gco_cli.specs.Commands.{IsDueFor, StandsForAsked}
 use Rattle.byte_streams.specs.Streams.{Stream, Stops, Takes, Took, failures_after}
 

@@ -6,10 +6,10 @@ ghost use Rattle.gco_cli.specs.Energy.{HasFileFault, HoldsEnergy};
 ghost use Rattle.gco_cli.specs.Run.{TellsRead};
 ghost use Rattle.gco_cli.specs.Inputs.{OfSomeInput};
 
-use crate::answers::answer;
+use crate::answer::Answer;
+use crate::energy_text::answer;
 use crate::fault::Fault;
 use crate::line::Line;
-use crate::written::Answer;
 use byte_streams::{Source, read_input};
 use problem_files::read_energy;
 use pseudo_bool::Energy;

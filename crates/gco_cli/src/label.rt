@@ -14,11 +14,11 @@ ghost use Rattle.gco_cli.specs.Label.{numbers_text, parts_of, run_text};
 ghost use Rattle.gco_cli.specs.Run.{TellsRead};
 ghost use Rattle.gco_cli.specs.Inputs.{OfSomeInput};
 
+use crate::answer::Answer;
 use crate::fault::Fault;
 use crate::library_faults::move_fault;
 use crate::line::Line;
 use crate::lines::{Parts, bound_line, energy_words};
-use crate::written::Answer;
 use byte_streams::{Source, read_input};
 use itoa::Buffer;
 use moves::{MoveError, Request, Run, run_tables};

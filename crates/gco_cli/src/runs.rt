@@ -7,12 +7,12 @@ ghost use Rattle.gco_cli.specs.Commands.{IsDueFor, IsFaultFor, StandsForAsked};
 ghost use Rattle.gco_cli.specs.Refusals.{IsRefusalFor};
 ghost use Rattle.gco_cli.specs.Run.{IsDue, IsRun, IsUnread, Refuses, TellsRead, Writes, streams};
 
-use crate::ends::say_end;
 use crate::fault::Fault;
 use crate::line::Line;
+use crate::lost_words::refuse_unread;
 use crate::refusal::Refusal;
+use crate::run_end::say_end;
 use crate::tasks::{end_without_task, run_task};
-use crate::unread::refuse_unread;
 use byte_streams::{Sink, Source};
 use command_line::{Request, Task, parse};
 use rounds::{Open, Workers};

@@ -5,13 +5,13 @@ ghost use Rattle.gco_cli.specs.Commands.{IsDueFor, IsFaultFor};
 ghost use Rattle.gco_cli.specs.Refusals.{IsCutHelp, TellsHelp, IsRefusalOf, ShowsHelp};
 ghost use Rattle.gco_cli.specs.Run.{Refuses, TellsRead, Writes};
 
+use crate::answer::write_text;
 use crate::energy::answer_energy;
 use crate::fault::Fault;
 use crate::label::answer_label;
 use crate::line::Line;
 use crate::pictures::picture;
 use crate::refusal::Refusal;
-use crate::written::write_text;
 use byte_streams::{Sink, Source};
 use command_line::{NoTask, Task};
 use solvers::How;

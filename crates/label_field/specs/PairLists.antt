@@ -3,7 +3,9 @@ use Rattle.std.specs.List.{All}
 use Rattle.label_field.specs.Limits.{site_limit, pair_limit, weight_limit}
 use Rattle.label_field.specs.declared.pair.Pair.{Pair}
 use Rattle.label_field.specs.declared.error.LabelFieldError.{LabelFieldError}
-use Rattle.label_field.specs.declared.error.LabelFieldError.TheVariants.{NoSuchSite, NoSuchLabel, SamePair, TooManyPairs, WeightRange, OutOfMemory}
+use Rattle.label_field.specs.declared.error.LabelFieldError.TheVariants.{NoSuchSite, NoSuchLabel}
+use Rattle.label_field.specs.declared.error.LabelFieldError.TheVariants.{SamePair, TooManyPairs}
+use Rattle.label_field.specs.declared.error.LabelFieldError.TheVariants.{WeightRange, OutOfMemory}
 
 -- how many sites there are, and the pairs in their order
 pub record PairList : Type 0 where

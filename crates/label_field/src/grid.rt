@@ -1,8 +1,10 @@
 //! The pairs of neighbours of an image.
-ghost use Rattle.std.specs.Prelude.{◌≡◌, ℕ, ◌+◌, ◌-◌, ◌*◌, ◌<◌, ◌≤◌, ◌++◌, ◌↔◌, IsTrue, IfOk, OnOk, if◌then◌else◌, Some, None, length};
+ghost use Rattle.std.specs.Prelude.{◌≡◌, ◌+◌, ◌-◌, ◌*◌, ◌<◌, ◌≤◌, ◌++◌, ◌↔◌, IsTrue, IfOk, OnOk};
+ghost use Rattle.std.specs.Prelude.{if◌then◌else◌, Some, None};
 ghost use Rattle.std.specs.List.{All};
 ghost use Rattle.label_field.specs.Limits.{site_limit, weight_limit};
-ghost use Rattle.label_field.specs.Grids.{IsImage, IsSmallStep, AreSmallSteps, edge_count, corner_count};
+ghost use Rattle.label_field.specs.Grids.{IsImage, IsSmallStep, AreSmallSteps, edge_count};
+ghost use Rattle.label_field.specs.Grids.{corner_count};
 ghost use Rattle.label_field.specs.Grids.{column, row, stays, step_end, pair_to, pairs_of_steps};
 ghost use Rattle.label_field.specs.Grids.{grid as grid_list, steps4, steps8};
 

@@ -1,5 +1,6 @@
 //! A label for each site.
-ghost use Rattle.std.specs.Prelude.{◌≡◌, ◌<◌, ◌≤◌, ◌↔◌, IsTrue, IfOk, OnOk, OnErr, IsOk, IsErrOf, length, ok_or, replicate, slice_set};
+ghost use Rattle.std.specs.Prelude.{◌≡◌, ◌<◌, ◌≤◌, ◌↔◌, IsTrue, IfOk, OnOk, OnErr, IsOk, IsErrOf};
+ghost use Rattle.std.specs.Prelude.{length, ok_or, replicate, slice_set};
 ghost use Rattle.std.specs.List.{All, slice_get};
 ghost use Rattle.label_field.specs.LabelFields.{AreSizes, IsLabelField};
 

@@ -1,8 +1,10 @@
 //! A list of weighted pairs of sites.
-ghost use Rattle.std.specs.Prelude.{◌≡◌, ◌<◌, ◌≤◌, ◌++◌, [], ◌∷◌, ◌↔◌, IsTrue, IfOk, IfErr, IfSome, OnOk, OnErr, SomeIff, Some, length, unsigned_abs, slice_set};
+ghost use Rattle.std.specs.Prelude.{◌≡◌, ◌<◌, ◌≤◌, ◌++◌, [], ◌∷◌, ◌↔◌, IsTrue, IfErr, IfSome};
+ghost use Rattle.std.specs.Prelude.{OnOk, OnErr, SomeIff, Some, length, unsigned_abs, slice_set};
 ghost use Rattle.std.specs.List.{All, slice_get};
 ghost use Rattle.label_field.specs.Limits.{site_limit, pair_limit, weight_limit};
-ghost use Rattle.label_field.specs.PairLists.{IsPair, IsPairList, IsWeight, IsPairAccepted, IsPairRefusal};
+ghost use Rattle.label_field.specs.PairLists.{IsPair, IsPairList, IsWeight, IsPairAccepted};
+ghost use Rattle.label_field.specs.PairLists.{IsPairRefusal};
 
 use crate::{LabelFieldError, Pair, SITE_LIMIT};
 use std::alloc::Global;

@@ -1,7 +1,8 @@
 -- What is true of every chain of best moves, and of every move over a metric.
 use Rattle.std.specs.Prelude.{◌≡◌, ℕ, ◌*◌, ◌≤◌, Bool, true, List}
 use Rattle.labellings.specs.declared.change.Move.{Move}
-use Rattle.labellings.specs.Energies.{Instance, IsInstance, IsMetric, IsRatio, IsLabelled, AreLabelsFree, energy, labelling}
+use Rattle.labellings.specs.Energies.{Instance, IsInstance, IsMetric, IsRatio, IsLabelled}
+use Rattle.labellings.specs.Energies.{AreLabelsFree, energy, labelling}
 use Rattle.labellings.specs.Moves.{IsAllowed, IsFirstIrregular, IsMoveOf}
 use Rattle.labellings.specs.Chains.{IsChain, expansions}
 

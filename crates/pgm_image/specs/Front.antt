@@ -1,10 +1,16 @@
 -- What stands at the front of some bytes: an image, or what refuses one.
-use Rattle.std.specs.Prelude.{ℕ, List, [], ◌∷◌, ◌++◌, length, All, ◌≡◌, ◌≤◌, ◌<◌, ◌+◌, ◌-◌, ◌*◌, ◌⊎◌, true, Result, Ok, Err}
-use Rattle.pgm_image.specs.Picture.{Picture, IsPicture, SizeFits, image_side_limit, sample_limit, maxval_limit}
+use Rattle.std.specs.Prelude.{ℕ, List, [], ◌∷◌, ◌++◌, length, All, ◌≡◌, ◌≤◌, ◌<◌, ◌+◌, ◌-◌, ◌*◌}
+use Rattle.std.specs.Prelude.{◌⊎◌, true, Result, Ok, Err}
+use Rattle.pgm_image.specs.Picture.{Picture, IsPicture, SizeFits, image_side_limit, sample_limit}
+use Rattle.pgm_image.specs.Picture.{maxval_limit}
 use Rattle.pgm_image.specs.Raster.{raster, raster_size, IsFirstAbove}
-use Rattle.pgm_image.specs.Grammar.{is_gap, magic, AreNumbers, IsHeader, IsAnyHeader, IsEndedNumber, EndsNumber, StopsAt}
+use Rattle.pgm_image.specs.Grammar.{is_gap, magic, AreNumbers, IsHeader, IsAnyHeader, IsEndedNumber}
+use Rattle.pgm_image.specs.Grammar.{EndsNumber, StopsAt}
 use Rattle.pgm_image.specs.declared.error.PgmError.{PgmError}
-use Rattle.pgm_image.specs.declared.error.PgmError.TheVariants.{OutOfMemory, NotPgm, BadHeader, ZeroSize, TooLarge, BadMaxval, Truncated, SampleAboveMax, BadSample}
+use Rattle.pgm_image.specs.declared.error.PgmError.TheVariants.{OutOfMemory, NotPgm, BadHeader}
+use Rattle.pgm_image.specs.declared.error.PgmError.TheVariants.{ZeroSize, TooLarge, BadMaxval}
+use Rattle.pgm_image.specs.declared.error.PgmError.TheVariants.{Truncated, SampleAboveMax}
+use Rattle.pgm_image.specs.declared.error.PgmError.TheVariants.{BadSample}
 use Rattle.pgm_image.specs.declared.header.Form.{Form}
 use Rattle.pgm_image.specs.declared.header.Form.TheVariants.{Raw, Plain}
 

@@ -1,5 +1,6 @@
 -- Samples as bytes.
-use Rattle.std.specs.Prelude.{ℕ, List, [], ◌∷◌, length, get_or, ◌≤◌, ◌<◌, ◌+◌, ◌*◌, ◌/◌, ◌%◌, nat_lt, ⊤, if◌then◌else◌}
+use Rattle.std.specs.Prelude.{ℕ, List, [], ◌∷◌, length, get_or, ◌≤◌, ◌<◌, ◌+◌, ◌*◌, ◌/◌, ◌%◌}
+use Rattle.std.specs.Prelude.{nat_lt, ⊤, if◌then◌else◌}
 use Rattle.pgm_image.specs.declared.error.PgmError.{PgmError}
 use Rattle.pgm_image.specs.declared.error.PgmError.TheVariants.{OutOfMemory, SampleAboveMax}
 

@@ -1,5 +1,7 @@
 -- What is read, as functions on lists. The laws say that it is what the grammar says.
-use Rattle.std.specs.Prelude.{ℕ, suc, zero, List, [], ◌∷◌, ◌++◌, length, take, drop, ◌≡◌, ◌≤◌, ◌+◌, ◌-◌, ◌*◌, ◌==◌, ◌||◌, nat_lt, Option, Some, None, Result, Ok, Err, IsOk, ⊤, if◌then◌else◌}
+use Rattle.std.specs.Prelude.{ℕ, suc, zero, List, [], ◌∷◌, ◌++◌, length, take, drop, ◌≡◌, ◌≤◌, ◌+◌}
+use Rattle.std.specs.Prelude.{◌-◌, ◌*◌, ◌==◌, ◌||◌, nat_lt, Option, Some, None, Result, Ok, Err}
+use Rattle.std.specs.Prelude.{IsOk, ⊤, if◌then◌else◌}
 use Rattle.pgm_image.specs.Picture.{Picture, picture, image_side_limit, sample_limit, maxval_limit}
 use Rattle.pgm_image.specs.Raster.{raster_size, samples_in}
 use Rattle.pgm_image.specs.Words.{number_at, numbers_at}
@@ -12,7 +14,10 @@ use Rattle.pgm_image.specs.declared.header.Form.TheVariants.{Raw, Plain}
 use Rattle.pgm_image.specs.declared.plain.Fault.{Fault}
 use Rattle.pgm_image.specs.declared.plain.Fault.TheVariants.{Ended, Bad}
 use Rattle.pgm_image.specs.declared.error.PgmError.{PgmError}
-use Rattle.pgm_image.specs.declared.error.PgmError.TheVariants.{OutOfMemory, NotPgm, BadHeader, ZeroSize, TooLarge, BadMaxval, Truncated, SampleAboveMax, BadSample}
+use Rattle.pgm_image.specs.declared.error.PgmError.TheVariants.{OutOfMemory, NotPgm, BadHeader}
+use Rattle.pgm_image.specs.declared.error.PgmError.TheVariants.{ZeroSize, TooLarge, BadMaxval}
+use Rattle.pgm_image.specs.declared.error.PgmError.TheVariants.{Truncated, SampleAboveMax}
+use Rattle.pgm_image.specs.declared.error.PgmError.TheVariants.{BadSample}
 
 -- the form that the first two bytes tell, and what follows them
 abbrev pub form_at : List ℕ → Option (Form × List ℕ)

@@ -1,5 +1,6 @@
 -- Numbers after gaps, read one byte at a time.
-use Rattle.std.specs.Prelude.{ℕ, suc, zero, List, [], ◌∷◌, ◌==◌, ◌<◌, Result, Ok, Err, length, ⊤, if◌then◌else◌}
+use Rattle.std.specs.Prelude.{ℕ, suc, zero, List, [], ◌∷◌, ◌==◌, ◌<◌, Result, Ok, Err, length, ⊤}
+use Rattle.std.specs.Prelude.{if◌then◌else◌}
 use Rattle.pgm_image.specs.Signs.{is_space, is_line_end, is_digit, with_digit}
 use Rattle.pgm_image.specs.declared.words.Place.{Place}
 use Rattle.pgm_image.specs.declared.words.Place.TheVariants.{Start, Gap, Comment, Number}

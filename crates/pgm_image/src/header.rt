@@ -1,5 +1,6 @@
 //! A header: the form of the samples, and three numbers within their limits.
-ghost use Rattle.std.specs.Prelude.{◌≡◌, ◌≤◌, ◌<◌, ◌∷◌, [], Ok, Err, MatchResult, MatchOption, None, Some, length, ⊤};
+ghost use Rattle.std.specs.Prelude.{◌≡◌, ◌≤◌, ◌<◌, ◌∷◌, [], Ok, Err, MatchResult, MatchOption};
+ghost use Rattle.std.specs.Prelude.{None, Some, length, ⊤};
 ghost use Rattle.pgm_image.specs.Words.{whole_number, numbers_at};
 ghost use Rattle.pgm_image.specs.Reading.{form_at, check_limits, header_at, IsOfHeader};
 

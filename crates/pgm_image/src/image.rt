@@ -1,5 +1,5 @@
 //! A grey image.
-ghost use Rattle.std.specs.Prelude.{◌≡◌, ◌≤◌, ◌*◌, ◌↔◌, IsTrue, All, length};
+ghost use Rattle.std.specs.Prelude.{◌≡◌, ◌≤◌, ◌*◌, ◌↔◌, IsTrue, All};
 ghost use Rattle.pgm_image.specs.Picture.{Picture, picture, IsPicture, SizeFits};
 
 use std::marker::Model;

@@ -1,8 +1,10 @@
 //! An image from bytes.
-ghost use Rattle.std.specs.Prelude.{◌≡◌, ◌≤◌, ◌<◌, ◌*◌, ◌⊎◌, ℕ, All, Result, Ok, Err, MatchResult, IfOk, IfErr, length, drop};
+ghost use Rattle.std.specs.Prelude.{◌≡◌, ◌≤◌, ◌<◌, ◌*◌, ◌⊎◌, ℕ, All, Result, Ok, Err, MatchResult};
+ghost use Rattle.std.specs.Prelude.{IfOk, IfErr, length, drop};
 ghost use Rattle.pgm_image.specs.Picture.{Picture};
 ghost use Rattle.pgm_image.specs.Front.{Front, RefusesFront, IsReadingOf};
-ghost use Rattle.pgm_image.specs.Reading.{check_limits, samples_at, image_at, RefusesAs, RefusesImage};
+ghost use Rattle.pgm_image.specs.Reading.{check_limits, samples_at, image_at, RefusesAs};
+ghost use Rattle.pgm_image.specs.Reading.{RefusesImage};
 
 use crate::error::PgmError;
 use crate::header::{Form, Header, header_at};

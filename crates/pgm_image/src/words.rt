@@ -1,7 +1,8 @@
 //! A number after a gap, read byte by byte.
-ghost use Rattle.std.specs.Prelude.{◌≡◌, ◌≤◌, ◌<◌, length};
+ghost use Rattle.std.specs.Prelude.{◌≡◌, ◌≤◌, length};
 ghost use Rattle.pgm_image.specs.Signs.{is_digit};
-ghost use Rattle.pgm_image.specs.Words.{step_in_gap, step_in_number, step, number_at, IsNonEmptyIfEnded};
+ghost use Rattle.pgm_image.specs.Words.{step_in_gap, step_in_number, step, number_at};
+ghost use Rattle.pgm_image.specs.Words.{IsNonEmptyIfEnded};
 ghost use Rattle.pgm_image.specs.declared.words.Place.TheVariants.{Start};
 
 use crate::signs::{is_digit, is_line_end, is_space, with_digit};

@@ -1,7 +1,8 @@
 -- The keys of a problem file.
 use Rattle.std.specs.Prelude.{ℕ, List, codes}
 use Rattle.problem_files.specs.declared.energy_fault.EnergyKey.{EnergyKey}
-use Rattle.problem_files.specs.declared.energy_fault.EnergyKey.TheVariants.{Variables, Constant, Terms}
+use Rattle.problem_files.specs.declared.energy_fault.EnergyKey.TheVariants.{Variables, Constant}
+use Rattle.problem_files.specs.declared.energy_fault.EnergyKey.TheVariants.{Terms}
 
 abbrev pub field_name : EnergyKey → List ℕ
 field_name Variables = codes "variables"

@@ -1,7 +1,10 @@
 -- The keys of a problem file, and the faults of its fields.
 use Rattle.std.specs.Prelude.{ℕ, List, Option, Some, None, Result, Ok, Err, codes}
 use Rattle.problem_files.specs.declared.label_fault.LabelKey.{LabelKey}
-use Rattle.problem_files.specs.declared.label_fault.LabelKey.TheVariants.{Sites, Labels, Data, Smooth, Trunc, Pairs, Start, Moves, Cycles, LabelCosts}
+use Rattle.problem_files.specs.declared.label_fault.LabelKey.TheVariants.{Sites, Labels, Data}
+use Rattle.problem_files.specs.declared.label_fault.LabelKey.TheVariants.{Smooth, Trunc, Pairs}
+use Rattle.problem_files.specs.declared.label_fault.LabelKey.TheVariants.{Start, Moves, Cycles}
+use Rattle.problem_files.specs.declared.label_fault.LabelKey.TheVariants.{LabelCosts}
 use Rattle.problem_files.specs.declared.label_fault.LabelFault.{LabelFault}
 use Rattle.problem_files.specs.declared.label_fault.LabelFault.TheVariants.{CostRange, NoSuchLabel}
 

@@ -13,7 +13,8 @@ use Rattle.problem_files.specs.NumberFields.{number_in, number_or}
 use Rattle.problem_files.specs.PairFields.{pairs_in}
 use Rattle.problem_files.specs.SmoothFields.{smooth_in}
 use Rattle.problem_files.specs.StartFields.{start_in}
-use Rattle.problem_files.specs.declared.label_fault.LabelKey.TheVariants.{Sites, Labels, Trunc, Cycles}
+use Rattle.problem_files.specs.declared.label_fault.LabelKey.TheVariants.{Sites, Labels, Trunc}
+use Rattle.problem_files.specs.declared.label_fault.LabelKey.TheVariants.{Cycles}
 use Rattle.problem_files.specs.declared.label_fault.LabelFault.{LabelFault}
 use Rattle.problem_files.specs.declared.label_fault.LabelFault.TheVariants.{BadToml}
 use Rattle.problem_files.specs.declared.label_problem.LabelProblem.{LabelProblem}

@@ -1,5 +1,6 @@
 -- The fields that are one number.
-use Rattle.std.specs.Prelude.{ℕ, ℤ, pos, ◌&&◌, nat_le, Option, Some, None, Result, Ok, Err, if◌then◌else◌}
+use Rattle.std.specs.Prelude.{ℕ, ℤ, pos, ◌&&◌, nat_le, Option, Some, None, Result, Ok, Err}
+use Rattle.std.specs.Prelude.{if◌then◌else◌}
 use Rattle.toml.specs.Data.{Data, Members, as_integer, get_member}
 use Rattle.problem_files.specs.LabelFieldNames.{field_name}
 use Rattle.problem_files.specs.declared.label_fault.LabelKey.{LabelKey}

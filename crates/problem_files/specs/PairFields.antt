@@ -1,5 +1,7 @@
 -- The pairs that a table names.
-use Rattle.std.specs.Prelude.{ℕ, ◌+◌, ℤ, pos, negsuc, unsigned_abs, int_le, Bool, false, not, ◌&&◌, nat_le, nat_lt, List, [], ◌∷◌, length, Option, Some, None, option_and_then, option_map, Result, Ok, Err, if◌then◌else◌}
+use Rattle.std.specs.Prelude.{ℕ, ◌+◌, ℤ, pos, negsuc, unsigned_abs, int_le, Bool, false, not, ◌&&◌}
+use Rattle.std.specs.Prelude.{nat_le, nat_lt, List, [], ◌∷◌, length, Option, Some, None}
+use Rattle.std.specs.Prelude.{option_and_then, option_map, Result, Ok, Err, if◌then◌else◌}
 use Rattle.std.specs.Ordering.{int_eq}
 use Rattle.toml.specs.Data.{Data, Members, as_array, get_member}
 use Rattle.problem_files.specs.Problem.{integers_of}
@@ -9,7 +11,10 @@ use Rattle.problem_files.specs.LabelFieldNames.{and_then, field_name}
 use Rattle.problem_files.specs.ListFields.{list_of}
 use Rattle.problem_files.specs.declared.label_fault.LabelKey.TheVariants.{Pairs}
 use Rattle.problem_files.specs.declared.label_fault.LabelFault.{LabelFault}
-use Rattle.problem_files.specs.declared.label_fault.LabelFault.TheVariants.{BadField, BadElement, NoSuchSite, SamePair, TooManyPairs, WeightRange}
+use Rattle.problem_files.specs.declared.label_fault.LabelFault.TheVariants.{BadField, BadElement}
+use Rattle.problem_files.specs.declared.label_fault.LabelFault.TheVariants.{NoSuchSite, SamePair}
+use Rattle.problem_files.specs.declared.label_fault.LabelFault.TheVariants.{TooManyPairs}
+use Rattle.problem_files.specs.declared.label_fault.LabelFault.TheVariants.{WeightRange}
 
 -- the integer is the number of one of n sites
 abbrev pub is_site : ℕ → ℤ → Bool

@@ -1,15 +1,24 @@
 -- The energy that a table names, or its first fault.
-use Rattle.std.specs.Prelude.{ℕ, ◌+◌, ℤ, pos, negsuc, unsigned_abs, Bool, true, false, not, ◌&&◌, nat_le, nat_lt, List, [], ◌∷◌, Option, Some, None, option_and_then, option_map, Result, Ok, Err, codes, zero, suc, if◌then◌else◌}
+use Rattle.std.specs.Prelude.{ℕ, ◌+◌, ℤ, pos, negsuc, unsigned_abs, Bool, true, false, not, ◌&&◌}
+use Rattle.std.specs.Prelude.{nat_le, nat_lt, List, [], ◌∷◌, Option, Some, None, option_and_then}
+use Rattle.std.specs.Prelude.{option_map, Result, Ok, Err, codes, zero, suc, if◌then◌else◌}
 use Rattle.std.specs.List.{list_all, list_any}
 use Rattle.std.specs.Ordering.{int_eq}
-use Rattle.toml.specs.Data.{Data, Items, no_items, item, Members, get, get_member, as_array, as_integer}
+use Rattle.toml.specs.Data.{Data, Items, no_items, item, Members, get, get_member, as_array}
+use Rattle.toml.specs.Data.{as_integer}
 use Rattle.pseudo_bool.specs.Limits.{variable_limit, term_limit, value_limit}
 use Rattle.pseudo_bool.specs.declared.term.Term.{Term}
 use Rattle.pseudo_bool.specs.declared.term.Term.TheVariants.{One, Two, Three}
 use Rattle.pseudo_bool.specs.Energies.{Energy}
 use Rattle.problem_files.specs.declared.energy_fault.EnergyFault.{EnergyFault}
-use Rattle.problem_files.specs.declared.energy_fault.EnergyFault.TheVariants.{BadField, BadElement, NoSuchVariable, SameVariable, ValueRange, ConstantRange, TooManyTerms}
-use Rattle.problem_files.specs.declared.energy_fault.EnergyKey.TheVariants.{Variables, Constant, Terms}
+use Rattle.problem_files.specs.declared.energy_fault.EnergyFault.TheVariants.{BadField, BadElement}
+use Rattle.problem_files.specs.declared.energy_fault.EnergyFault.TheVariants.{NoSuchVariable}
+use Rattle.problem_files.specs.declared.energy_fault.EnergyFault.TheVariants.{SameVariable}
+use Rattle.problem_files.specs.declared.energy_fault.EnergyFault.TheVariants.{ValueRange}
+use Rattle.problem_files.specs.declared.energy_fault.EnergyFault.TheVariants.{ConstantRange}
+use Rattle.problem_files.specs.declared.energy_fault.EnergyFault.TheVariants.{TooManyTerms}
+use Rattle.problem_files.specs.declared.energy_fault.EnergyKey.TheVariants.{Variables, Constant}
+use Rattle.problem_files.specs.declared.energy_fault.EnergyKey.TheVariants.{Terms}
 
 -- what is read next, unless there was a fault
 abbrev pub and_then : {A B : Type 0} → Result A EnergyFault → (A → Result B EnergyFault)

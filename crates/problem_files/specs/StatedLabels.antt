@@ -1,7 +1,9 @@
 -- What a table states of a problem of labels: each of its numbers, as it stands, or what is due
 -- where a field is missing.
-use Rattle.std.specs.Prelude.{◌≡◌, ◌⊎◌, ℕ, ℤ, pos, List, [], ◌∷◌, map, replicate, Option, Some, None, codes}
-use Rattle.toml.specs.Data.{Data, string, integer, array, Items, no_items, item, Members, get_member}
+use Rattle.std.specs.Prelude.{◌≡◌, ◌⊎◌, ℕ, ℤ, pos, List, [], ◌∷◌, map, replicate, Option, Some}
+use Rattle.std.specs.Prelude.{None, codes}
+use Rattle.toml.specs.Data.{Data, string, integer, array, Items, no_items, item, Members}
+use Rattle.toml.specs.Data.{get_member}
 use Rattle.toml.specs.Parse.{parse_document}
 use Rattle.label_field.specs.declared.pair.Pair.{Pair}
 use Rattle.labellings.specs.declared.cycles.Moves.{Moves}

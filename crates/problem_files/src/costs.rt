@@ -1,4 +1,5 @@
-ghost use Rattle.std.specs.Prelude.{◌≡◌, ◌≢◌, ◌≤◌, IfOk, IfErr, All, length};
+//! The lists of costs in a labelling problem.
+ghost use Rattle.std.specs.Prelude.{◌≡◌, ◌≢◌, IfOk, IfErr};
 ghost use Rattle.toml.specs.View.{table_view, view};
 ghost use Rattle.problem_files.specs.declared.label_fault.LabelFault.TheVariants.{OutOfMemory};
 ghost use Rattle.problem_files.specs.LabelCostFields.{costs_told, label_costs_from, label_costs_in};

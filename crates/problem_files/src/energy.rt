@@ -1,9 +1,8 @@
 //! The energy that a text or a table names.
-ghost use Rattle.std.specs.Prelude.{◌≡◌, ◌≢◌, ◌≤◌, [], Ok, Err, IfOk, IfErr, OnOk, vec_len};
-ghost use Rattle.toml.specs.View.{array_view, table_view, view};
+ghost use Rattle.std.specs.Prelude.{◌≡◌, ◌≤◌, [], Ok, Err, IfOk, IfErr, OnOk, vec_len};
+ghost use Rattle.toml.specs.View.{array_view, table_view};
 ghost use Rattle.pseudo_bool.specs.Limits.{term_limit, value_limit, variable_limit};
 ghost use Rattle.pseudo_bool.specs.Energies.{IsWithin};
-ghost use Rattle.problem_files.specs.declared.energy_fault.EnergyFault.TheVariants.{OutOfMemory};
 ghost use Rattle.problem_files.specs.Added.{GainsAll, IsFirstOf};
 ghost use Rattle.problem_files.specs.Problem.{energy_of_table, terms_from, terms_in};
 ghost use Rattle.problem_files.specs.Stated.{States};

@@ -1,8 +1,9 @@
 //! The fields of a table.
-ghost use Rattle.std.specs.Prelude.{◌≡◌, ◌≤◌, IfOk, IfErr, OnOk, [], option_map, option_and_then};
+ghost use Rattle.std.specs.Prelude.{◌≡◌, option_map, option_and_then};
 ghost use Rattle.toml.specs.View.{array_view, table_view, view};
 ghost use Rattle.toml.specs.Data.{get, get_member, as_array};
-ghost use Rattle.problem_files.specs.Problem.{constant_in, integers_at, integers_of, terms_in, variables_in};
+ghost use Rattle.problem_files.specs.Problem.{constant_in, integers_at, integers_of};
+ghost use Rattle.problem_files.specs.Problem.{variables_in};
 ghost use Rattle.problem_files.specs.Within.{list_within};
 
 use crate::{EnergyFault, EnergyKey};

@@ -1,3 +1,4 @@
+//! A labelling problem, and the run that it asks for.
 use label_field::{Labelling, Pairs};
 use labellings::Moves;
 

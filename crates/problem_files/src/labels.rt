@@ -1,7 +1,9 @@
+//! A labelling problem, read from TOML.
 ghost use Rattle.std.specs.Prelude.{◌≡◌, ◌≢◌, IfOk, IfErr, IsUtf8};
 ghost use Rattle.toml.specs.View.{table_view};
 ghost use Rattle.label_field.specs.LabelFields.{AreSizes};
-ghost use Rattle.problem_files.specs.declared.label_fault.LabelFault.TheVariants.{BadToml, OutOfMemory};
+ghost use Rattle.problem_files.specs.declared.label_fault.LabelFault.TheVariants.{BadToml};
+ghost use Rattle.problem_files.specs.declared.label_fault.LabelFault.TheVariants.{OutOfMemory};
 ghost use Rattle.problem_files.specs.Limits.{AreCostsInLimits, IsInLimits};
 ghost use Rattle.problem_files.specs.Names.{problem_of_table, names_rest, problem_in, problem_view};
 ghost use Rattle.problem_files.specs.StatedLabels.{StatesProblem, TextStatesProblem};

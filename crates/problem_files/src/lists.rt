@@ -1,6 +1,8 @@
+//! Lists of integers, each in a range.
 ghost use Rattle.std.specs.Prelude.{◌≡◌, ◌≤◌, ◌<◌, ◌^◌, map, IfOk, IfErr, All, position, vec_len};
 ghost use Rattle.toml.specs.View.{view};
-ghost use Rattle.problem_files.specs.ListFields.{integers_or_fault, integer_of, is_out_of_range, is_no_integer, list_from, natural_of};
+ghost use Rattle.problem_files.specs.ListFields.{integers_or_fault, integer_of, is_out_of_range};
+ghost use Rattle.problem_files.specs.ListFields.{is_no_integer, list_from, natural_of};
 
 use crate::label_fault::out_of_range;
 use crate::{LabelFault, LabelKey};

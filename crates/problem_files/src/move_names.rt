@@ -1,3 +1,4 @@
+//! The kind of moves that a problem names.
 ghost use Rattle.std.specs.Prelude.{◌≡◌};
 ghost use Rattle.toml.specs.View.{table_view};
 ghost use Rattle.problem_files.specs.MoveFields.{moves_from, moves_in};

@@ -1,4 +1,6 @@
-ghost use Rattle.std.specs.Prelude.{◌≡◌, ◌≢◌, ◌<◌, ◌≤◌, ℕ, ℤ, pos, false, [], length, vec_len, map, IfOk, IfErr, IfSome, OnOk, Ok, None};
+//! The pairs of a labelling problem.
+ghost use Rattle.std.specs.Prelude.{◌≡◌, ◌≢◌, ◌<◌, ◌≤◌, ℕ, pos, false, [], length, vec_len, map};
+ghost use Rattle.std.specs.Prelude.{IfOk, IfErr, IfSome, OnOk, Ok, None};
 ghost use Rattle.toml.specs.View.{table_view, view};
 ghost use Rattle.label_field.specs.Limits.{pair_limit, site_limit};
 ghost use Rattle.problem_files.specs.declared.label_fault.LabelFault.TheVariants.{OutOfMemory};

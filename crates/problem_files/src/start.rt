@@ -1,4 +1,5 @@
-ghost use Rattle.std.specs.Prelude.{◌≡◌, ◌≢◌, ◌<◌, length, vec_len, IfOk, IfErr, All, map, replicate};
+//! The labels that a run starts from.
+ghost use Rattle.std.specs.Prelude.{◌≡◌, ◌≢◌, ◌<◌, length, vec_len, IfOk, IfErr, All, map};
 ghost use Rattle.toml.specs.View.{table_view, view};
 ghost use Rattle.label_field.specs.LabelFields.{AreSizes};
 ghost use Rattle.problem_files.specs.declared.label_fault.LabelFault.TheVariants.{OutOfMemory};

@@ -2,7 +2,8 @@
 ghost use Rattle.std.specs.Prelude.{◌≡◌, ◌≢◌, IfOk, IfErr, IsUtf8, None, Some};
 ghost use Rattle.toml.specs.View.{table_view};
 ghost use Rattle.toml.specs.Parse.{parse_document};
-ghost use Rattle.problem_files.specs.declared.energy_fault.EnergyFault.TheVariants.{BadToml, OutOfMemory};
+ghost use Rattle.problem_files.specs.declared.energy_fault.EnergyFault.TheVariants.{BadToml};
+ghost use Rattle.problem_files.specs.declared.energy_fault.EnergyFault.TheVariants.{OutOfMemory};
 
 use crate::EnergyFault;
 use std::alloc::Global;

@@ -1,9 +1,11 @@
 //! The terms of a table.
-ghost use Rattle.std.specs.Prelude.{◌≡◌, ◌≢◌, ◌<◌, ◌≤◌, ℕ, [], ◌∷◌, false, length, unsigned_abs, pos, IfOk, IfErr, OnOk};
+ghost use Rattle.std.specs.Prelude.{◌≡◌, ◌<◌, ◌≤◌, ℕ, [], ◌∷◌, false, length, unsigned_abs};
+ghost use Rattle.std.specs.Prelude.{pos, IfOk, IfErr, OnOk};
 ghost use Rattle.toml.specs.View.{view};
 ghost use Rattle.pseudo_bool.specs.Limits.{term_limit, variable_limit};
 ghost use Rattle.pseudo_bool.specs.declared.term.Term.TheVariants.{One, Two, Three};
-ghost use Rattle.problem_files.specs.declared.energy_fault.EnergyFault.TheVariants.{NoSuchVariable, OutOfMemory};
+ghost use Rattle.problem_files.specs.declared.energy_fault.EnergyFault.TheVariants.{NoSuchVariable};
+ghost use Rattle.problem_files.specs.declared.energy_fault.EnergyFault.TheVariants.{OutOfMemory};
 ghost use Rattle.problem_files.specs.Added.{Gains, IsFirstOf};
 ghost use Rattle.problem_files.specs.Problem.{term_or_fault, is_variable, term_at, term_from};
 ghost use Rattle.problem_files.specs.Refusal.{refusal_of};

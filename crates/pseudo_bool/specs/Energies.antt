@@ -1,4 +1,5 @@
-use Rattle.std.specs.Prelude.{◌≢◌, ℕ, ◌+◌, ◌*◌, ◌<◌, ◌≤◌, Bool, false, cond, List, All, length, ℤ, pos, ◌+ℤ◌, unsigned_abs, slice_index_or}
+use Rattle.std.specs.Prelude.{◌≢◌, ℕ, ◌+◌, ◌*◌, ◌<◌, ◌≤◌, Bool, false, cond, List, All, length, ℤ}
+use Rattle.std.specs.Prelude.{pos, ◌+ℤ◌, unsigned_abs, slice_index_or}
 use Rattle.sums.specs.IntegerSums.{int_sum_by}
 use Rattle.pseudo_bool.specs.declared.term.Term.{Term}
 use Rattle.pseudo_bool.specs.declared.term.Term.TheVariants.{One, Two, Three}

@@ -1,7 +1,10 @@
 -- Variables that an energy is least over: what they add, and why one is refused.
-use Rattle.std.specs.Prelude.{◌≡◌, ◌==◌, ℕ, ◌+◌, ◌<◌, ◌≤◌, Bool, cond, List, [], ◌∷◌, ◌++◌, All, length, map, ℤ, pos, ◌≤ℤ◌}
+use Rattle.std.specs.Prelude.{◌≡◌, ◌==◌, ℕ, ◌+◌, ◌<◌, ◌≤◌, Bool, cond, List, [], ◌∷◌, ◌++◌, All}
+use Rattle.std.specs.Prelude.{length, map, ℤ, pos, ◌≤ℤ◌}
 use Rattle.pseudo_bool.specs.declared.error.EnergyError.{EnergyError}
-use Rattle.pseudo_bool.specs.declared.error.EnergyError.TheVariants.{NoSuchVariable, SameVariable, ValueRange, TooManyTerms, OutOfMemory}
+use Rattle.pseudo_bool.specs.declared.error.EnergyError.TheVariants.{NoSuchVariable, SameVariable}
+use Rattle.pseudo_bool.specs.declared.error.EnergyError.TheVariants.{ValueRange, TooManyTerms}
+use Rattle.pseudo_bool.specs.declared.error.EnergyError.TheVariants.{OutOfMemory}
 use Rattle.pseudo_bool.specs.declared.term.Term.{Term}
 use Rattle.pseudo_bool.specs.declared.term.Term.TheVariants.{One, Two}
 use Rattle.pseudo_bool.specs.Energies.{Energy, value_at, IsValue}

@@ -1,7 +1,9 @@
 -- Which terms an energy takes, and why it refuses one.
 use Rattle.std.specs.Prelude.{◌≡◌, ◌≢◌, ℕ, ◌<◌, ◌≤◌, ◌⊎◌, ⊤, [], ◌∷◌, ◌++◌, All, length}
 use Rattle.pseudo_bool.specs.declared.error.EnergyError.{EnergyError}
-use Rattle.pseudo_bool.specs.declared.error.EnergyError.TheVariants.{NoSuchVariable, SameVariable, ValueRange, TooManyTerms, OutOfMemory}
+use Rattle.pseudo_bool.specs.declared.error.EnergyError.TheVariants.{NoSuchVariable, SameVariable}
+use Rattle.pseudo_bool.specs.declared.error.EnergyError.TheVariants.{ValueRange, TooManyTerms}
+use Rattle.pseudo_bool.specs.declared.error.EnergyError.TheVariants.{OutOfMemory}
 use Rattle.pseudo_bool.specs.declared.term.Term.{Term}
 use Rattle.pseudo_bool.specs.declared.term.Term.TheVariants.{One, Two, Three}
 use Rattle.pseudo_bool.specs.Energies.{Energy, IsTerm, IsValue}

@@ -1,8 +1,10 @@
-use Rattle.std.specs.Prelude.{◌≡◌, ◌++◌, ℕ, ◌+◌, ◌*◌, ◌<◌, ◌≤◌, List, [], All, length, map, slice_index, slice_index_or}
+use Rattle.std.specs.Prelude.{◌≡◌, ◌++◌, ℕ, ◌+◌, ◌*◌, ◌<◌, ◌≤◌, List, [], All, length, map}
+use Rattle.std.specs.Prelude.{slice_index, slice_index_or}
 use Rattle.pseudo_bool.specs.declared.term.Term.{Term}
 use Rattle.pseudo_bool.specs.declared.term.Term.TheVariants.{One, Two, Three}
 use Rattle.pseudo_bool.specs.declared.row.Row.{Row}
-use Rattle.pseudo_bool.specs.declared.row.Row.TheVariants.{One as RowOne, Two as RowTwo, Three as RowThree}
+use Rattle.pseudo_bool.specs.declared.row.Row.TheVariants.{One as RowOne, Two as RowTwo}
+use Rattle.pseudo_bool.specs.declared.row.Row.TheVariants.{Three as RowThree}
 use Rattle.pseudo_bool.specs.declared.row.Triple.{Triple}
 
 -- the term of a triple

@@ -1,11 +1,16 @@
-ghost use Rattle.std.specs.Prelude.{◌≡◌, ◌+◌, ◌<◌, ◌≤◌, ◌≤ℤ◌, ◌↔◌, ℕ, Bool, not, [], ◌∷◌, ◌++◌, All, length, pos, ◌+ℤ◌, slice_get, IsTrue, IsOk, IfOk, IfErr, OnOk, OnErr};
+//! Energies, term by term.
+ghost use Rattle.std.specs.Prelude.{◌≡◌, ◌+◌, ◌<◌, ◌≤◌, ◌↔◌, ℕ, Bool, not, [], All, length, pos};
+ghost use Rattle.std.specs.Prelude.{◌+ℤ◌, slice_get, IsTrue, IsOk, IfOk, IfErr, OnOk, OnErr};
 ghost use Rattle.std.specs.List.{list_all, list_any};
 ghost use Rattle.sums.specs.IntegerSums.{int_counted};
 ghost use Rattle.pseudo_bool.specs.Limits.{variable_limit, constant_limit};
-ghost use Rattle.pseudo_bool.specs.Energies.{IsEnergy, IsTerm, IsWithin, IsValue, value_at, assignment};
+ghost use Rattle.pseudo_bool.specs.Energies.{IsEnergy, IsTerm, IsWithin, IsValue, value_at};
+ghost use Rattle.pseudo_bool.specs.Energies.{assignment};
 ghost use Rattle.pseudo_bool.specs.Refusals.{IsTermAccepted, IsAdded, IsTermRefusal};
 ghost use Rattle.pseudo_bool.specs.Rows.{term_of, triple_term, IsKept};
-ghost use Rattle.pseudo_bool.specs.Hidden.{IsLeastOver, tied_terms, unless_all_terms, if_any_terms, with_terms, IsTieCost, CanTie, IsTieable, IsTieRefusal, IsTieFault};
+ghost use Rattle.pseudo_bool.specs.Hidden.{IsLeastOver, tied_terms, unless_all_terms, if_any_terms};
+ghost use Rattle.pseudo_bool.specs.Hidden.{with_terms, IsTieCost, IsTieable, IsTieRefusal};
+ghost use Rattle.pseudo_bool.specs.Hidden.{IsTieFault};
 
 use crate::row::{Row, Triple, narrow, push_tied, shorten};
 use crate::{CONSTANT_LIMIT, EnergyError, TERM_LIMIT, Term, VALUE_LIMIT, VARIABLE_LIMIT};

@@ -1,3 +1,4 @@
+//! Why an energy refuses an addition.
 ghost use Rattle.std.specs.Prelude.{◌≡◌};
 ghost use Rattle.pseudo_bool.specs.declared.error.EnergyError.TheVariants.{OutOfMemory};
 

@@ -1,3 +1,5 @@
+//! The greatest sizes of an energy.
+
 /// The most variables of an energy, 2^21: two for each pixel of an image of 1,024 by 1,024.
 pub const VARIABLE_LIMIT: u32 = 2_097_152;
 

@@ -1,4 +1,6 @@
-ghost use Rattle.std.specs.Prelude.{◌≡◌, ◌+◌, ◌<◌, ◌≤◌, ◌^◌, [], ◌∷◌, All, length, map, vec_len, vec_capacity};
+//! Terms as an energy keeps them.
+ghost use Rattle.std.specs.Prelude.{◌≡◌, ◌+◌, ◌<◌, ◌≤◌, ◌^◌, [], ◌∷◌, All, length, map, vec_len};
+ghost use Rattle.std.specs.Prelude.{vec_capacity};
 ghost use Rattle.pseudo_bool.specs.Energies.{term_value, assignment, IsTerm, IsValue};
 ghost use Rattle.pseudo_bool.specs.Hidden.{tied_terms};
 ghost use Rattle.pseudo_bool.specs.Rows.{number_of_bytes, term_of, triple_term, IsKept, AddsRows};

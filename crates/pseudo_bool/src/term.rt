@@ -1,3 +1,5 @@
+//! Terms of an energy.
+
 /// A term of an energy: its variables by number, and its table of whole numbers.
 ///
 /// The first variable is the most significant digit of a number's place in the table. An energy

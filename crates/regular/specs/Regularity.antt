@@ -1,4 +1,5 @@
-use Rattle.std.specs.Prelude.{◌≡◌, ℕ, zero, suc, ◌+◌, ◌*◌, ◌<◌, List, [], ◌∷◌, All, Option, None, Some, ℤ, ◌+ℤ◌, ◌≤ℤ◌, slice_get, take}
+use Rattle.std.specs.Prelude.{◌≡◌, ℕ, zero, suc, ◌+◌, ◌*◌, ◌<◌, List, [], ◌∷◌, All, Option, None}
+use Rattle.std.specs.Prelude.{Some, ℤ, ◌+ℤ◌, ◌≤ℤ◌, slice_get, take}
 use Rattle.pseudo_bool.specs.declared.term.Term.{Term}
 use Rattle.pseudo_bool.specs.declared.term.Term.TheVariants.{One, Two, Three}
 use Rattle.pseudo_bool.specs.Energies.{Energy, entry, digit}

@@ -1,3 +1,5 @@
+//! Where an energy is not regular.
+
 use thiserror::Error;
 
 /// A variable of a term of three, and the value that it was fixed to.

@@ -1,3 +1,4 @@
+//! Energies that are regular, as a type.
 ghost use Rattle.std.specs.Prelude.{◌≡◌};
 ghost use Rattle.regular.specs.Regularity.{IsRegular};
 

@@ -1,3 +1,4 @@
+//! The test of a table of two variables.
 ghost use Rattle.std.specs.Prelude.{◌↔◌, All, IsTrue};
 ghost use Rattle.pseudo_bool.specs.Energies.{IsWithin};
 ghost use Rattle.regular.specs.Limits.{entry_limit};

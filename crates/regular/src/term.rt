@@ -1,8 +1,10 @@
-ghost use Rattle.std.specs.Prelude.{◌≡◌, ◌↔◌, ◌<◌, ◌≤◌, ◌+ℤ◌, ◌≤ℤ◌, ℕ, All, IsTrue, IsOk, IfErr, IsNone, IfSome, unsigned_abs};
+//! The test of a term.
+ghost use Rattle.std.specs.Prelude.{◌≡◌, ◌↔◌, ◌<◌, All, IsOk, IfErr, IsNone, IfSome};
 ghost use Rattle.pseudo_bool.specs.Energies.{IsValue};
 ghost use Rattle.pseudo_bool.specs.Refusals.{HasValues};
 ghost use Rattle.regular.specs.declared.fixed.Fixed.{Fixed};
-ghost use Rattle.regular.specs.Regularity.{IsRegularTerm, IsRegularTable, FailsFirst, IsFirstProjection, projection};
+ghost use Rattle.regular.specs.Regularity.{IsRegularTerm, IsRegularTable, FailsFirst};
+ghost use Rattle.regular.specs.Regularity.{IsFirstProjection, projection};
 
 use crate::Fixed;
 use crate::table::is_regular_table;

@@ -1,7 +1,8 @@
 -- The ranges of options.
 use Rattle.std.specs.Prelude.{ℕ, ◌≤◌, IfSome}
 use Rattle.label_field.specs.Limits.{label_limit, weight_limit}
-use Rattle.run_options.specs.Limits.{cap_limit, cycle_limit, greatest_label_cost, greatest_sample, trunc_limit}
+use Rattle.run_options.specs.Limits.{cap_limit, cycle_limit, greatest_label_cost, greatest_sample}
+use Rattle.run_options.specs.Limits.{trunc_limit}
 use Rattle.run_options.specs.declared.options.RestoreOptions.{RestoreOptions}
 use Rattle.run_options.specs.declared.options.StereoOptions.{StereoOptions}
 use Rattle.run_options.specs.declared.options.SegmentOptions.{SegmentOptions}

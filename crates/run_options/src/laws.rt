@@ -1,6 +1,8 @@
 //! A law of the limits. The function does nothing: its contract is the law.
 ghost use Rattle.std.specs.Prelude.{◌≡◌};
-ghost use Rattle.run_options.specs.Limits.{cap_limit, cycle_limit, greatest_data_cost, greatest_label_cost, greatest_sample, greatest_smooth_cost, trunc_limit};
+ghost use Rattle.run_options.specs.Limits.{cap_limit, cycle_limit, greatest_data_cost};
+ghost use Rattle.run_options.specs.Limits.{greatest_label_cost, greatest_sample};
+ghost use Rattle.run_options.specs.Limits.{greatest_smooth_cost, trunc_limit};
 
 use crate::{
     CAP_LIMIT, CYCLE_LIMIT, DATA_LIMIT, LABEL_COST_LIMIT, MAXVAL_LIMIT, SMOOTH_LIMIT, TRUNC_LIMIT,

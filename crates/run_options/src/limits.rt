@@ -1,3 +1,4 @@
+//! The ranges of what an image command is told.
 /// The greatest cost of two labels at the sites of a pair of weight 1. The least is 0.
 pub const SMOOTH_LIMIT: u32 = 10_000;
 

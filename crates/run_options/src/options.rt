@@ -1,7 +1,8 @@
 //! The options of the image commands: one field for each, and the test that all are in their
 //! ranges.
 ghost use Rattle.std.specs.Prelude.{◌↔◌, ◌≤◌, IfSome, IsTrue};
-ghost use Rattle.run_options.specs.Ranges.{AreRestoreOptions, AreRunOptions, AreSegmentOptions, AreStereoOptions};
+ghost use Rattle.run_options.specs.Ranges.{AreRestoreOptions, AreRunOptions, AreSegmentOptions};
+ghost use Rattle.run_options.specs.Ranges.{AreStereoOptions};
 ghost use Rattle.run_options.specs.Limits.{greatest_label_cost};
 
 use crate::{CAP_LIMIT, CYCLE_LIMIT, LABEL_COST_LIMIT, MAXVAL_LIMIT, Shape, TRUNC_LIMIT};

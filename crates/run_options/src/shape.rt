@@ -1,3 +1,4 @@
+//! The smooth costs that go by a name.
 ghost use Rattle.std.specs.Prelude.{◌≡◌, ◌<◌};
 ghost use Rattle.label_field.specs.Limits.{label_limit};
 ghost use Rattle.run_options.specs.Names.{shape_named};

@@ -1,3 +1,4 @@
+//! The table of a named smooth cost.
 ghost use Rattle.std.specs.Prelude.{◌≡◌, ◌<◌, ◌≤◌, ◌++◌, IfOk, OnOk, All};
 ghost use Rattle.label_field.specs.Limits.{label_limit};
 ghost use Rattle.run_options.specs.Limits.{IsSmoothCost, trunc_limit};

@@ -5,9 +5,9 @@ ghost use Rattle.gco_cli.specs.FaultLine.{fault_line};
 ghost use Rattle.gco_cli.specs.declared.fault.Fault.TheVariants.{OutOfMemory};
 ghost use Rattle.gco_cli.specs.Run.{IsSaid};
 
-use crate::ends::say;
 use crate::fault::Fault;
 use crate::fault_line::line_of;
+use crate::run_end::say;
 use byte_streams::Sink;
 use std::io::ErrorKind;
 

@@ -1,7 +1,7 @@
 use Rattle.std.proofs.Common.{◌≡◌, ◌∙◌, ◌++◌, List, ℕ, ap, w64}
 use Rattle.std.proofs.lemmas.Int.{to_z-of_z}
 use Rattle.std.specs.Fmt.{signed_decimal}
-use Rattle.gco_cli.proofs.answers.text_of.Goals as goal
+use Rattle.gco_cli.proofs.energy_text.text_of.Goals as goal
 
 joined : (a b c d e b' v w x y z : List ℕ) → v ≡ a → w ≡ v ++ b → x ≡ w ++ c → y ≡ x ++ d → z ≡ y ++ e → b ≡ b' → z ≡ a ++ b' ++ c ++ d ++ e
 joined a b c d e b' v w x y z p q r s t o = cc

@@ -1,5 +1,5 @@
 use Rattle.std.proofs.Common.{rules}
-use Rattle.gco_cli.proofs.ends.say_end.Goals as goal
+use Rattle.gco_cli.proofs.run_end.say_end.Goals as goal
 
 pub returns-in-Err-Fault-clause-told : goal.returns-in-Err-Fault-clause-told
 returns-in-Err-Fault-clause-told g c = search rules
