@@ -32,7 +32,7 @@ PARTS = [
     (
         "cutting by workers",
         (
-            "rounds", "block_", "laid_blocks", "global_relabel", "worker",
+            "rounds", "label_search", "forks", "block_", "laid_blocks", "global_relabel", "worker",
             "rtrb",
         ),
     ),
