@@ -17,7 +17,7 @@ use Rattle.block_events.proofs.Fitting.{way_fits}
 use Rattle.block_events.proofs.Kept.{effect_kept}
 use Rattle.block_events.proofs.Ways.{way_same}
 use Rattle.block_events.specs.Effects.{BlocksView, state_of, blocks_after_push, blocks_after_send}
-use Rattle.block_core.specs.Mails.{IsHeld, room_at}
+use Rattle.block_core.specs.AllWays.{IsHeld, room_at}
 use Rattle.block_core.proofs.Keeping.{effect_net}
 
 pub pushed_is : (b b' : BlocksView) (ways : List (List (List Message))) (got : ℕ) (x : Direction) (v e a : ℕ) (lane : Lane)

@@ -6,7 +6,7 @@ use Rattle.sums.specs.Sums.{sum_below, count_if}
 use Rattle.sums.proofs.SumLemmas.{sum_below-add, sum_below-same, sum_below-le, sum_below-le-longer, sum_below-swap, sum_below-none, sum_below-pick, sum_by-sum_below, term-le-sum_below, counted-same, counted-zero}
 use Rattle.flow_network.specs.Cut.{nodes}
 use Rattle.block_net.specs.Views.{CellsView, count, room_in}
-use Rattle.block_net.specs.Whole.{Whole, block_at, home, place}
+use Rattle.block_net.specs.Whole.{Whole, block_at, node_block, place}
 use Rattle.laid_blocks.specs.Views.{blocks_in, IsLaid, IsSpot}
 use Rattle.block_core.specs.Pieces.{given_at, given_by}
 use Rattle.laid_blocks.proofs.Opened.{laid_long}
@@ -21,10 +21,10 @@ node_in w b p laid lb lp =
     let v = found.0 in
     let at = found.1 in
     let first = laid.placed.firsts v at.node in
-    let here = ap (slice_index w.firsts) at.home in
-    let away : v - slice_index w.firsts b ≡ p = sym (ap (λ h. v - slice_index w.firsts h) at.home) ∙ at.place in
+    let here = ap (slice_index w.firsts) at.node_block in
+    let away : v - slice_index w.firsts b ≡ p = sym (ap (λ h. v - slice_index w.firsts h) at.node_block) ∙ at.place in
     let is : slice_index w.firsts b + p ≡ v = omega (arith, away, first, here) in
-    rw is record { node = at.node; home = at.home; place = at.place; block = lb }
+    rw is record { node = at.node; node_block = at.node_block; place = at.place; block = lb }
 
 -- what the code reads of a node at its place in a block
 pub record IsReadNode (w : Whole) (b f p : ℕ) (B : CellsView) : Type 0 where
@@ -48,13 +48,13 @@ read_node w b B f p laid lb read first lp rooms =
       fits = rw (first', room) (rooms _ spot.node);
     }
 
-first_le : (w : Whole) (b v : ℕ) → IsLaid w → v < nodes w.net → home w v ≡ b → slice_index w.firsts b ≤ v
-first_le w b v laid lv home = omega (arith, laid.placed.firsts v lv, ap (slice_index w.firsts) home)
+first_le : (w : Whole) (b v : ℕ) → IsLaid w → v < nodes w.net → node_block w v ≡ b → slice_index w.firsts b ≤ v
+first_le w b v laid lv node_block = omega (arith, laid.placed.firsts v lv, ap (slice_index w.firsts) node_block)
 
-before_end : (w : Whole) (b v : ℕ) → IsLaid w → v < nodes w.net → home w v ≡ b → v < slice_index w.firsts b + count (block_at w b)
-before_end w b v laid lv home =
-    let at : place w v ≡ v - slice_index w.firsts b = ap (λ h. v - slice_index w.firsts h) home in
-    omega (arith, at, laid.placed.places v lv, ap (λ h. count (block_at w h)) home, first_le w b v laid lv home)
+before_end : (w : Whole) (b v : ℕ) → IsLaid w → v < nodes w.net → node_block w v ≡ b → v < slice_index w.firsts b + count (block_at w b)
+before_end w b v laid lv node_block =
+    let at : place w v ≡ v - slice_index w.firsts b = ap (λ h. v - slice_index w.firsts h) node_block in
+    omega (arith, at, laid.placed.places v lv, ap (λ h. count (block_at w h)) node_block, first_le w b v laid lv node_block)
 
 -- ---- sums over them
 
@@ -75,12 +75,12 @@ in_two m (suc k) f = ap (λ i. sum_below i f) (add_suc m k) ∙ omega (arith, in
 
 -- a node's share in the sum of a block
 abbrev share : Whole → ℕ → ℕ → ℕ
-share w b v = count_if (eqb (home w v) b) (given_at w v)
+share w b v = count_if (eqb (node_block w v) b) (given_at w v)
 
-share_none : (w : Whole) (b v : ℕ) → (home w v ≡ b → ⊥) → share w b v ≡ 0
-share_none w b v off = counted-zero (eqb (home w v) b) (given_at w v) (λ t. absurd (off (eqb-true (home w v) b t)))
+share_none : (w : Whole) (b v : ℕ) → (node_block w v ≡ b → ⊥) → share w b v ≡ 0
+share_none w b v off = counted-zero (eqb (node_block w v) b) (given_at w v) (λ t. absurd (off (eqb-true (node_block w v) b t)))
 
-share_all : (w : Whole) (b v : ℕ) → home w v ≡ b → share w b v ≡ given_at w v
+share_all : (w : Whole) (b v : ℕ) → node_block w v ≡ b → share w b v ≡ given_at w v
 share_all w b v e = ap (λ q. count_if (eqb q b) (given_at w v)) e ∙ counted-same b (given_at w v)
 
 none_at_all : (w : Whole) (b : ℕ) → IsLaid w → count (block_at w b) ≡ 0 → given_by w b ≡ 0
@@ -100,7 +100,7 @@ in_a_row w b laid lb =
           let rest = rest_none (first + many) (n - (first + many)) (share w b)
           (λ i low high. share_none w b i (λ e. omega (arith, low, before_end w b i laid (omega (arith, high, all)) e))) in
           let before = sum_below-none first (share w b) (λ i li. share_none w b i (λ e. omega (arith, li, first_le w b i laid (omega (arith, li, within)) e))) in
-          let here = sum_below-same many (λ i. share w b (first + i)) g (λ i li. share_all w b (first + i) (node_in w b i laid lb li).home) in
+          let here = sum_below-same many (λ i. share w b (first + i)) g (λ i li. share_all w b (first + i) (node_in w b i laid lb li).node_block) in
           let whole = ap (λ k. sum_below k (share w b)) all in
           omega (arith, whole, rest, before, here, in_two first many (share w b))
       | inr none ↦
@@ -115,7 +115,7 @@ pub all_blocks : (w : Whole) → IsLaid w → sum_below (length w.blocks) (given
 all_blocks w laid =
     sum_below-swap (length w.blocks) (nodes w.net) (λ b v. share w b v)
     ∙ sum_below-same (nodes w.net) (λ v. sum_below (length w.blocks) (λ b. share w b v)) (given_at w) (λ v lv.
-    sum_below-pick (length w.blocks) (home w v) (λ b. given_at w v) (laid.placed.homes v lv))
+    sum_below-pick (length w.blocks) (node_block w v) (λ b. given_at w v) (laid.placed.node_blocks v lv))
 
 sum_is : (xs : List ℕ) → sum xs ≡ sum_below (length xs) (slice_index xs)
 sum_is xs = sum_by-sum_below (λ (n : ℕ). n) xs 0

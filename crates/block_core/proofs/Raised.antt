@@ -7,7 +7,7 @@ use Rattle.block_events.specs.States as core
 use Rattle.block_events.specs.Events.{IsQuiet, Happens, after_raise_all}
 use Rattle.block_events.proofs.Kept.{kept}
 use Rattle.block_events.specs.Effects.{BlocksView, state_of}
-use Rattle.block_core.specs.Mails.{IsHeld}
+use Rattle.block_core.specs.AllWays.{IsHeld}
 use Rattle.block_events.specs.Effects.{blocks_with_known_labels}
 use Rattle.laid_blocks.specs.Raising.{bare}
 

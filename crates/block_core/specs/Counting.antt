@@ -3,7 +3,7 @@ use Rattle.std.specs.Prelude.{◌≡◌, ℕ, ◌+◌, ◌<◌, ◌≤◌, List,
 use Rattle.sums.specs.Sums.{sum_below, count_if}
 use Rattle.block_events.specs.Directions.{forward, backward}
 use Rattle.block_events.specs.Soundness.{joins}
-use Rattle.block_core.specs.Mails.{room_at}
+use Rattle.block_core.specs.AllWays.{room_at}
 use Rattle.block_events.specs.Effects.{BlocksView}
 
 abbrev pub put_room : List (List ℕ) → ℕ → ℕ → ℕ → List (List ℕ)

@@ -1,5 +1,5 @@
 pub mod Compact
-pub mod Mails
+pub mod AllWays
 pub mod Counting
 pub mod Pieces
 pub mod Parts

@@ -3,7 +3,7 @@ use Rattle.std.specs.Prelude.{ℕ, ◌-◌, ◌==◌, slice_index}
 use Rattle.sums.specs.Sums.{sum_below, count_if}
 use Rattle.flow_network.specs.Cut.{nodes}
 use Rattle.block_events.specs.States as core
-use Rattle.block_net.specs.Whole.{Whole, home, whole_of}
+use Rattle.block_net.specs.Whole.{Whole, node_block, whole_of}
 use Rattle.block_core.specs.declared.pieces.Pieces.{Pieces}
 use Rattle.block_events.specs.Effects.{state_of}
 use Rattle.laid_blocks.specs.Views.{blocks_in}
@@ -18,4 +18,4 @@ given_at w v = slice_index w.net.sinks v - slice_index (blocks_in w).rooms v
 
 -- what the nodes of a block gave the sink
 abbrev pub given_by : Whole → ℕ → ℕ
-given_by w b = sum_below (nodes w.net) (λ v. count_if (home w v == b) (given_at w v))
+given_by w b = sum_below (nodes w.net) (λ v. count_if (node_block w v == b) (given_at w v))

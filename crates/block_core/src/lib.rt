@@ -6,14 +6,14 @@
 //! whatever the order of its events.
 #![tactic(auto)]
 
+mod all_ways;
 mod apply;
 mod compact;
-mod mail;
 mod pieces;
 mod rooms;
 mod state;
 
+pub use all_ways::AllWays;
 pub use apply::{Core, NotEnabled};
-pub use mail::Mail;
 pub use pieces::Pieces;
 pub use state::State;

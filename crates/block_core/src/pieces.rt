@@ -3,11 +3,11 @@ ghost use Rattle.std.specs.Prelude.{◌≡◌, ◌+◌, ◌<◌, ◌≤◌, ℕ,
 ghost use Rattle.flow_network.specs.Cut.{nodes};
 ghost use Rattle.block_events.specs.States.{room_of};
 ghost use Rattle.laid_blocks.specs.Views.{blocks_in, IsLaid};
-ghost use Rattle.block_core.specs.Mails.{IsHeld};
+ghost use Rattle.block_core.specs.AllWays.{IsHeld};
 ghost use Rattle.block_net.specs.Whole.{whole_of};
 ghost use Rattle.block_core.specs.Pieces.{state_in, given_by};
 
-use crate::mail::Mail;
+use crate::all_ways::AllWays;
 use crate::state::State;
 use block_net::Parts;
 use flow_network::Net;
@@ -23,7 +23,7 @@ pub struct Pieces {
     /// Its blocks, and where each node and each direction stands in them.
     pub parts: Parts,
     /// The messages on the way.
-    pub ways: Mail,
+    pub ways: AllWays,
     /// What the sink got.
     pub got: u64,
 }

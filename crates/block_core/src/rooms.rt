@@ -3,8 +3,8 @@ ghost use Rattle.std.specs.Prelude.{◌≡◌, ◌+◌, ◌<◌, ◌≤◌, IfOk
 ghost use Rattle.std.specs.Prelude.{slice_index_or, []};
 ghost use Rattle.flow_network.specs.Cut.{nodes};
 ghost use Rattle.block_events.specs.States.{block_of};
-ghost use Rattle.block_net.specs.Split.{homes_made};
-ghost use Rattle.block_core.specs.Mails.{room_at};
+ghost use Rattle.block_net.specs.Split.{node_blocks_made};
+ghost use Rattle.block_core.specs.AllWays.{room_at};
 ghost use Rattle.block_core.specs.Counting.{put_room, IsCounted};
 
 use block_events::Direction;
@@ -27,14 +27,14 @@ impl Model for Rooms {
 }
 
 /// The block of a node, by the list of all.
-fn home_in(blocks: &Blocks, homes: &[u8], v: usize) -> usize
+fn node_block_in(blocks: &Blocks, node_blocks: &[u8], v: usize) -> usize
     requires some { 1 ≤ blocks.now.blocks }
-    requires homes { homes.now ≡ homes_made blocks.now.net blocks.now.blocks }
+    requires node_blocks { node_blocks.now ≡ node_blocks_made blocks.now.net blocks.now.blocks }
     requires node { v < nodes blocks.now.net }
     ensures value { result ≡ block_of blocks.now.net blocks.now.blocks v }
     ensures block { result < blocks.now.blocks }
 {
-    homes[v] as usize
+    node_blocks[v] as usize
 }
 
 impl Rooms {
@@ -90,16 +90,21 @@ impl Rooms {
 
     /// The ways between the blocks of an arc's ends have room for a message of each of its
     /// directions.
-    fn count_arc(&mut self, blocks: &Blocks, homes: &[u8], arc: usize) -> Result<(), AllocError>
+    fn count_arc(
+        &mut self,
+        blocks: &Blocks,
+        node_blocks: &[u8],
+        arc: usize,
+    ) -> Result<(), AllocError>
         requires some { 1 ≤ blocks.now.blocks }
-        requires homes { homes.now ≡ homes_made blocks.now.net blocks.now.blocks }
+        requires node_blocks { node_blocks.now ≡ node_blocks_made blocks.now.net blocks.now.blocks }
         requires arc { arc < length blocks.now.net.arcs }
         requires counted { IsCounted blocks.now arc self.old }
         ensures { OnOk result (IsCounted blocks.now (arc + 1) self.new) }
     {
         let forward = Direction { arc, back: false };
-        let from = home_in(blocks, homes, blocks.near(forward));
-        let to = home_in(blocks, homes, blocks.far(forward));
+        let from = node_block_in(blocks, node_blocks, blocks.near(forward));
+        let to = node_block_in(blocks, node_blocks, blocks.far(forward));
         if from == to {
             return Ok(());
         }
@@ -117,9 +122,9 @@ impl Rooms {
         if blocks.count() == 1 {
             return Ok(rooms);
         }
-        let homes = blocks.homes(alloc)?;
+        let node_blocks = blocks.node_blocks(alloc)?;
         'arcs: for arc in 0..blocks.arcs() {
-            rooms.count_arc(blocks, homes.as_slice(), arc)?;
+            rooms.count_arc(blocks, node_blocks.as_slice(), arc)?;
         }
         Ok(rooms)
     }

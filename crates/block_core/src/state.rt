@@ -1,7 +1,7 @@
 //! Sound states: a net in blocks with the messages between them.
 ghost use Rattle.std.specs.Prelude.{IfOk, length, slice_get, Some, IfSome, IfNone, [], ◌∷◌, drop};
 ghost use Rattle.std.specs.Prelude.{◌≡◌, ◌↔◌, ◌<◌, ◌≤◌, ◌+◌, IsTrue};
-ghost use Rattle.flow_network.specs.Cut.{nodes};
+ghost use Rattle.flow_network.specs.Cut.{nodes, IsNet};
 ghost use Rattle.block_events.specs.declared.message.Message.TheVariants.{Parcel, Accepted};
 ghost use Rattle.block_events.specs.declared.message.Message.TheVariants.{Refused};
 ghost use Rattle.block_events.specs.Directions.{IsDirection, far};
@@ -9,18 +9,19 @@ ghost use Rattle.block_events.specs.States.{IsWay, way_at, excess_of, label_of, 
 ghost use Rattle.block_events.specs.States.{residual_of};
 ghost use Rattle.block_events.specs.States.{known_of, flight_of};
 ghost use Rattle.block_events.specs.Reach.{AreExact};
+ghost use Rattle.block_events.specs.Effects.{opening_blocks};
 ghost use Rattle.block_events.specs.Soundness.{IsSound, opening_state};
 ghost use Rattle.block_events.specs.Events.{Happens, IsActive, IsQuiet, IsEnabled, effect};
 ghost use Rattle.block_net.specs.Limits.{block_limit};
 ghost use Rattle.block_net.specs.Split.{CanSplit};
 ghost use Rattle.laid_blocks.specs.Views.{IsLaid};
 ghost use Rattle.block_core.specs.Calls.{HappensIfEnabled};
-ghost use Rattle.block_core.specs.Mails.{IsHeld};
+ghost use Rattle.block_core.specs.AllWays.{IsHeld};
 ghost use Rattle.block_core.specs.Parts.{IsIn};
 ghost use Rattle.block_net.specs.Whole.{whole_of};
 ghost use Rattle.block_core.specs.Pieces.{state_in};
 
-use crate::mail::Mail;
+use crate::all_ways::AllWays;
 use crate::pieces::Pieces;
 use crate::rooms::Rooms;
 use block_events::{Direction, Event, Flight, Message};
@@ -29,19 +30,20 @@ use flow_network::Net;
 use laid_blocks::{Blocks, copy_of};
 use std::alloc::{AllocError, Global};
 use std::marker::Model;
+use std::thread::Threads;
 
 /// A net in blocks with the messages between them: a sound state of the core.
 #[derive(Drop)]
 pub struct State {
     blocks: Blocks,
-    ways: Mail,
+    ways: AllWays,
     got: u64,
 }
 
 impl Model for State {
     ghost use Rattle.block_events.specs.States as core;
     ghost use Rattle.block_events.specs.Effects.{state_of};
-    ghost use Rattle.block_core.specs.Mails.{IsHeld};
+    ghost use Rattle.block_core.specs.AllWays.{IsHeld};
 
     ghost Value = { core.State };
 
@@ -69,8 +71,54 @@ impl State {
         ensures { IfOk result (λ state. state ≡ opening_state net blocks) }
     {
         let blocks = Blocks::open(alloc, net, blocks)?;
+        let state = State::of_blocks(alloc, blocks)?;
+        Ok(state)
+    }
+
+    /// The state that `open` answers, with its blocks made side by side by at most so many threads
+    /// where the net is large. A thread that the system does not start leaves its blocks to the one
+    /// that asked for it. Refused for the same reason.
+    pub fn open_by<R: Threads + Sync>(
+        rt: &R,
+        alloc: Global,
+        net: &Net,
+        blocks: usize,
+        threads: usize,
+    ) -> Result<State, AllocError>
+        requires split { CanSplit net.now blocks }
+        requires threads { 0 < threads }
+        ensures { IfOk result (λ state. state ≡ opening_state net.now blocks) }
+    {
+        let net = copy_of(alloc, net)?;
+        State::of_net_by(rt, alloc, net, blocks, threads)
+    }
+
+    /// The state that `open_by` answers, of a net that it takes over in place of a copy.
+    pub fn of_net_by<R: Threads + Sync>(
+        rt: &R,
+        alloc: Global,
+        net: Net,
+        blocks: usize,
+        threads: usize,
+    ) -> Result<State, AllocError>
+        requires split { CanSplit net blocks }
+        requires threads { 0 < threads }
+        ensures { IfOk result (λ state. state ≡ opening_state net blocks) }
+    {
+        let blocks = Blocks::open_by(rt, alloc, net, blocks, threads)?;
+        let state = State::of_blocks(alloc, blocks)?;
+        Ok(state)
+    }
+
+    /// The state of blocks at the opening, with room for all messages.
+    fn of_blocks(alloc: Global, blocks: Blocks) -> Result<State, AllocError>
+        requires net { IsNet blocks.net }
+        requires split { CanSplit blocks.net blocks.blocks }
+        requires opening { blocks ≡ opening_blocks blocks.net blocks.blocks }
+        ensures { IfOk result (λ state. state ≡ opening_state blocks.net blocks.blocks) }
+    {
         let rooms = Rooms::count(alloc, &blocks)?;
-        let ways = Mail::open(alloc, &rooms)?;
+        let ways = AllWays::open(alloc, &rooms)?;
         Ok(State {
             blocks,
             ways,
@@ -203,7 +251,7 @@ impl State {
     ghost use Rattle.block_events.specs.declared.event.Event.TheVariants.{PushInner, PushSink};
     ghost use Rattle.block_events.specs.declared.event.Event.TheVariants.{Relabel};
     ghost use Rattle.block_events.specs.declared.event.Event.TheVariants.{Send, Accept, Refuse};
-    ghost use Rattle.block_events.specs.declared.event.Event.TheVariants.{Settle};
+    ghost use Rattle.block_events.specs.declared.event.Event.TheVariants.{EndFlight};
     ghost use Rattle.block_events.specs.declared.event.Event.TheVariants.{RaiseAll};
 
     /// Whether a node has excess and is not cut off.
@@ -275,9 +323,9 @@ impl State {
             return false;
         }
         let near = self.blocks.near(direction);
-        let from = self.blocks.home(near);
+        let from = self.blocks.node_block(near);
         let far = self.blocks.far(direction);
-        let to = self.blocks.home(far);
+        let to = self.blocks.node_block(far);
         let parcel = self.blocks.send(direction);
         self.ways.put(from, to, parcel);
         true
@@ -339,7 +387,7 @@ impl State {
     }
 
     /// The parcel in front of a way is sent back.
-    fn return_parcel(
+    fn refuse_parcel(
         &mut self,
         from: usize,
         to: usize,
@@ -359,18 +407,18 @@ impl State {
     }
 
     /// The answer in front of a way says that a parcel was taken.
-    fn end_flight(&mut self, from: usize, to: usize, direction: Direction, amount: u64)
+    fn deliver_parcel(&mut self, from: usize, to: usize, direction: Direction, amount: u64)
         requires way { IsWay self.old from to }
         requires front { way_at self.old.ways from to
             ≡ Accepted direction amount ∷ drop 1 (way_at self.old.ways from to) }
-        ensures { self.new ≡ effect self.old (Settle from to) }
+        ensures { self.new ≡ effect self.old (EndFlight from to) }
     {
-        self.blocks.settle(direction);
+        self.blocks.deliver_parcel(direction);
         self.ways.take(from, to);
     }
 
     /// The answer in front of a way says that a parcel was not taken.
-    fn take_back(
+    fn return_parcel(
         &mut self,
         from: usize,
         to: usize,
@@ -382,9 +430,9 @@ impl State {
         requires way { IsWay self.old from to }
         requires front { way_at self.old.ways from to
             ≡ Refused direction amount label told ∷ drop 1 (way_at self.old.ways from to) }
-        ensures { self.new ≡ effect self.old (Settle from to) }
+        ensures { self.new ≡ effect self.old (EndFlight from to) }
     {
-        self.blocks.take_back(direction, amount, told);
+        self.blocks.return_parcel(direction, amount, told);
         self.ways.take(from, to);
     }
 
@@ -455,7 +503,7 @@ impl State {
                 if !self.blocks.may_refuse(direction, label) {
                     return false;
                 }
-                self.return_parcel(from, to, direction, amount, label);
+                self.refuse_parcel(from, to, direction, amount, label);
                 true
             }
             _ => false,
@@ -464,12 +512,12 @@ impl State {
 
     /// The answer in front of a way ends its flight; no where that is not enabled, and nothing
     /// changes.
-    fn settle(&mut self, from: usize, to: usize) -> bool
-        ensures { HappensIfEnabled self.old (Settle from to) self.new result }
+    fn end_flight(&mut self, from: usize, to: usize) -> bool
+        ensures { HappensIfEnabled self.old (EndFlight from to) self.new result }
     {
         match self.front(from, to) {
             Some(Message::Accepted { direction, amount }) => {
-                self.end_flight(from, to, direction, amount);
+                self.deliver_parcel(from, to, direction, amount);
                 true
             }
             Some(
@@ -480,7 +528,7 @@ impl State {
                     told,
                 },
             ) => {
-                self.take_back(from, to, direction, amount, label, told);
+                self.return_parcel(from, to, direction, amount, label, told);
                 true
             }
             _ => false,
@@ -501,7 +549,7 @@ impl State {
             Event::Send { direction } => self.send(direction),
             Event::Accept { from, to } => self.accept(from as usize, to as usize),
             Event::Refuse { from, to } => self.refuse(from as usize, to as usize),
-            Event::Settle { from, to } => self.settle(from as usize, to as usize),
+            Event::EndFlight { from, to } => self.end_flight(from as usize, to as usize),
             Event::RaiseAll => self.raise_all(),
         }
     }

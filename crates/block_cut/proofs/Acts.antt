@@ -13,7 +13,7 @@ use Rattle.block_events.proofs.Ends.{far_in}
 use Rattle.block_net.specs.declared.lanes.Border.{Border}
 use Rattle.block_net.specs.Views as block
 use Rattle.block_net.specs.Views.{CellsView, count, excess_in, label_in, room_in, lane_in, border_in, parcel_of, highest}
-use Rattle.block_net.specs.Whole.{Whole, block_at, home, slot, put_block, border_of}
+use Rattle.block_net.specs.Whole.{Whole, block_at, node_block, slot, put_block, border_of}
 use Rattle.block_events.specs.Effects.{BlocksView, state_of, blocks_after_sink_push, blocks_after_relabel}
 use Rattle.laid_blocks.specs.Views.{IsRow}
 use Rattle.laid_blocks.proofs.Allowing.{highest_is}
@@ -55,7 +55,7 @@ give_goes w b h p got seat on =
       event = PushSink u;
       got' = got + a;
       does = (
-        found.1.home,
+        found.1.node_block,
         (active_is w1 v b B at ways got u p found.1 on.0, some, level),
         ap (λ (q : BlocksView). state_of q ways (got + a)) (view_after w b B new (blocks_after_sink_push v u a) then') ∙ ap (events.after_sink_push s u) amount,
       );
@@ -82,7 +82,7 @@ rise_goes w b h p got seat on =
       event = Relabel u;
       got' = got;
       does = (
-        found.1.home,
+        found.1.node_block,
         (active_is w1 v b B at ways got u p found.1 on.0, higher),
         ap (λ (q : BlocksView). state_of q ways got) (view_after w b B new (blocks_after_relabel v u d) then') ∙ ap (events.after_relabel s u) is,
       );
@@ -114,7 +114,7 @@ push_goes w b h p j got seat on =
       event = PushInner x;
       got' = got;
       does = (
-        found.row.home,
+        found.row.node_block,
         (found.row.direction, found.row.outer, active_is w1 v b B at ways got (near v.net x) p found.spot on.0, some, level),
         pushed_is v _ ways got x (near v.net x) (excess_in B p) a (record { residual = (lane_in B j).residual; known = 0; flight = None }) refl
             (excess_read w1 v b B (near v.net x) p at found.spot) lane refl (view_after w b B new _ then'),
@@ -125,7 +125,7 @@ push_goes w b h p j got seat on =
 -- the row of a direction to another block, as its block holds it
 pub border_row : (w : Whole) (v : BlocksView) (b : ℕ) (B : CellsView) (x : Direction) (j : ℕ) → IsAt w v b B → IsRow w x true b j → border_in B j ≡ border_of w x
 border_row w v b B x j at row =
-    sym (ap (λ (q : CellsView). border_in q (slot w x)) (ap (block_at w) row.home ∙ at.is) ∙ ap (border_in B) row.slot)
+    sym (ap (λ (q : CellsView). border_in q (slot w x)) (ap (block_at w) row.node_block ∙ at.is) ∙ ap (border_in B) row.slot)
 
 pub send_goes : (w : Whole) (b : ℕ) (h : TurnView) (p j got : ℕ) → IsSeated w b h.block → steps.IsStepEnabled h.block (steps.Send p j) → Goes w b h (turn_after h (steps.Send p j)) got
 send_goes w b h p j got seat on =
@@ -151,8 +151,8 @@ send_goes w b h p j got seat on =
     let held = border_row w1 v b B x j at found.row in
     let placed = seat.laid.placed.borders x found.row.direction found.row.outer in
     let names : (border_in B j).direction ≡ x = ap (λ (q : Border). q.direction) held ∙ placed.direction in
-    let leads : c ≡ home w1 (far w1.net x) = ap (λ (q : Border). q.to) held ∙ placed.to in
-    let lc : c < n = omega (arith, leads, seat.laid.placed.homes (far w1.net x) (far_in w1.net x seat.laid.net found.row.direction), length-set w.blocks b B) in
+    let leads : c ≡ node_block w1 (far w1.net x) = ap (λ (q : Border). q.to) held ∙ placed.to in
+    let lc : c < n = omega (arith, leads, seat.laid.placed.node_blocks (far w1.net x) (far_in w1.net x seat.laid.net found.row.direction), length-set w.blocks b B) in
     let put = sent_log n b c h.sent h.taken (parcel_of B p j) seat.block lc in
     let message = ap (λ (y : Direction). core.put_message ways b c (Parcel y a (label_in B p))) names in
     let some : 0 < core.residual_of s x = omega (arith, on.2.residual, residual) in
@@ -161,11 +161,11 @@ send_goes w b h p j got seat on =
       event = Send x;
       got' = got;
       does = (
-        found.row.home,
+        found.row.node_block,
         (found.row.direction, found.row.outer, active_is w1 v b B at ways got (near v.net x) p found.spot on.0, some, level, sym flight ∙ on.2.idle),
         sent_is v _ ways _ got x (near v.net x) (far v.net x) (label_in B p) (excess_in B p) a b c
             (record { residual = (border_in B j).residual; known = (border_in B j).known; flight = (border_in B j).flight }) refl refl label
-            (excess_read w1 v b B (near v.net x) p at found.spot) lane refl (sym found.row.home) leads (view_after w b B new _ then') (put ∙ message),
+            (excess_read w1 v b B (near v.net x) p at found.spot) lane refl (sym found.row.node_block) leads (view_after w b B new _ then') (put ∙ message),
       );
       seated = seat_after w b B new _ seat then' (length-set B.excess p _) refl (length-set B.borders j _);
     }

@@ -7,7 +7,7 @@ use Rattle.sums.proofs.SumLemmas.{sum_below-same, sum_below-swap, sum_below-pick
 use Rattle.flow_network.specs.Cut.{nodes}
 use Rattle.block_events.specs.Soundness.{IsSound}
 use Rattle.block_net.specs.Views.{CellsView, count}
-use Rattle.block_net.specs.Whole.{Whole, no_block, block_at, block_with, home, place}
+use Rattle.block_net.specs.Whole.{Whole, no_block, block_at, block_with, node_block, place}
 use Rattle.block_net.proofs.Tables.{length_table, table_at}
 use Rattle.block_events.specs.Effects.{state_of}
 use Rattle.laid_blocks.specs.Views.{IsLaid, blocks_in}
@@ -27,25 +27,25 @@ counted_both a b c d z e f = counted-true (eqb a b) (count_if (eqb c d) z) (eq-e
 module _ (w : Whole) (laid : IsLaid w) (F : ℕ → ℕ → ℕ) where
   -- the number at a place, where the node is at that place
   abbrev there : ℕ → ℕ → ℕ → ℕ
-  there v b p = count_if (eqb (home w v) b) (count_if (eqb (place w v) p) (F b p))
+  there v b p = count_if (eqb (node_block w v) b) (count_if (eqb (place w v) p) (F b p))
 
   -- all places of a block
   abbrev over : ℕ → (ℕ → ℕ) → ℕ
   over b f = sum_below (count (block_at w b)) f
 
-  node_in_block : (v b : ℕ) → v < nodes w.net → over b (there v b) ≡ count_if (eqb (home w v) b) (F b (place w v))
+  node_in_block : (v b : ℕ) → v < nodes w.net → over b (there v b) ≡ count_if (eqb (node_block w v) b) (F b (place w v))
   node_in_block v b lv =
       let at = λ (p : ℕ). count_if (eqb (place w v) p) (F b p) in
-      sym (sum_below-counted (count (block_at w b)) (eqb (home w v) b) at)
-      ∙ counted_same (eqb (home w v) b) (over b at) (F b (place w v)) (λ t.
-      let size = ap (λ c. count (block_at w c)) (eqb-true (home w v) b t) in
+      sym (sum_below-counted (count (block_at w b)) (eqb (node_block w v) b) at)
+      ∙ counted_same (eqb (node_block w v) b) (over b at) (F b (place w v)) (λ t.
+      let size = ap (λ c. count (block_at w c)) (eqb-true (node_block w v) b t) in
       sum_below-pick (count (block_at w b)) (place w v) (F b) (omega (arith, size, laid.placed.places v lv)))
 
-  node_once : (v : ℕ) → v < nodes w.net → F (home w v) (place w v) ≡ sum_below (length w.blocks) (λ b. over b (there v b))
+  node_once : (v : ℕ) → v < nodes w.net → F (node_block w v) (place w v) ≡ sum_below (length w.blocks) (λ b. over b (there v b))
   node_once v lv =
       let n = length w.blocks in
-      sym (sum_below-same n (λ b. over b (there v b)) (λ b. count_if (eqb (home w v) b) (F b (place w v))) (λ b lb. node_in_block v b lv)
-      ∙ sum_below-pick n (home w v) (λ b. F b (place w v)) (laid.placed.homes v lv))
+      sym (sum_below-same n (λ b. over b (there v b)) (λ b. count_if (eqb (node_block w v) b) (F b (place w v))) (λ b lb. node_in_block v b lv)
+      ∙ sum_below-pick n (node_block w v) (λ b. F b (place w v)) (laid.placed.node_blocks v lv))
 
   place_once : (b p : ℕ) → b < length w.blocks → p < count (block_at w b) → sum_below (nodes w.net) (λ v. there v b p) ≡ F b p
   place_once b p lb lp =
@@ -55,22 +55,22 @@ module _ (w : Whole) (laid : IsLaid w) (F : ℕ → ℕ → ℕ) where
       sum_below-same (nodes w.net) (λ v. there v b p) (λ v. count_if (eqb u v) (F b p)) (λ v lv.
       elim (cases_eq v u) [
         | inl e ↦
-            counted_both (home w v) b (place w v) p (F b p) (ap (home w) e ∙ spot.home) (ap (place w) e ∙ spot.place)
+            counted_both (node_block w v) b (place w v) p (F b p) (ap (node_block w) e ∙ spot.node_block) (ap (place w) e ∙ spot.place)
             ∙ sym (counted-true (eqb u v) (F b p) (eq-eqb u v (sym e)))
         | inr off ↦
-            counted-zero (eqb (home w v) b) (count_if (eqb (place w v) p) (F b p)) (λ t.
+            counted-zero (eqb (node_block w v) b) (count_if (eqb (place w v) p) (F b p)) (λ t.
             counted-zero (eqb (place w v) p) (F b p) (λ t'.
-            absurd (off (same_spot w v u b p laid.placed (record { node = lv; home = eqb-true (home w v) b t; place = eqb-true (place w v) p t'; block = lb }) spot))))
+            absurd (off (same_spot w v u b p laid.placed (record { node = lv; node_block = eqb-true (node_block w v) b t; place = eqb-true (place w v) p t'; block = lb }) spot))))
             ∙ sym (counted-other u v (F b p) off)
       ])
       ∙ sum_below-pick (nodes w.net) u (λ v. F b p) spot.node
 
   -- so a sum over all nodes is one over the places of all blocks
-  pub over_places : sum_below (nodes w.net) (λ v. F (home w v) (place w v)) ≡ sum_below (length w.blocks) (λ b. over b (F b))
+  pub over_places : sum_below (nodes w.net) (λ v. F (node_block w v) (place w v)) ≡ sum_below (length w.blocks) (λ b. over b (F b))
   over_places =
       let m = nodes w.net in
       let n = length w.blocks in
-      sum_below-same m (λ v. F (home w v) (place w v)) (λ v. sum_below n (λ b. over b (there v b))) node_once
+      sum_below-same m (λ v. F (node_block w v) (place w v)) (λ v. sum_below n (λ b. over b (there v b))) node_once
       ∙ (sum_below-swap m n (λ v b. over b (there v b))
       ∙ sum_below-same n (λ b. sum_below m (λ v. over b (there v b))) (λ b. over b (F b)) (λ b lb.
       sum_below-swap m (count (block_at w b)) (λ v p. there v b p)

@@ -8,11 +8,11 @@ use Rattle.block_events.specs.States.{way_at, put_way, put_message}
 use Rattle.block_events.specs.Soundness.{IsSquare}
 use Rattle.block_events.proofs.Ways.{square_put, way_same, way_other}
 use Rattle.block_events.proofs.Words.{put_here, put_other}
-use Rattle.block_core.specs.Mails.{MailView, room_at}
+use Rattle.block_core.specs.AllWays.{AllWaysView, room_at}
 use Rattle.block_turns.specs.declared.letter.Letter.{Letter}
 use Rattle.block_turns.specs.Seen.{IsPut, IsTake, add_to}
 use Rattle.block_cut.proofs.Logs.{added, not_added}
-use Rattle.block_cut.specs.Ends.{EndsView, ends_view, first_to, now_to, first_from, now_from, is_other_block, letter_of, seen_by, IsEnds}
+use Rattle.block_cut.specs.WayEnds.{WayEndsView, way_ends_view, first_to, now_to, first_from, now_from, is_other_block, letter_of, seen_by, IsEnds}
 
 -- ---- lists
 
@@ -29,23 +29,23 @@ before all more rest is =
 -- ---- another block
 
 -- the ends with other ways
-abbrev pub with_now : EndsView → MailView → EndsView
-with_now e now = ends_view e.block e.blocks e.first now e.slots e.arcs
+abbrev pub with_now : WayEndsView → AllWaysView → WayEndsView
+with_now e now = way_ends_view e.block e.blocks e.first now e.slots e.arcs
 
-other_below : (e : EndsView) (c : ℕ) → is_other_block e c ≡ true → c < e.blocks
+other_below : (e : WayEndsView) (c : ℕ) → is_other_block e c ≡ true → c < e.blocks
 other_below e c on = ltb-true c e.blocks (and_parts (nat_lt c e.blocks) (not (eqb c e.block)) on).0
 
-other_apart : (e : EndsView) (c : ℕ) → is_other_block e c ≡ true → e.block ≢ c
+other_apart : (e : WayEndsView) (c : ℕ) → is_other_block e c ≡ true → e.block ≢ c
 other_apart e c on same =
     true≢false (sym (eq-eqb c e.block (sym same)) ∙ not-true (eqb c e.block) (and_parts (nat_lt c e.blocks) (not (eqb c e.block)) on).1)
 
-letter_same : (e : EndsView) (now : MailView) (way : List Message) → letter_of (with_now e now) way ≡ letter_of e way
+letter_same : (e : WayEndsView) (now : AllWaysView) (way : List Message) → letter_of (with_now e now) way ≡ letter_of e way
 letter_same e now [] = refl
 letter_same e now (m ∷ rest) = refl
 
 -- ---- after a message was put
 
-module _ (e : EndsView) (now : MailView) (to : ℕ) (m : Message) (kept : IsEnds e) (on : is_other_block e to ≡ true) (is : now.messages ≡ put_message e.now.messages e.block to m) where
+module _ (e : WayEndsView) (now : AllWaysView) (to : ℕ) (m : Message) (kept : IsEnds e) (on : is_other_block e to ≡ true) (is : now.messages ≡ put_message e.now.messages e.block to m) where
   off : e.block ≢ to
   off = other_apart e to on
 
@@ -104,19 +104,19 @@ module _ (e : EndsView) (now : MailView) (to : ℕ) (m : Message) (kept : IsEnds
 -- ---- the letter in front
 
 -- the block is another one, and the letter's message stands in front
-abbrev pub IsFront : EndsView → ℕ → Letter → Type 0
+abbrev pub IsFront : WayEndsView → ℕ → Letter → Type 0
 IsFront e c l = (is_other_block e c ≡ true) × (now_from e c ≡ l.message ∷ drop 1 (now_from e c))
 
 abbrev message_in : Message → Option Letter → Message
 message_in m (Some l) = l.message
 message_in m None = m
 
-in_front : (e : EndsView) (way : List Message) (l : Letter) → letter_of e way ≡ Some l → way ≡ l.message ∷ drop 1 way
+in_front : (e : WayEndsView) (way : List Message) (l : Letter) → letter_of e way ≡ Some l → way ≡ l.message ∷ drop 1 way
 in_front e [] l is = absurd (true≢false (sym (ap is_some is)))
 in_front e (m ∷ rest) l is =
     ap (λ (q : Message). q ∷ rest) (ap (message_in m) is)
 
-pub front_is : (e : EndsView) (c : ℕ) (l : Letter) → (seen_by e).front c ≡ Some l → IsFront e c l
+pub front_is : (e : WayEndsView) (c : ℕ) (l : Letter) → (seen_by e).front c ≡ Some l → IsFront e c l
 front_is e c l is = elim (cases_Bool (is_other_block e c)) [
   | inl on ↦ (on, in_front e (now_from e c) l (sym (ap (λ (t : Bool). cond t (letter_of e (now_from e c)) None) on) ∙ is))
   | inr no' ↦ absurd (true≢false (sym (ap is_some (sym (ap (λ (t : Bool). cond t (letter_of e (now_from e c)) None) no') ∙ is))))
@@ -126,12 +126,12 @@ some_of : (o : Option Letter) → is_some o ≡ true → (l : Letter) × (o ≡ 
 some_of None some = absurd (true≢false (sym some))
 some_of (Some l) some = (l, refl)
 
-pub front_some : (e : EndsView) (c : ℕ) → is_some ((seen_by e).front c) ≡ true → (l : Letter) × IsFront e c l
+pub front_some : (e : WayEndsView) (c : ℕ) → is_some ((seen_by e).front c) ≡ true → (l : Letter) × IsFront e c l
 front_some e c some = let found = some_of ((seen_by e).front c) some in (found.0, front_is e c found.0 found.1)
 
 -- ---- after a message was taken
 
-module _ (e : EndsView) (now : MailView) (from : ℕ) (l : Letter) (kept : IsEnds e) (front : IsFront e from l) (is : now.messages ≡ put_way e.now.messages from e.block (drop 1 (now_from e from))) where
+module _ (e : WayEndsView) (now : AllWaysView) (from : ℕ) (l : Letter) (kept : IsEnds e) (front : IsFront e from l) (is : now.messages ≡ put_way e.now.messages from e.block (drop 1 (now_from e from))) where
   abbrev rest : List Message
   rest = drop 1 (now_from e from)
 

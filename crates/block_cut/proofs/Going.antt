@@ -9,7 +9,7 @@ use Rattle.block_net.specs.Views.{CellsView}
 use Rattle.block_net.specs.Whole.{Whole, no_block, block_at, whole_of, with_blocks}
 use Rattle.block_events.specs.Effects.{state_of}
 use Rattle.laid_blocks.specs.Views.{IsLaid, blocks_in}
-use Rattle.block_core.specs.Mails.{MailView, HasRooms, IsHeld}
+use Rattle.block_core.specs.AllWays.{AllWaysView, HasRooms, IsHeld}
 use Rattle.block_core.specs.declared.pieces.Pieces.{Pieces}
 use Rattle.block_core.specs.Pieces.{state_in}
 use Rattle.block_cut.proofs.Laid.{put_own, seated}
@@ -17,7 +17,7 @@ use Rattle.block_cut.specs.Turns.{ReachesFrom}
 use Rattle.block_cut.specs.Passes.{state_at, IsGoing, IsQuietAndHeld, IsStill}
 use Rattle.block_cut.proofs.Lowering.{none_starts}
 
-pub goes_on : (p : Pieces) (blocks : List CellsView) (before after : MailView) (b n m : ℕ) (new : CellsView)
+pub goes_on : (p : Pieces) (blocks : List CellsView) (before after : AllWaysView) (b n m : ℕ) (new : CellsView)
     → IsGoing p blocks before m → b < length blocks → after.rooms ≡ before.rooms
     → ReachesFrom (length blocks) b n (block_at (with_blocks (whole_of p.net p.parts) blocks) b) new before.messages after.messages
     → IsGoing p (slice_set blocks b new) after (m + n)
@@ -37,7 +37,7 @@ goes_on p blocks before after b n m new going l rooms reaches =
     }
 
 -- less is known of the count
-pub goes_less : (p : Pieces) (blocks : List CellsView) (ways : MailView) (n m : ℕ) → IsGoing p blocks ways n → m ≤ n → IsGoing p blocks ways m
+pub goes_less : (p : Pieces) (blocks : List CellsView) (ways : AllWaysView) (n m : ℕ) → IsGoing p blocks ways n → m ≤ n → IsGoing p blocks ways m
 goes_less p blocks ways n m going l = record {
   got = going.got;
   size = going.size;
@@ -48,7 +48,7 @@ goes_less p blocks ways n m going l = record {
 }
 
 -- the block as the code has it
-pub reaches_at : (p : Pieces) (blocks : List CellsView) (before after : MailView) (k b n : ℕ) (old new : CellsView)
+pub reaches_at : (p : Pieces) (blocks : List CellsView) (before after : AllWaysView) (k b n : ℕ) (old new : CellsView)
     → k ≡ length blocks → b < k → old ≡ slice_index_or blocks b old
     → ReachesFrom k b n old new before.messages after.messages
     → ReachesFrom (length blocks) b n (block_at (with_blocks (whole_of p.net p.parts) blocks) b) new before.messages after.messages
@@ -102,7 +102,7 @@ module _ (p q : Pieces) (net : q.net ≡ p.net) (firsts : q.parts.firsts.items �
           omega (arith, whole, got, going.lower)
 
 -- where nothing was done, the state was finished
-pub still_finished : (p : Pieces) (blocks : List CellsView) (ways : MailView) → IsQuietAndHeld p → length blocks ≡ length p.parts.blocks.items
+pub still_finished : (p : Pieces) (blocks : List CellsView) (ways : AllWaysView) → IsQuietAndHeld p → length blocks ≡ length p.parts.blocks.items
     → IsStill p blocks ways (length blocks) → IsFinished (state_in p)
 still_finished p blocks ways ready size still =
     none_starts (state_in p) ready.held.sound ready.quiet (λ b l. still.none b (omega (arith, l, size)))

@@ -6,7 +6,7 @@ use Rattle.flow_network.specs.Cut.{nodes}
 use Rattle.block_events.specs.Directions.{near}
 use Rattle.block_events.specs.States as core
 use Rattle.block_net.specs.Views.{CellsView, count}
-use Rattle.block_net.specs.Whole.{Whole, no_block, block_at, put_block, home, IsFilled}
+use Rattle.block_net.specs.Whole.{Whole, no_block, block_at, put_block, node_block, IsFilled}
 use Rattle.laid_blocks.specs.Views.{IsLaid}
 use Rattle.laid_blocks.proofs.Writing.{block_same}
 use Rattle.block_cut.specs.Seats.{IsSeated}
@@ -20,8 +20,8 @@ seated w b laid l = record {
   laid = subst IsLaid (sym (put_own w b)) laid;
   block = l;
   labels = laid.filled.labels b l;
-  nodes = λ p lp. let found = laid.filled.nodes b p l lp in (found.0, record { node = found.1.node; home = found.1.home; place = found.1.place; block = l });
-  borders = λ j lj. let found = laid.filled.borders b j l lj in (found.0, record { direction = found.2.direction; outer = found.2.outer; home = found.1; slot = found.2.slot; block = l });
+  nodes = λ p lp. let found = laid.filled.nodes b p l lp in (found.0, record { node = found.1.node; node_block = found.1.node_block; place = found.1.place; block = l });
+  borders = λ j lj. let found = laid.filled.borders b j l lj in (found.0, record { direction = found.2.direction; outer = found.2.outer; node_block = found.1; slot = found.2.slot; block = l });
 }
 
 -- ---- other blocks, each filled where it stands alone among the old ones
@@ -36,8 +36,8 @@ module _ (w : Whole) (blocks : List CellsView) (len : length blocks ≡ length w
   long : (b : ℕ) → length blocks ≡ length (alone b).blocks
   long b = len ∙ sym (length-set w.blocks b (block_at with_blocks b))
 
-  home_same : (b v : ℕ) → home with_blocks v ≡ home (alone b) v
-  home_same b v = ap (λ k. (v * k) / nodes w.net) (long b)
+  node_block_same : (b v : ℕ) → node_block with_blocks v ≡ node_block (alone b) v
+  node_block_same b v = ap (λ k. (v * k) / nodes w.net) (long b)
 
   block_is : (b : ℕ) → b < length blocks → block_at (alone b) b ≡ block_at with_blocks b
   block_is b l = block_same w b (block_at with_blocks b) (omega (arith, l, len))
@@ -50,14 +50,14 @@ module _ (w : Whole) (blocks : List CellsView) (len : length blocks ≡ length w
           found.0,
           record {
             node = found.1.node;
-            home = home_same b found.0 ∙ found.1.home;
-            place = ap (λ h. found.0 - slice_index w.firsts h) (home_same b found.0) ∙ found.1.place;
+            node_block = node_block_same b found.0 ∙ found.1.node_block;
+            place = ap (λ h. found.0 - slice_index w.firsts h) (node_block_same b found.0) ∙ found.1.place;
           },
         );
     borders = λ b j l lj.
         let found = (each b l).borders b j (omega (arith, l, long b)) (subst (λ (q : CellsView). j < length q.borders) (sym (block_is b l)) lj) in (
           found.0,
-          home_same b (near w.net found.0) ∙ found.1,
+          node_block_same b (near w.net found.0) ∙ found.1,
           record {
             direction = found.2.direction;
             near = found.2.near;

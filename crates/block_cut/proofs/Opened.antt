@@ -1,28 +1,29 @@
 -- What the first pushes keep of a block and of the blocks of a net.
-use Rattle.std.proofs.Common.{◌≡◌, ℕ, zero, suc, ◌+◌, ◌-◌, ◌<◌, ◌≤◌, List, length, set, slice_set, slice_index, slice_index_or, sum, refl, sym, ◌∙◌, ap, subst, inl, inr, arith, get_or-set_other}
+use Rattle.std.proofs.Common.{◌≡◌, ◌≢◌, min, ℕ, zero, suc, ◌+◌, ◌-◌, ◌<◌, ◌≤◌, List, length, set, slice_set, slice_index, slice_index_or, sum, refl, sym, ◌∙◌, ap, subst, inl, inr, arith, get_or-set_other}
 use Rattle.std.proofs.lemmas.Bool.{cases_eq}
 use Rattle.std.proofs.lemmas.List.{ext_get_or, length-set, get_or-set_same, get_or_read_under, get_or-replicate}
 use Rattle.flow_network.specs.Cut.{Network, nodes}
 use Rattle.block_events.specs.declared.message.Message.{Message}
 use Rattle.block_events.specs.States.{State, label_of}
+use Rattle.block_events.specs.Events.{IsQuiet}
 use Rattle.block_events.specs.Soundness.{IsSound, opening_state}
 use Rattle.block_net.specs.declared.parts.Parts.{Parts}
 use Rattle.block_net.specs.Views.{CellsView, count, excess_in, label_in, room_in, lane_in, cells_after_push, cells_after_sink_push}
-use Rattle.block_net.specs.Whole.{Whole, no_block, block_at, home, place, whole_of, with_blocks}
+use Rattle.block_net.specs.Whole.{Whole, no_block, block_at, node_block, place, whole_of, with_blocks}
 use Rattle.block_events.specs.Effects.{state_of}
 use Rattle.laid_blocks.specs.Views.{IsLaid, IsSpot, blocks_in}
-use Rattle.block_core.specs.Mails.{HasRooms, IsHeld}
+use Rattle.block_core.specs.AllWays.{HasRooms, IsHeld}
 use Rattle.block_core.specs.declared.pieces.Pieces.{Pieces}
 use Rattle.block_core.specs.Parts.{IsIn}
 use Rattle.block_core.specs.Pieces.{state_in}
-use Rattle.laid_blocks.proofs.Steps.{label_read}
+use Rattle.laid_blocks.proofs.Steps.{excess_read, label_read, room_read}
 use Rattle.laid_blocks.proofs.Writing.{block_same}
 use Rattle.block_turns.specs.Steps.{IsOfNode}
 use Rattle.block_cut.specs.Loose.{IsInPlace}
 use Rattle.block_cut.proofs.Laid.{put_own, seated}
 use Rattle.block_cut.proofs.Loosely.{loose_push_keeps, loose_give_keeps}
 use Rattle.block_cut.specs.Passes.{state_at}
-use Rattle.block_cut.specs.Opening.{IsFlat, AreLabelsZero, Opens, AreOpening}
+use Rattle.block_cut.specs.Opening.{IsFlat, AreLabelsZero, Opens, AreOpening, HaveGiven, AllBlocksGave, AllHaveGiven}
 
 -- ---- one block
 
@@ -60,6 +61,33 @@ pushed_opens B p j a lp of enough fits lf = record {
   labels = refl;
   stands = λ w b ways got flat stands. (got, loose_push_keeps w b B ways got p j a stands lp of enough fits (omega (arith, flat (lane_in B j).far lf)));
 }
+
+-- ---- what the nodes give
+
+pub given_none : (B : CellsView) (v : ℕ) → excess_in B v ≡ 0 → HaveGiven v B → HaveGiven (v + 1) B
+given_none B v none have u lu = elim (cases_eq u v) [
+  | inl e ↦ rw e (omega (arith, none))
+  | inr off ↦ have u (omega (arith, lu, off))
+]
+
+pub given_more : (B : CellsView) (v a : ℕ) → v < count B → v < length B.rooms → a ≡ min (excess_in B v) (room_in B v) → HaveGiven v B → HaveGiven (v + 1) (cells_after_sink_push B v a)
+given_more B v a lv lr ea have u lu = elim (cases_eq u v) [
+  | inl e ↦ rw e (omega (arith, get_or-set_same B.excess v (excess_in B v - a) 0 lv, get_or-set_same B.rooms v (room_in B v - a) 0 lr, ea))
+  | inr off ↦
+      omega (arith, get_or-set_other B.excess v u (excess_in B v - a) 0 off, get_or-set_other B.rooms v u (room_in B v - a) 0 off, have u (omega (arith, lu, off)))
+]
+
+-- a push to a higher node leaves the lower ones as they are
+pub pushed_more : (B : CellsView) (v j a : ℕ) → v < count B → v < (lane_in B j).far → HaveGiven (v + 1) B → HaveGiven (v + 1) (cells_after_push B v j a)
+pushed_more B v j a lv higher have u lu =
+    let w = (lane_in B j).far in
+    let less = set B.excess v (excess_in B v - a) in
+    let off : u ≢ w = λ e. omega (arith, e, lu, higher) in
+    let first = get_or-set_other less w u (slice_index less w + a) 0 off in
+    elim (cases_eq u v) [
+      | inl e ↦ omega (arith, first, ap (slice_index less) e, get_or-set_same B.excess v (excess_in B v - a) 0 lv, ap (excess_in B) e, ap (room_in B) e, have u lu)
+      | inr ne ↦ omega (arith, first, get_or-set_other B.excess v u (excess_in B v - a) 0 ne, have u lu)
+    ]
 
 -- ---- the blocks of a net
 
@@ -145,7 +173,7 @@ module _ (p : Pieces) (old new : List CellsView) (opening : AreOpening p old) (l
 flat_at : (w : Whole) (ways : List (List (List Message))) (got b : ℕ) → IsLaid w → AreLabelsZero (state_of (blocks_in w) ways got) → b < length w.blocks → IsFlat (block_at w b)
 flat_at w ways got b laid zeros l p lp =
     let found = laid.filled.nodes b p l lp in
-    let spot : IsSpot w found.0 b p = record { node = found.1.node; home = found.1.home; place = found.1.place; block = l } in
+    let spot : IsSpot w found.0 b p = record { node = found.1.node; node_block = found.1.node_block; place = found.1.place; block = l } in
     label_read w (blocks_in w) b (block_at w b) found.0 p (record { laid = laid; view = refl; block = l; is = refl }) spot ∙ zeros found.0 found.1.node
 
 pub opening_from : (p : Pieces) (s : State) → state_in p ≡ s → IsLaid (whole_of p.net p.parts) → IsHeld p.ways.rooms s → AreLabelsZero s → AreOpening p p.parts.blocks.items
@@ -161,11 +189,11 @@ opening_from p s is laid held zeros = record {
 pub zeros_of_flat : (s : State) (p : Parts) → IsIn s p → ((b : ℕ) → b < length p.blocks.items → IsFlat (block_at (whole_of s.net p) b)) → AreLabelsZero s
 zeros_of_flat s p is all v l =
     let w = whole_of s.net p in
-    let b = home w v in
-    let lb = is.laid.placed.homes v l in
+    let b = node_block w v in
+    let lb = is.laid.placed.node_blocks v l in
     let here : label_in (block_at w b) (place w v) ≡ label_of s v =
     label_read w (blocks_in w) b (block_at w b) v (place w v) (record { laid = is.laid; view = refl; block = lb; is = refl })
-    (record { node = l; home = refl; place = refl; block = lb })
+    (record { node = l; node_block = refl; place = refl; block = lb })
     ∙ ap (λ (t : State). label_of t v) is.shown in
     omega (arith, here, all b lb (place w v) (is.laid.placed.places v l))
 
@@ -190,3 +218,30 @@ pub held_after : (p q : Pieces) (got : ℕ) → q ≡ record p { parts = record 
 held_after p q got same opening held given' =
     let given'' = subst (λ (z : Pieces). got + sum (state_in z).rooms ≡ sum z.net.sinks) same given' in
     subst (λ (z : Pieces). IsHeld z.ways.rooms (state_in (record z { got = got }))) (sym same) (held_by p q.parts.blocks.items got opening held given'')
+
+pub quiet_after : (p q : Pieces) (got : ℕ) → q ≡ record p { parts = record p.parts { blocks = q.parts.blocks } } → AreOpening p q.parts.blocks.items → IsQuiet (state_in p)
+    → IsQuiet (state_in (record q { got = got }))
+quiet_after p q got same opening quiet =
+    subst (λ (z : Pieces). IsQuiet (state_in (record z { got = got }))) (sym same)
+    (λ b c lb lc. quiet b c (omega (arith, lb, opening.size)) (omega (arith, lc, opening.size)))
+
+pub gave_after : (p q : Pieces) (got : ℕ) → q ≡ record p { parts = record p.parts { blocks = q.parts.blocks } } → AreOpening p q.parts.blocks.items → AllBlocksGave q.parts.blocks.items
+    → AllHaveGiven (state_in (record q { got = got }))
+gave_after p q got same opening gave v l =
+    let w = whole_of q.net q.parts in
+    let laid : IsLaid w = subst (λ (z : Pieces). IsLaid (whole_of z.net z.parts)) (sym same) opening.laid in
+    let b = node_block w v in
+    let lb = laid.placed.node_blocks v l in
+    let spot : IsSpot w v b (place w v) = record { node = l; node_block = refl; place = refl; block = lb } in
+    let excess = excess_read w (blocks_in w) b (block_at w b) v (place w v) (record { laid = laid; view = refl; block = lb; is = refl }) spot in
+    let room = room_read w (blocks_in w) b (block_at w b) v (place w v) (record { laid = laid; view = refl; block = lb; is = refl }) spot in
+    omega (arith, excess, room, gave b lb (place w v) (laid.placed.places v l))
+
+-- labels that stay the same are 0 as before
+pub zeros_again : (s t : State) → t.net ≡ s.net → t.labels ≡ s.labels → AreLabelsZero s → AreLabelsZero t
+zeros_again s t net labels zeros v l =
+    ap (λ (q : List ℕ). slice_index q v) labels ∙ zeros v (omega (arith, l, ap (λ (n : Network). nodes n) net))
+
+-- where all labels are 0, those of each block are
+pub flat_of_zeros : (s : State) (p : Parts) (b : ℕ) → IsIn s p → AreLabelsZero s → b < length p.blocks.items → IsFlat (block_at (whole_of s.net p) b)
+flat_of_zeros s p b is zeros l = flat_at (whole_of s.net p) s.ways s.got b is.laid (subst AreLabelsZero (sym is.shown) zeros) l

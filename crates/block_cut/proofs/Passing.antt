@@ -8,11 +8,11 @@ use Rattle.block_events.specs.States.{State}
 use Rattle.block_events.specs.Soundness.{IsFinished, potential}
 use Rattle.block_net.specs.Views.{CellsView}
 use Rattle.block_net.specs.Whole.{no_block, block_at, whole_of, with_blocks}
-use Rattle.block_core.specs.Mails.{MailView}
+use Rattle.block_core.specs.AllWays.{AllWaysView}
 use Rattle.block_core.specs.declared.pieces.Pieces.{Pieces}
 use Rattle.block_core.specs.Pieces.{state_in}
 use Rattle.block_turns.specs.Steps.{Step, IsSure}
-use Rattle.block_cut.specs.Ends.{ends_view, seen_by}
+use Rattle.block_cut.specs.WayEnds.{way_ends_view, seen_by}
 use Rattle.block_cut.specs.Turns.{ReachesFrom}
 use Rattle.block_cut.specs.Passes.{IsGoing, IsQuietAndHeld, IsStill}
 use Rattle.block_cut.proofs.Going.{goes_on, goes_less, reaches_at}
@@ -34,17 +34,17 @@ neither false n is = elim (cases_lt 0 n) [
   | inr h ↦ (refl, omega (arith, h))
 ]
 
-module _ (p : Pieces) (blocks0 blocks : List CellsView) (ways0 before after : MailView) (k b events : ℕ) (old new : CellsView) (some : Bool) (size : k ≡ length blocks) (lb : b < k) (is : old ≡ slice_index_or blocks b old) (reaches : ReachesFrom k b events old new before.messages after.messages) where
+module _ (p : Pieces) (blocks0 blocks : List CellsView) (ways0 before after : AllWaysView) (k b events : ℕ) (old new : CellsView) (some : Bool) (size : k ≡ length blocks) (lb : b < k) (is : old ≡ slice_index_or blocks b old) (reaches : ReachesFrom k b events old new before.messages after.messages) where
   reached : ReachesFrom (length blocks) b events (block_at (with_blocks (whole_of p.net p.parts) blocks) b) new before.messages after.messages
   reached = reaches_at p blocks before after k b events old new size lb is reaches
 
   -- no step of the block, as the whole has it, is sure where the turn did no event
-  none_sure : (slots : List ℕ) (arcs : ℕ) → ((e : Step) → IsSure old (seen_by (ends_view b k before before slots arcs)) e → 0 < events) → events ≡ 0
-      → (e : Step) → ¬ IsSure (block_at (with_blocks (whole_of p.net p.parts) blocks) b) (seen_by (ends_view b (length blocks) before before slots arcs)) e
+  none_sure : (slots : List ℕ) (arcs : ℕ) → ((e : Step) → IsSure old (seen_by (way_ends_view b k before before slots arcs)) e → 0 < events) → events ≡ 0
+      → (e : Step) → ¬ IsSure (block_at (with_blocks (whole_of p.net p.parts) blocks) b) (seen_by (way_ends_view b (length blocks) before before slots arcs)) e
   none_sure slots arcs sure none e = λ on.
       let at : old ≡ block_at (with_blocks (whole_of p.net p.parts) blocks) b = get_or_read_under blocks b k old no_block is lb size in
-      let on' = subst (λ (q : CellsView). IsSure q (seen_by (ends_view b (length blocks) before before slots arcs)) e) (sym at) on in
-      let some = sure e (subst (λ n. IsSure old (seen_by (ends_view b n before before slots arcs)) e) (sym size) on') in
+      let on' = subst (λ (q : CellsView). IsSure q (seen_by (way_ends_view b (length blocks) before before slots arcs)) e) (sym at) on in
+      let some = sure e (subst (λ n. IsSure old (seen_by (way_ends_view b n before before slots arcs)) e) (sym size) on') in
       absurd (omega (arith, some, none))
 
   pub turn_goes : after.rooms ≡ before.rooms → ((n : ℕ) → IsGoing p blocks0 ways0 n → IsGoing p blocks before (n + count_if some 1))
@@ -53,7 +53,7 @@ module _ (p : Pieces) (blocks0 blocks : List CellsView) (ways0 before after : Ma
       let now = goes_on p blocks before after b events (n + count_if some 1) new (was n from) (omega (arith, lb, size)) rooms reached in
       goes_less p (slice_set blocks b new) after _ _ now (omega (arith, counted_or some events))
 
-  pub turn_still : (m : ℕ) → IsQuietAndHeld p → IsGoing p blocks before m → (slots : List ℕ) (arcs : ℕ) → ((e : Step) → IsSure old (seen_by (ends_view b k before before slots arcs)) e → 0 < events)
+  pub turn_still : (m : ℕ) → IsQuietAndHeld p → IsGoing p blocks before m → (slots : List ℕ) (arcs : ℕ) → ((e : Step) → IsSure old (seen_by (way_ends_view b k before before slots arcs)) e → 0 < events)
       → (IsFalse some → IsStill p blocks0 ways0 0 → IsStill p blocks before b) → IsFalse (some || nat_lt 0 events) → IsStill p blocks0 ways0 0 → IsStill p (slice_set blocks b new) after (b + 1)
   turn_still m ready going slots arcs sure was off from =
       let both = neither some events off in
@@ -65,7 +65,7 @@ module _ (p : Pieces) (blocks0 blocks : List CellsView) (ways0 before after : Ma
 -- ---- the whole work
 
 -- the count fell, where the state was not finished
-pub work_done : (p : Pieces) (blocks : List CellsView) (ways : MailView) (s t : State) (r : Bool) → s ≡ state_in p → IsGoing p blocks ways (count_if r 1)
+pub work_done : (p : Pieces) (blocks : List CellsView) (ways : AllWaysView) (s t : State) (r : Bool) → s ≡ state_in p → IsGoing p blocks ways (count_if r 1)
     → ((n : ℕ) → IsGoing p blocks ways n → potential t + n ≤ potential (state_in p)) → (IsFalse r → IsFinished (state_in p)) → ¬ IsFinished s
     → potential t < potential s
 work_done p blocks ways s t true is going lower still unfinished = omega (arith, lower 1 going, ap potential is)

@@ -7,7 +7,7 @@ use Rattle.block_events.proofs.Fitting.{way_fits}
 use Rattle.block_events.proofs.Quiet.{quiet_empty}
 use Rattle.block_net.specs.Views.{CellsView}
 use Rattle.block_net.specs.Whole.{Whole}
-use Rattle.block_core.specs.Mails.{HasRooms, IsHeld, room_at}
+use Rattle.block_core.specs.AllWays.{HasRooms, IsHeld, room_at}
 use Rattle.block_events.specs.Effects.{state_of}
 use Rattle.laid_blocks.specs.Views.{blocks_in}
 use Rattle.block_cut.specs.Rounds.{Ways, IsRoundOfTurns, quiet_state, state_after}

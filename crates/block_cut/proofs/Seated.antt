@@ -10,7 +10,7 @@ use Rattle.block_events.specs.States as core
 use Rattle.block_events.specs.Events as events
 use Rattle.block_events.specs.Workers.{DoesOwn}
 use Rattle.block_net.specs.Views.{CellsView, count}
-use Rattle.block_net.specs.Whole.{Whole, block_at, block_with, home, place, StandsAt, put_block}
+use Rattle.block_net.specs.Whole.{Whole, block_at, block_with, node_block, place, StandsAt, put_block}
 use Rattle.block_events.specs.Effects.{BlocksView, state_of}
 use Rattle.laid_blocks.specs.Views.{blocks_in, IsSpot, IsRow}
 use Rattle.laid_blocks.proofs.Writing.{spot_put, row_put, block_same}
@@ -77,8 +77,8 @@ pub record IsFound (w : Whole) (v : BlocksView) (b : ℕ) (leaves : Bool) (u p j
 
 module _ (w : Whole) (v : BlocksView) (b : ℕ) (B : CellsView) (at : IsAt w v b B) (ways : List (List (List Message))) (got : ℕ) where
   -- the node's block
-  pub home_is : (u p : ℕ) → IsSpot w u b p → core.block_of v.net v.blocks u ≡ b
-  home_is u p spot = ap (λ (q : BlocksView). core.block_of q.net q.blocks u) (sym at.view) ∙ spot.home
+  pub node_block_is : (u p : ℕ) → IsSpot w u b p → core.block_of v.net v.blocks u ≡ b
+  node_block_is u p spot = ap (λ (q : BlocksView). core.block_of q.net q.blocks u) (sym at.view) ∙ spot.node_block
 
   -- a node that is active in its block is active
   pub active_is : (u p : ℕ) → IsSpot w u b p → standing.IsActiveInBlock B p → events.IsActive (state_of v ways got) u
@@ -89,7 +89,7 @@ module _ (w : Whole) (v : BlocksView) (b : ℕ) (B : CellsView) (at : IsAt w v b
   }
 
   pub with_is : (u p : ℕ) → IsSpot w u b p → block_with w u ≡ B
-  with_is u p spot = ap (block_at w) spot.home ∙ at.is
+  with_is u p spot = ap (block_at w) spot.node_block ∙ at.is
 
   pub read_at : (u p : ℕ) (f : CellsView → List ℕ) (g : ℕ → ℕ) → IsSpot w u b p → slice_index (f (block_with w u)) (g (place w u)) ≡ slice_index (f B) (g p)
   read_at u p f g spot = ap (λ q. slice_index (f (block_with w u)) (g q)) spot.place ∙ ap (λ (q : CellsView). slice_index (f q) (g p)) (with_is u p spot)
@@ -98,7 +98,7 @@ module _ (w : Whole) (v : BlocksView) (b : ℕ) (B : CellsView) (at : IsAt w v b
   row_of leaves u p j x spot stands = record {
     direction = stands.direction;
     outer = stands.outer;
-    home = ap (home w) stands.near ∙ spot.home;
+    node_block = ap (node_block w) stands.near ∙ spot.node_block;
     slot = stands.slot;
     block = spot.block;
   }

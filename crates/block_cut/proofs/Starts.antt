@@ -5,7 +5,7 @@ use Rattle.block_events.specs.declared.lane.Lane.{Lane}
 use Rattle.block_events.specs.declared.direction.Direction.{Direction}
 use Rattle.block_events.specs.declared.message.Message.{Message}
 use Rattle.block_events.specs.declared.event.Event.{Event}
-use Rattle.block_events.specs.declared.event.Event.TheVariants.{PushInner, PushSink, Relabel, Send, Accept, Refuse, Settle, RaiseAll}
+use Rattle.block_events.specs.declared.event.Event.TheVariants.{PushInner, PushSink, Relabel, Send, Accept, Refuse, EndFlight, RaiseAll}
 use Rattle.block_events.specs.Directions.{near, far}
 use Rattle.block_events.specs.States as core
 use Rattle.block_events.specs.Events as events
@@ -29,7 +29,7 @@ node_spot : (w : Whole) (b : ℕ) (B : CellsView) (ways : List (List (List Messa
     → events.IsActive (state_of (view_with w b B) ways got) u → IsSpot (put_block w b B) u b (place (put_block w b B) u)
 node_spot w b B ways got u seat here active = record {
   node = active.node;
-  home = here;
+  node_block = here;
   place = refl;
   block = omega (arith, seat.block, length-set w.blocks b B);
 }
@@ -55,7 +55,7 @@ start_push w b got h x seat may =
     let p = place w1 u in
     let j = slot w1 x in
     let spot = node_spot w b B ways got u seat may.0 on.2 in
-    let row : IsRow w1 x false b j = record { direction = on.0; outer = on.1; home = may.0; slot = refl; block = spot.block } in
+    let row : IsRow w1 x false b j = record { direction = on.0; outer = on.1; node_block = may.0; slot = refl; block = spot.block } in
     let stands = at.laid.placed.inner x on.0 on.1 in
     let residual = ap (λ (q : Lane). q.residual) (inner_read w1 v b B x j at row) in
     let label = label_read w1 v b B u p at spot in
@@ -113,7 +113,7 @@ start_send w b got h x s seat room may =
     let p = place w1 u in
     let j = slot w1 x in
     let spot = node_spot w b B ways got u seat may.0 on.2 in
-    let row : IsRow w1 x true b j = record { direction = on.0; outer = on.1; home = may.0; slot = refl; block = spot.block } in
+    let row : IsRow w1 x true b j = record { direction = on.0; outer = on.1; node_block = may.0; slot = refl; block = spot.block } in
     let stands = at.laid.placed.borders x on.0 on.1 in
     let lane = border_read w1 v b B x j at row in
     let residual = ap (λ (q : Lane). q.residual) lane in
@@ -140,5 +140,5 @@ start_is_step w b got h s (Relabel u) seat room may = let found = start_rise w b
 start_is_step w b got h s (Send x) seat room may = start_send w b got h x s seat room may
 start_is_step w b got h s (Accept c to) seat room may = absurd may
 start_is_step w b got h s (Refuse c to) seat room may = absurd may
-start_is_step w b got h s (Settle c to) seat room may = absurd may
+start_is_step w b got h s (EndFlight c to) seat room may = absurd may
 start_is_step w b got h s RaiseAll seat room may = absurd may.0

@@ -7,7 +7,7 @@ use Rattle.sums.proofs.SumLemmas.{term-le-sum_below, counted-true}
 use Rattle.flow_network.specs.Cut.{Network}
 use Rattle.block_events.specs.declared.direction.Direction.{Direction}
 use Rattle.block_events.specs.declared.event.Event.{Event}
-use Rattle.block_events.specs.declared.event.Event.TheVariants.{PushInner, PushSink, Relabel, Send, Accept, Refuse, Settle, RaiseAll}
+use Rattle.block_events.specs.declared.event.Event.TheVariants.{PushInner, PushSink, Relabel, Send, Accept, Refuse, EndFlight, RaiseAll}
 use Rattle.block_events.specs.declared.message.Message.{Message}
 use Rattle.block_events.specs.Directions.{IsDirection, forward, backward, far, over_directions}
 use Rattle.block_events.specs.States.{State, way_at, near_block, far_block}
@@ -16,10 +16,10 @@ use Rattle.block_events.specs.Events.{IsActive, IsRunOfEvents}
 use Rattle.block_events.proofs.Ends.{far_in, block_in}
 use Rattle.block_events.specs.Workers.{MayStart}
 use Rattle.block_net.specs.Views.{CellsView, border_in}
-use Rattle.block_net.specs.Whole.{Whole, block_at, home, whole_of, with_blocks}
+use Rattle.block_net.specs.Whole.{Whole, block_at, node_block, whole_of, with_blocks}
 use Rattle.block_events.specs.Effects.{BlocksView, state_of}
 use Rattle.laid_blocks.specs.Views.{IsLaid, blocks_in}
-use Rattle.block_core.specs.Mails.{MailView, HasRooms, room_at}
+use Rattle.block_core.specs.AllWays.{AllWaysView, HasRooms, room_at}
 use Rattle.block_core.specs.declared.pieces.Pieces.{Pieces}
 use Rattle.block_core.specs.Pieces.{state_in}
 use Rattle.block_turns.specs.Steps.{Step, IsSure, turn_view}
@@ -27,7 +27,7 @@ use Rattle.block_cut.specs.TurnEvents.{HasRoom}
 use Rattle.block_cut.specs.Seats.{logs_of}
 use Rattle.block_cut.proofs.Laid.{put_own, seated}
 use Rattle.block_cut.proofs.Starts.{start_is_step}
-use Rattle.block_cut.specs.Ends.{is_other_block, ends_view, seen_by}
+use Rattle.block_cut.specs.WayEnds.{is_other_block, way_ends_view, seen_by}
 use Rattle.block_cut.specs.Turns.{ReachesFrom}
 use Rattle.block_cut.specs.Passes.{state_at, IsGoing, IsQuietAndHeld, IsStill}
 
@@ -50,17 +50,17 @@ room_along net blocks x b c is near far =
     omega (arith, at, one)
 
 -- in a quiet state room is seen for a message to each block that a direction leads to
-has_room : (w : Whole) (b : ℕ) (ways : MailView) (slots : List ℕ) (arcs : ℕ) → IsLaid w → b < length w.blocks → ((c : ℕ) → c < length w.blocks → way_at ways.messages b c ≡ [])
-    → HasRooms w.net (length w.blocks) ways.rooms → HasRoom (block_at w b) (seen_by (ends_view b (length w.blocks) ways ways slots arcs))
+has_room : (w : Whole) (b : ℕ) (ways : AllWaysView) (slots : List ℕ) (arcs : ℕ) → IsLaid w → b < length w.blocks → ((c : ℕ) → c < length w.blocks → way_at ways.messages b c ≡ [])
+    → HasRooms w.net (length w.blocks) ways.rooms → HasRoom (block_at w b) (seen_by (way_ends_view b (length w.blocks) ways ways slots arcs))
 has_room w b ways slots arcs laid lb quiet rooms = λ j lj.
     let n = length w.blocks in
-    let e = ends_view b n ways ways slots arcs in
+    let e = way_ends_view b n ways ways slots arcs in
     let found = laid.filled.borders b j lb lj in
     let x = found.0 in
     let stands = found.2 in
     let c = (border_in (block_at w b) j).to in
-    let far_home = home w (far w.net x) in
-    let to : c ≡ far_home =
+    let far_node_block = node_block w (far w.net x) in
+    let to : c ≡ far_node_block =
     sym (ap (λ k. (border_in (block_at w k) j).to) found.1)
     ∙ (sym (ap (λ i. (border_in (block_at w (near_block w.net n x)) i).to) stands.slot) ∙ (laid.placed.borders x stands.direction stands.outer).to) in
     let below : c < n = omega (arith, to, block_in w.net n (far w.net x) (far_in w.net x laid.net stands.direction) laid.some) in
@@ -89,7 +89,7 @@ may_with v b ways ways' got got' (Relabel u) may = (may.0, (active_with v ways w
 may_with v b ways ways' got got' (Send x) may = (may.0, (may.1.0, may.1.1, active_with v ways ways' got got' _ may.1.2, may.1.3, may.1.4, may.1.5))
 may_with v b ways ways' got got' (Accept c to) may = absurd may
 may_with v b ways ways' got got' (Refuse c to) may = absurd may
-may_with v b ways ways' got got' (Settle c to) may = absurd may
+may_with v b ways ways' got got' (EndFlight c to) may = absurd may
 may_with v b ways ways' got got' RaiseAll may = absurd may.0
 
 -- no events change nothing
@@ -99,12 +99,12 @@ no_events s t (e ∷ es) none run = absurd (omega (arith, none))
 
 -- ---- a turn that does nothing
 
-module _ (p : Pieces) (blocks : List CellsView) (before : MailView) (b m : ℕ) (ready : IsQuietAndHeld p) (going : IsGoing p blocks before m) (lb : b < length blocks) (still : IsStill p blocks before b) where
+module _ (p : Pieces) (blocks : List CellsView) (before : AllWaysView) (b m : ℕ) (ready : IsQuietAndHeld p) (going : IsGoing p blocks before m) (lb : b < length blocks) (still : IsStill p blocks before b) where
   abbrev w : Whole
   w = with_blocks (whole_of p.net p.parts) blocks
 
   -- the state is as it was
-  same_after : (after : MailView) (new : CellsView) → ReachesFrom (length blocks) b 0 (block_at w b) new before.messages after.messages → state_at p (slice_set blocks b new) after.messages p.got ≡ state_in p
+  same_after : (after : AllWaysView) (new : CellsView) → ReachesFrom (length blocks) b 0 (block_at w b) new before.messages after.messages → state_at p (slice_set blocks b new) after.messages p.got ≡ state_in p
   same_after after new reaches =
       let own = put_own w b in
       let sound = subst (λ (q : Whole). IsSound (state_of (blocks_in q) before.messages p.got)) (sym own) (subst IsSound (sym still.same) ready.held.sound) in
@@ -124,9 +124,9 @@ module _ (p : Pieces) (blocks : List CellsView) (before : MailView) (b m : ℕ) 
       (subst (HasRooms p.net (length p.parts.blocks.items)) (sym going.rooms) ready.held.room)
 
   -- the block may start nothing where no step of it is sure
-  none_of : (slots : List ℕ) (arcs : ℕ) → ((e : Step) → ¬ IsSure (block_at w b) (seen_by (ends_view b (length blocks) before before slots arcs)) e) → (e : Event) → ¬ MayStart b (state_in p) e
+  none_of : (slots : List ℕ) (arcs : ℕ) → ((e : Step) → ¬ IsSure (block_at w b) (seen_by (way_ends_view b (length blocks) before before slots arcs)) e) → (e : Event) → ¬ MayStart b (state_in p) e
   none_of slots arcs none e = λ may.
-      let seen = seen_by (ends_view b (length blocks) before before slots arcs) in
+      let seen = seen_by (way_ends_view b (length blocks) before before slots arcs) in
       let h = turn_view (block_at w b) seen in
       let now : MayStart b (state_at p blocks before.messages p.got) e = subst (λ (s : State). MayStart b s e) (sym still.same) may in
       let logs = logs_of (length blocks) b h.sent h.taken in
@@ -134,8 +134,8 @@ module _ (p : Pieces) (blocks : List CellsView) (before : MailView) (b m : ℕ) 
       let found = start_is_step w b p.got h seen e (seated w b going.laid lb) (has_room w b before slots arcs going.laid lb quiet_to rooms_are) shown in
       none found.0 found.1
 
-  pub still_on : (after : MailView) (slots : List ℕ) (arcs : ℕ) (new : CellsView) → ReachesFrom (length blocks) b 0 (block_at w b) new before.messages after.messages
-      → ((e : Step) → ¬ IsSure (block_at w b) (seen_by (ends_view b (length blocks) before before slots arcs)) e)
+  pub still_on : (after : AllWaysView) (slots : List ℕ) (arcs : ℕ) (new : CellsView) → ReachesFrom (length blocks) b 0 (block_at w b) new before.messages after.messages
+      → ((e : Step) → ¬ IsSure (block_at w b) (seen_by (way_ends_view b (length blocks) before before slots arcs)) e)
       → IsStill p (slice_set blocks b new) after (b + 1)
   still_on after slots arcs new reaches none = record {
     same = same_after after new reaches;

@@ -7,7 +7,7 @@ use Rattle.block_events.specs.declared.lane.Lane.{Lane}
 use Rattle.block_events.specs.declared.direction.Direction.{Direction}
 use Rattle.block_events.specs.declared.message.Message.{Message}
 use Rattle.block_events.specs.declared.message.Message.TheVariants.{Parcel, Accepted, Refused}
-use Rattle.block_events.specs.declared.event.Event.TheVariants.{Accept, Refuse, Settle}
+use Rattle.block_events.specs.declared.event.Event.TheVariants.{Accept, Refuse, EndFlight}
 use Rattle.block_events.specs.Directions.{far, opposite}
 use Rattle.block_events.specs.States as core
 use Rattle.block_events.specs.Soundness.{amount_out}
@@ -17,14 +17,14 @@ use Rattle.block_events.specs.Workers.{IsBetween}
 use Rattle.block_net.specs.declared.lanes.Border.{Border}
 use Rattle.block_net.specs.Views as block
 use Rattle.block_net.specs.Views.{CellsView, label_in, border_in}
-use Rattle.block_net.specs.Whole.{Whole, home, put_block}
-use Rattle.block_events.specs.Effects.{BlocksView, state_of, blocks_after_accept, blocks_after_settle, blocks_after_return}
+use Rattle.block_net.specs.Whole.{Whole, node_block, put_block}
+use Rattle.block_events.specs.Effects.{BlocksView, state_of, blocks_after_accept, blocks_after_delivery, blocks_after_return}
 use Rattle.laid_blocks.specs.Views.{IsRow}
 use Rattle.block_core.proofs.Effects.{border_apart}
-use Rattle.laid_blocks.proofs.Steps.{label_read, top_read, border_read, border_capacity, border_spot, back_spot, out_same, accepted_at, settled_at, returned_at}
+use Rattle.laid_blocks.proofs.Steps.{label_read, top_read, border_read, border_capacity, border_spot, back_spot, out_same, accepted_at, delivered_at, returned_at}
 use Rattle.block_turns.specs.Seen.{add_to}
 use Rattle.block_turns.specs.Steps as steps
-use Rattle.block_turns.specs.Steps.{TurnView, turn_after_accept, turn_after_refuse, turn_after_settle}
+use Rattle.block_turns.specs.Steps.{TurnView, turn_after_accept, turn_after_refuse, turn_after_end_flight}
 use Rattle.block_cut.specs.Seats.{IsSeated, logs_of}
 use Rattle.block_cut.proofs.Logs.{sent_log, taken_log}
 use Rattle.block_cut.proofs.Seated.{view_with, at_seat, border_seat, Goes, view_after, seat_after}
@@ -47,13 +47,13 @@ met w b c B j y seat from is =
     let held = border_row w1 v b B z j at found.1 in
     let placed = seat.laid.placed.borders z found.1.direction found.1.outer in
     let names : z ≡ y = sym (ap (λ (q : Border). q.direction) held ∙ placed.direction) ∙ is in
-    let leads : c ≡ home w1 (far w1.net z) = sym from.to ∙ (ap (λ (q : Border). q.to) held ∙ placed.to) in
-    let between : IsBetween w.net v.blocks z b c = record { direction = found.1.direction; border = found.1.outer; near = found.1.home; far = sym leads } in
+    let leads : c ≡ node_block w1 (far w1.net z) = sym from.to ∙ (ap (λ (q : Border). q.to) held ∙ placed.to) in
+    let between : IsBetween w.net v.blocks z b c = record { direction = found.1.direction; border = found.1.outer; near = found.1.node_block; far = sym leads } in
     record {
       row = subst (λ q. IsRow w1 q true b j) names found.1;
       between = subst (λ q. IsBetween w.net v.blocks q b c) names between;
-      other = omega (arith, leads, seat.laid.placed.homes (far w1.net z) (far_in w1.net z seat.laid.net found.1.direction), length-set w.blocks b B);
-      apart = λ e. border_apart (state_of v [] 0) z found.1.outer (found.1.home ∙ (sym e ∙ leads));
+      other = omega (arith, leads, seat.laid.placed.node_blocks (far w1.net z) (far_in w1.net z seat.laid.net found.1.direction), length-set w.blocks b B);
+      apart = λ e. border_apart (state_of v [] 0) z found.1.outer (found.1.node_block ∙ (sym e ∙ leads));
     }
 
 -- the same, seen from the other block
@@ -145,32 +145,32 @@ refuse_goes w b h c j got (Parcel x a d) seat may =
 refuse_goes w b h c j got (Accepted x a) seat may = absurd may
 refuse_goes w b h c j got (Refused x a d told) seat may = absurd may
 
-pub settle_goes : (w : Whole) (b : ℕ) (h : TurnView) (c j got : ℕ) (m : Message) → IsSeated w b h.block → steps.MaySettleAt h.block c j m → Goes w b h (turn_after_settle h c j m) got
-settle_goes w b h c j got (Parcel x a d) seat may = absurd may
-settle_goes w b h c j got (Accepted x a) seat may =
+pub end_flight_goes : (w : Whole) (b : ℕ) (h : TurnView) (c j got : ℕ) (m : Message) → IsSeated w b h.block → steps.MayEndFlightAt h.block c j m → Goes w b h (turn_after_end_flight h c j m) got
+end_flight_goes w b h c j got (Parcel x a d) seat may = absurd may
+end_flight_goes w b h c j got (Accepted x a) seat may =
     let B = h.block in
     let w1 = put_block w b B in
     let v = view_with w b B in
     let n = length w.blocks in
     let at = at_seat w b B seat in
     let is = met w b c B j x seat may.0 may.1 in
-    let new = block.cells_after_settle B j in
-    let then' = settled_at w1 v b B x j at is.row in
+    let new = block.cells_after_delivery B j in
+    let then' = delivered_at w1 v b B x j at is.row in
     let flight = ap (λ (q : Lane). q.flight) (border_read w1 v b B x j at is.row) in
     let taken = taken_log n b c h.sent h.taken (Accepted x a) seat.block is.other is.apart in
     record {
-      event = Settle c b;
+      event = EndFlight c b;
       got' = got;
       does = (
         refl,
         Accepted x a,
         record { addressed = is.between; fair = may.2 },
         (may.3, sym flight ∙ may.4),
-        ap (λ (q : BlocksView). state_of q (logs_of n b h.sent (add_to h.taken c (Accepted x a))) got) (view_after w b B new (blocks_after_settle v x) then') ∙ ap (λ l. state_of (blocks_after_settle v x) l got) taken,
+        ap (λ (q : BlocksView). state_of q (logs_of n b h.sent (add_to h.taken c (Accepted x a))) got) (view_after w b B new (blocks_after_delivery v x) then') ∙ ap (λ l. state_of (blocks_after_delivery v x) l got) taken,
       );
-      seated = seat_after w b B new (blocks_after_settle v x) seat then' refl refl (length-set B.borders j _);
+      seated = seat_after w b B new (blocks_after_delivery v x) seat then' refl refl (length-set B.borders j _);
     }
-settle_goes w b h c j got (Refused x a d told) seat may =
+end_flight_goes w b h c j got (Refused x a d told) seat may =
     let B = h.block in
     let w1 = put_block w b B in
     let v = view_with w b B in
@@ -185,7 +185,7 @@ settle_goes w b h c j got (Refused x a d told) seat may =
     let within : told ≤ top v.net = omega (arith, may.4, high) in
     let taken = taken_log n b c h.sent h.taken (Refused x a d told) seat.block is.other is.apart in
     record {
-      event = Settle c b;
+      event = EndFlight c b;
       got' = got;
       does = (
         refl,

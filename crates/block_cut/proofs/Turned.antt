@@ -3,22 +3,22 @@ use Rattle.std.proofs.Common.{◌≡◌, ℕ, List, [], length, refl, sym, ap, s
 use Rattle.std.proofs.lemmas.List.{append-nil}
 use Rattle.block_events.specs.declared.message.Message.{Message}
 use Rattle.block_net.specs.Views.{CellsView}
-use Rattle.block_core.specs.Mails.{MailView}
+use Rattle.block_core.specs.AllWays.{AllWaysView}
 use Rattle.block_turns.specs.Steps.{turn_view, DoesMany}
 use Rattle.block_cut.specs.TurnEvents.{IsTurned}
 use Rattle.block_cut.proofs.Runs.{turn_is_run, turned_ways}
-use Rattle.block_cut.specs.Ends.{EndsView, first_to, first_from, now_from, seen_by, IsEnds}
+use Rattle.block_cut.specs.WayEnds.{WayEndsView, first_to, first_from, now_from, seen_by, IsEnds}
 use Rattle.block_cut.specs.Turns.{IsTurnFrom, ReachesFrom}
 use Rattle.block_cut.proofs.Ending.{with_now, beyond, before}
 
 -- ends that were just made
-abbrev pub fresh : EndsView → EndsView
+abbrev pub fresh : WayEndsView → WayEndsView
 fresh e = with_now e e.first
 
-none_yet : (e : EndsView) (c : ℕ) → ((seen_by (fresh e)).sent c ≡ []) × ((seen_by (fresh e)).taken c ≡ [])
+none_yet : (e : WayEndsView) (c : ℕ) → ((seen_by (fresh e)).sent c ≡ []) × ((seen_by (fresh e)).taken c ≡ [])
 none_yet e c = (beyond (first_to e c) [] (first_to e c) (sym (append-nil (first_to e c))), before (first_from e c) [] (first_from e c) refl)
 
-reached : (e : EndsView) (now : MailView) (n : ℕ) (old new : CellsView) → IsEnds (with_now e now)
+reached : (e : WayEndsView) (now : AllWaysView) (n : ℕ) (old new : CellsView) → IsEnds (with_now e now)
     → DoesMany (turn_view old (seen_by (fresh e))) n (turn_view new (seen_by (with_now e now)))
     → ReachesFrom e.blocks e.block n old new e.first.messages now.messages
 reached e now n old new kept many w got size seat sound =
@@ -39,16 +39,16 @@ reached e now n old new kept many w got size seat sound =
     })
 
 -- the other ends are the same but for the ways
-pub same_ends : (e e' : EndsView) → fresh e' ≡ fresh e → e' ≡ with_now e e'.now
-same_ends e e' same = ap (λ (q : EndsView). with_now q e'.now) same
+pub same_ends : (e e' : WayEndsView) → fresh e' ≡ fresh e → e' ≡ with_now e e'.now
+same_ends e e' same = ap (λ (q : WayEndsView). with_now q e'.now) same
 
-pub turned_over : (e e' : EndsView) (n : ℕ) (old new : CellsView) → e.now ≡ e.first → fresh e' ≡ fresh e → IsEnds e'
+pub turned_over : (e e' : WayEndsView) (n : ℕ) (old new : CellsView) → e.now ≡ e.first → fresh e' ≡ fresh e → IsEnds e'
     → DoesMany (turn_view old (seen_by e)) n (turn_view new (seen_by e'))
     → ReachesFrom e.blocks e.block n old new e.now.messages e'.now.messages
 turned_over e e' n old new just same kept many =
     let is = same_ends e e' same in
     let is' : e ≡ fresh e = ap (with_now e) just in
     let kept' = subst IsEnds is kept in
-    let many' = subst (λ (q : EndsView). DoesMany (turn_view old (seen_by q)) n (turn_view new (seen_by (with_now e e'.now)))) is'
-    (subst (λ (q : EndsView). DoesMany (turn_view old (seen_by e)) n (turn_view new (seen_by q))) is many) in
-    subst (λ (q : MailView). ReachesFrom e.blocks e.block n old new q.messages e'.now.messages) (sym just) (reached e e'.now n old new kept' many')
+    let many' = subst (λ (q : WayEndsView). DoesMany (turn_view old (seen_by q)) n (turn_view new (seen_by (with_now e e'.now)))) is'
+    (subst (λ (q : WayEndsView). DoesMany (turn_view old (seen_by e)) n (turn_view new (seen_by q))) is many) in
+    subst (λ (q : AllWaysView). ReachesFrom e.blocks e.block n old new q.messages e'.now.messages) (sym just) (reached e e'.now n old new kept' many')

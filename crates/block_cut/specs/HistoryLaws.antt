@@ -9,7 +9,7 @@ use Rattle.block_net.specs.Views.{CellsView, count}
 use Rattle.block_net.specs.Whole.{Whole, block_at}
 use Rattle.block_events.specs.Effects.{state_of}
 use Rattle.laid_blocks.specs.Views.{IsLaid, blocks_in}
-use Rattle.block_core.specs.Mails.{HasRooms, IsHeld, room_at}
+use Rattle.block_core.specs.AllWays.{HasRooms, IsHeld, room_at}
 use Rattle.block_turns.specs.Seen.{WaysView}
 use Rattle.block_turns.specs.Steps.{Step, IsSure}
 use Rattle.block_cut.specs.TurnEvents.{HasRoom}

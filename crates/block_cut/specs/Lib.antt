@@ -1,6 +1,6 @@
 pub mod Lowers
 pub mod Takes
-pub mod Ends
+pub mod WayEnds
 pub mod Turns
 pub mod Passes
 pub mod Opening

@@ -1,11 +1,11 @@
 -- What the first pushes make of the blocks.
-use Rattle.std.specs.Prelude.{◌≡◌, ℕ, ◌<◌, List, length}
+use Rattle.std.specs.Prelude.{◌≡◌, ℕ, ◌<◌, min, List, length, slice_index_or}
 use Rattle.block_events.specs.declared.message.Message.{Message}
-use Rattle.block_events.specs.States.{State, label_of}
+use Rattle.block_events.specs.States.{State, excess_of, label_of, room_of}
 use Rattle.block_events.specs.Soundness.{IsSound}
 use Rattle.flow_network.specs.Cut.{nodes}
-use Rattle.block_net.specs.Views.{CellsView, count, label_in}
-use Rattle.block_net.specs.Whole.{Whole, block_at, whole_of, with_blocks}
+use Rattle.block_net.specs.Views.{CellsView, count, excess_in, label_in, room_in}
+use Rattle.block_net.specs.Whole.{Whole, no_block, block_at, whole_of, with_blocks}
 use Rattle.laid_blocks.specs.Views.{IsLaid}
 use Rattle.block_core.specs.declared.pieces.Pieces.{Pieces}
 use Rattle.block_cut.specs.Loose.{IsInPlace}
@@ -39,3 +39,16 @@ pub record AreOpening (p : Pieces) (blocks : List CellsView) : Type 0 where
   pub sound : IsSound (state_at p blocks p.ways.messages got)
   pub flat : (b : ℕ) → b < length blocks
       → IsFlat (block_at (with_blocks (whole_of p.net p.parts) blocks) b)
+
+-- of the first n nodes of a block none can give the sink more of its excess
+abbrev pub HaveGiven : ℕ → CellsView → Type 0
+HaveGiven n B = (v : ℕ) → v < n → min (excess_in B v) (room_in B v) ≡ 0
+
+-- of no block a node can
+abbrev pub AllBlocksGave : List CellsView → Type 0
+AllBlocksGave blocks = (b : ℕ) → b < length blocks
+    → HaveGiven (count (slice_index_or blocks b no_block)) (slice_index_or blocks b no_block)
+
+-- no node of a state can
+abbrev pub AllHaveGiven : State → Type 0
+AllHaveGiven s = (v : ℕ) → v < nodes s.net → min (excess_of s v) (room_of s v) ≡ 0

@@ -10,7 +10,7 @@ use Rattle.block_net.specs.Views.{CellsView}
 use Rattle.block_net.specs.Whole.{whole_of, with_blocks}
 use Rattle.block_events.specs.Effects.{state_of}
 use Rattle.laid_blocks.specs.Views.{IsLaid, blocks_in}
-use Rattle.block_core.specs.Mails.{MailView, IsHeld}
+use Rattle.block_core.specs.AllWays.{AllWaysView, IsHeld}
 use Rattle.block_core.specs.declared.pieces.Pieces.{Pieces}
 use Rattle.block_core.specs.Pieces.{state_in}
 
@@ -21,7 +21,8 @@ state_at p blocks messages got =
 
 -- as many blocks and ways with the same rooms make a sound state of the pieces' net, whose count
 -- lies at least n below that of the state in the pieces
-pub record IsGoing (p : Pieces) (blocks : List CellsView) (ways : MailView) (n : ℕ) : Type 0 where
+pub record IsGoing (p : Pieces) (blocks : List CellsView) (ways : AllWaysView)
+    (n : ℕ) : Type 0 where
   pub got : ℕ
   pub size : length blocks ≡ length p.parts.blocks.items
   pub rooms : ways.rooms ≡ p.ways.rooms
@@ -36,7 +37,7 @@ pub record IsQuietAndHeld (p : Pieces) : Type 0 where
 
 -- the state is as it was, and none of the first so many blocks may do an event that takes no
 -- message
-pub record IsStill (p : Pieces) (blocks : List CellsView) (ways : MailView)
+pub record IsStill (p : Pieces) (blocks : List CellsView) (ways : AllWaysView)
     (first : ℕ) : Type 0 where
   pub same : state_at p blocks ways.messages p.got ≡ state_in p
   pub none : (b : ℕ) → b < first → (e : Event) → ¬ MayStart b (state_in p) e

@@ -6,36 +6,36 @@ ghost use Rattle.block_events.specs.Directions.{backward};
 ghost use Rattle.block_events.specs.States.{room_of, residual_of};
 ghost use Rattle.block_events.specs.Soundness.{IsSound};
 ghost use Rattle.block_events.specs.Flows.{shown_flow};
-ghost use Rattle.global_relabel.specs.Homes.{AreHomes};
+ghost use Rattle.global_relabel.specs.NodeBlocks.{AreNodeBlocks};
 
 use block_core::State;
 use block_net::Parts;
 use flow_network::Net;
-use global_relabel::write_homes;
+use global_relabel::write_node_blocks;
 use std::alloc::{AllocError, Global};
 
 /// What a node can still give the sink, by the table of blocks.
-fn room_at(state: &State, homes: &[u8], v: usize) -> u64
-    requires homes { AreHomes state.now.net state.now.blocks homes.now }
+fn room_at(state: &State, node_blocks: &[u8], v: usize) -> u64
+    requires node_blocks { AreNodeBlocks state.now.net state.now.blocks node_blocks.now }
     requires node { v < nodes state.now.net }
     ensures { result ≡ room_of state.now v }
 {
     let parts = state.parts();
-    let block = homes[v] as usize;
+    let block = node_blocks[v] as usize;
     parts.blocks[block].room(v - parts.firsts[block])
 }
 
 /// The blocks of the nodes that an arc leads from and to, by the table of blocks.
-fn ends_homes(net: &Net, homes: &[u8], arc: usize) -> (usize, usize)
-    requires homes { length homes.now ≡ nodes net.now }
+fn ends_node_blocks(net: &Net, node_blocks: &[u8], arc: usize) -> (usize, usize)
+    requires node_blocks { length node_blocks.now ≡ nodes net.now }
     requires arc { arc < length net.now.arcs }
-    ensures from { result.0 ≡ slice_index homes.now (arc_at net.now arc).from }
-    ensures to { result.1 ≡ slice_index homes.now (arc_at net.now arc).to }
+    ensures from { result.0 ≡ slice_index node_blocks.now (arc_at net.now arc).from }
+    ensures to { result.1 ≡ slice_index node_blocks.now (arc_at net.now arc).to }
 {
     let ends = net.arcs()[arc];
     (
-        homes[ends.from as usize] as usize,
-        homes[ends.to as usize] as usize,
+        node_blocks[ends.from as usize] as usize,
+        node_blocks[ends.to as usize] as usize,
     )
 }
 
@@ -49,13 +49,13 @@ fn back_slot(net: &Net, parts: &Parts, arc: usize) -> usize
 }
 
 /// What can be taken back of an arc, by the table of blocks.
-fn taken_back(state: &State, homes: &[u8], arc: usize) -> u64
-    requires homes { AreHomes state.now.net state.now.blocks homes.now }
+fn taken_back(state: &State, node_blocks: &[u8], arc: usize) -> u64
+    requires node_blocks { AreNodeBlocks state.now.net state.now.blocks node_blocks.now }
     requires arc { arc < length state.now.net.arcs }
     ensures { result ≡ residual_of state.now (backward arc) }
 {
     let parts = state.parts();
-    let (from, to) = ends_homes(state.net(), homes, arc);
+    let (from, to) = ends_node_blocks(state.net(), node_blocks, arc);
     let slot = back_slot(state.net(), parts, arc);
     let cells = &parts.blocks[to];
     if from == to {
@@ -66,14 +66,14 @@ fn taken_back(state: &State, homes: &[u8], arc: usize) -> u64
 }
 
 /// What can be taken back of each arc, by the table of blocks.
-fn write_flow_between(state: &State, homes: &[u8], arc_flow: &mut [u64])
-    requires homes { AreHomes state.now.net state.now.blocks homes.now }
+fn write_flow_between(state: &State, node_blocks: &[u8], arc_flow: &mut [u64])
+    requires node_blocks { AreNodeBlocks state.now.net state.now.blocks node_blocks.now }
     requires len { length arc_flow.old ≡ length state.now.net.arcs }
     ensures { (k : ℕ) → k < length state.now.net.arcs →
         slice_index arc_flow.new k ≡ residual_of state.now (backward k) }
 {
     'arcs: for arc in 0..state.arcs() {
-        arc_flow[arc] = taken_back(state, homes, arc);
+        arc_flow[arc] = taken_back(state, node_blocks, arc);
     }
 }
 
@@ -101,8 +101,8 @@ fn write_flow_within(state: &State, arc_flow: &mut [u64])
 }
 
 /// What can be taken back of each arc.
-fn write_arc_flow(state: &State, homes: &[u8], arc_flow: &mut [u64])
-    requires homes { AreHomes state.now.net state.now.blocks homes.now }
+fn write_arc_flow(state: &State, node_blocks: &[u8], arc_flow: &mut [u64])
+    requires node_blocks { AreNodeBlocks state.now.net state.now.blocks node_blocks.now }
     requires len { length arc_flow.old ≡ length state.now.net.arcs }
     ensures { (k : ℕ) → k < length state.now.net.arcs →
         slice_index arc_flow.new k ≡ residual_of state.now (backward k) }
@@ -110,13 +110,13 @@ fn write_arc_flow(state: &State, homes: &[u8], arc_flow: &mut [u64])
     if state.blocks() == 1 {
         write_flow_within(state, arc_flow);
     } else {
-        write_flow_between(state, homes, arc_flow);
+        write_flow_between(state, node_blocks, arc_flow);
     }
 }
 
 /// What each node gave the sink.
-fn write_sink_flow(state: &State, homes: &[u8], sink_flow: &mut [u64])
-    requires homes { AreHomes state.now.net state.now.blocks homes.now }
+fn write_sink_flow(state: &State, node_blocks: &[u8], sink_flow: &mut [u64])
+    requires node_blocks { AreNodeBlocks state.now.net state.now.blocks node_blocks.now }
     requires len { length sink_flow.old ≡ nodes state.now.net }
     ensures sound { IsSound state.now }
     ensures sinks { (v : ℕ) → v < nodes state.now.net →
@@ -124,7 +124,7 @@ fn write_sink_flow(state: &State, homes: &[u8], sink_flow: &mut [u64])
 {
     let sinks = state.net().sinks();
     'nodes: for v in 0..state.nodes() {
-        sink_flow[v] = sinks[v] - room_at(state, homes, v);
+        sink_flow[v] = sinks[v] - room_at(state, node_blocks, v);
     }
 }
 
@@ -135,11 +135,11 @@ fn write_sink_flow(state: &State, homes: &[u8], sink_flow: &mut [u64])
 pub fn flow_of(alloc: Global, state: &State) -> Result<(Vec<u64>, Vec<u64>), AllocError>
     ensures { IfOk result (λ flow. flow_by flow.0.items flow.1.items ≡ shown_flow state.now) }
 {
-    let mut homes = vec![in alloc; 0u8; state.nodes()]?;
-    write_homes(state, homes.as_mut_slice());
+    let mut node_blocks = vec![in alloc; 0u8; state.nodes()]?;
+    write_node_blocks(state, node_blocks.as_mut_slice());
     let mut arc_flow = vec![in alloc; 0u64; state.arcs()]?;
     let mut sink_flow = vec![in alloc; 0u64; state.nodes()]?;
-    write_arc_flow(state, homes.as_slice(), arc_flow.as_mut_slice());
-    write_sink_flow(state, homes.as_slice(), sink_flow.as_mut_slice());
+    write_arc_flow(state, node_blocks.as_slice(), arc_flow.as_mut_slice());
+    write_sink_flow(state, node_blocks.as_slice(), sink_flow.as_mut_slice());
     Ok((arc_flow, sink_flow))
 }

@@ -1,11 +1,12 @@
 //! First pushes within a block, before there are labels.
-ghost use Rattle.std.specs.Prelude.{◌≡◌, ◌<◌, ℕ, IsTrue, length, slice_index_or};
+ghost use Rattle.std.specs.Prelude.{◌≡◌, ◌↔◌, ◌+◌, ◌<◌, ℕ, IsTrue, length, slice_index_or};
 ghost use Rattle.block_events.specs.Events.{IsQuiet};
-ghost use Rattle.block_core.specs.Mails.{IsHeld};
+ghost use Rattle.block_core.specs.AllWays.{IsHeld};
 ghost use Rattle.block_core.specs.Pieces.{state_in};
-ghost use Rattle.block_net.specs.Views.{CellsView, count};
+ghost use Rattle.block_net.specs.Views.{CellsView, count, lane_in};
 ghost use Rattle.block_turns.specs.Steps.{IsOfNode};
-ghost use Rattle.block_cut.specs.Opening.{Opens, AreOpening, AreLabelsZero, IsFlat};
+ghost use Rattle.block_cut.specs.Opening.{Opens, AreOpening, AreLabelsZero, IsFlat, HaveGiven};
+ghost use Rattle.block_cut.specs.Opening.{AllBlocksGave, AllHaveGiven};
 
 use crate::messages::take_in;
 use block_core::{Pieces, State};
@@ -17,7 +18,8 @@ use std::thread::Threads;
 /// Gives the sink what it can take of the node's excess.
 fn give(cells: &mut Cells, v: usize)
     requires { v < count cells.old }
-    ensures { Opens cells.old cells.new }
+    ensures opens { Opens cells.old cells.new }
+    ensures gave { HaveGiven v cells.old → HaveGiven (v + 1) cells.new }
 {
     cells.give(v);
 }
@@ -27,7 +29,9 @@ fn send(cells: &mut Cells, v: usize, j: usize)
     requires node { v < count cells.old }
     requires place { j < length cells.old.lanes }
     requires lane { IsOfNode cells.old v j }
-    ensures { Opens cells.old cells.new }
+    ensures opens { Opens cells.old cells.new }
+    ensures gave { v < (lane_in cells.old j).far
+        → HaveGiven (v + 1) cells.old → HaveGiven (v + 1) cells.new }
 {
     let lane = cells.lane(j);
     if lane.residual > 0 && lane.far as usize != v {
@@ -59,7 +63,8 @@ fn send_up(cells: &mut Cells, v: usize)
 /// lower ones, by its last direction first.
 fn send_back(cells: &mut Cells, v: usize, to_higher: bool)
     requires { v < count cells.old }
-    ensures { Opens cells.old cells.new }
+    ensures opens { Opens cells.old cells.new }
+    ensures gave { IsTrue to_higher → HaveGiven v cells.old → HaveGiven (v + 1) cells.new }
 {
     if cells.excess(v) == 0 {
         return;
@@ -81,7 +86,8 @@ fn send_back(cells: &mut Cells, v: usize, to_higher: bool)
 /// direction first. So excess goes as far as it can one way, what the sink has not taken then the
 /// other way, and what is left goes other ways.
 fn open_block(cells: &mut Cells)
-    ensures { Opens cells.old cells.new }
+    ensures opens { Opens cells.old cells.new }
+    ensures gave { HaveGiven (count cells.new) cells.new }
 {
     'up: for v in 0..cells.len() {
         send_up(cells, v);
@@ -107,8 +113,9 @@ fn open_blocks(old: &Snapshot<Pieces>, blocks: &mut Vec<Cells>)
 /// The passes over each of the blocks, side by side, by at most so many threads.
 fn open_each<R: Threads + Sync>(rt: &R, threads: usize, blocks: &mut [Cells])
     requires { 0 < threads }
-    ensures { (b : ℕ) (d : CellsView) → b < length blocks.old
+    ensures opens { (b : ℕ) (d : CellsView) → b < length blocks.old
         → Opens (slice_index_or blocks.old b d) (slice_index_or blocks.new b d) }
+    ensures gave { AllBlocksGave blocks.new }
 {
     thread::for_each_mut(rt, blocks, threads, &|_block, cells| open_block(cells));
 }
@@ -122,7 +129,8 @@ fn open_side_by_side<R: Threads + Sync>(
 )
     requires threads { 0 < threads }
     requires opening { AreOpening old.now.value blocks.old }
-    ensures { AreOpening old.now.value blocks.new }
+    ensures opening { AreOpening old.now.value blocks.new }
+    ensures gave { AllBlocksGave blocks.new }
 {
     open_each(rt, threads, blocks);
 }
@@ -133,7 +141,9 @@ fn state_of(old: &Snapshot<Pieces>, pieces: Pieces) -> State
     requires same { pieces ≡ record old.now.value
         { parts = record old.now.value.parts { blocks = pieces.parts.blocks } } }
     requires opening { AreOpening old.now.value pieces.parts.blocks.items }
-    ensures { result.net ≡ old.now.value.net }
+    ensures net { result.net ≡ old.now.value.net }
+    ensures quiet { IsQuiet (state_in old.now.value) → IsQuiet result }
+    ensures gave { AllBlocksGave pieces.parts.blocks.items → AllHaveGiven result }
 {
     let mut pieces = pieces;
     pieces.got = pieces.sink_total();
@@ -142,7 +152,7 @@ fn state_of(old: &Snapshot<Pieces>, pieces: Pieces) -> State
 
 /// Whether all labels of a block are 0.
 fn is_flat(cells: &Cells) -> bool
-    ensures { IsTrue result → IsFlat cells.now }
+    ensures { IsTrue result ↔ IsFlat cells.now }
 {
     'nodes: for v in 0..cells.len() {
         if cells.label(v) != 0 {
@@ -154,7 +164,8 @@ fn is_flat(cells: &Cells) -> bool
 
 /// Whether all labels are 0: block by block, so that no node's block is looked up.
 fn are_labels_zero(state: &State) -> bool
-    ensures { IsTrue result → AreLabelsZero state.now }
+    ensures zero { IsTrue result → AreLabelsZero state.now }
+    ensures all { AreLabelsZero state.now → IsTrue result }
 {
     let parts = state.parts();
     'each: for b in 0..parts.blocks.len() {
@@ -168,7 +179,8 @@ fn are_labels_zero(state: &State) -> bool
 /// The state after the first pushes within its blocks, with no message on the way: each node gives
 /// the sink what it takes, and what is left goes on to neighbours within the block and by them to
 /// the sink, where all labels are 0; else the flow stays as it is. Before a first search from the
-/// sink this is worth several of them. No clause says how far excess goes.
+/// sink this is worth several of them. Each node that has excess left then has given the sink all
+/// that it takes; how far the rest goes no clause says.
 ///
 /// The blocks do so side by side, in at most so many threads. A thread that the system does not
 /// start leaves its blocks to the one that asked for it. Takes no memory.
@@ -176,17 +188,20 @@ pub fn push_first<R: Threads + Sync>(rt: &R, state: State, threads: usize) -> St
     requires { 0 < threads }
     ensures net { result.net ≡ state.net }
     ensures quiet { IsQuiet result }
+    ensures gave { AreLabelsZero state → AllHaveGiven result }
 {
-    let mut state = open_new_side_by_side(rt, state, threads);
+    let mut state = state;
     take_in(&mut state);
-    state
+    open_new_side_by_side(rt, state, threads)
 }
 
 /// The state after the first pushes within its blocks, side by side, where all labels are 0; else
 /// the state as it is.
 fn open_new_side_by_side<R: Threads + Sync>(rt: &R, state: State, threads: usize) -> State
     requires { 0 < threads }
-    ensures { result.net ≡ state.net }
+    ensures net { result.net ≡ state.net }
+    ensures quiet { IsQuiet state → IsQuiet result }
+    ensures gave { AreLabelsZero state → AllHaveGiven result }
 {
     if are_labels_zero(&state) {
         open_by_threads(rt, state, threads)
@@ -199,7 +214,9 @@ fn open_new_side_by_side<R: Threads + Sync>(rt: &R, state: State, threads: usize
 fn open_by_threads<R: Threads + Sync>(rt: &R, state: State, threads: usize) -> State
     requires threads { 0 < threads }
     requires zero { AreLabelsZero state }
-    ensures { result.net ≡ state.net }
+    ensures net { result.net ≡ state.net }
+    ensures quiet { IsQuiet state → IsQuiet result }
+    ensures gave { AllHaveGiven result }
 {
     let mut pieces = state.into_pieces();
     let old = Snapshot::of(&pieces);

@@ -43,14 +43,14 @@ impl Nodes for Cells {
 #[derive(Clone, Copy)]
 struct Spread<'a> {
     parts: &'a Parts,
-    homes: &'a [u8],
+    node_blocks: &'a [u8],
 }
 
 impl Spread<'_> {
     /// A node's block and its place there; none of what is no node.
     fn spot(&self, v: u32) -> Option<(usize, u32)> {
         let v = v as usize;
-        let block = *self.homes.get(v)? as usize;
+        let block = *self.node_blocks.get(v)? as usize;
         let first = *self.parts.firsts.get(block)?;
         Some((block, v.saturating_sub(first) as u32))
     }
@@ -154,18 +154,18 @@ fn deal(alloc: Global, spread: &Spread<'_>, order: &[u32]) -> Result<Vec<Vec<u32
 
 /// For each block those of its nodes that are to pass on what they have first, from the last on,
 /// numbered from the block's first node: of an order of all nodes the first that have enough for
-/// the sink, and none where few of them have something. `homes` tells the block of each node. What
-/// is no node is passed over. The only error is that memory runs out.
+/// the sink, and none where few of them have something. `node_blocks` tells the block of each node.
+/// What is no node is passed over. The only error is that memory runs out.
 pub(crate) fn orders_of(
     alloc: Global,
     parts: &Parts,
-    homes: &[u8],
+    node_blocks: &[u8],
     order: &[u32],
 ) -> Result<Vec<Vec<u32>>, AllocError> {
     if parts.blocks.len() == 1 {
         return one_order(alloc, &parts.blocks[0], order);
     }
-    let spread = Spread { parts, homes };
+    let spread = Spread { parts, node_blocks };
     let near = near_nodes(&spread, order);
     deal(alloc, &spread, &order[..near])
 }

@@ -8,7 +8,7 @@ ghost use Rattle.block_cut.specs.Passes.{IsGoing, IsQuietAndHeld, IsStill};
 
 use crate::orders::orders_of;
 use crate::turns::turn_of;
-use block_core::{Mail, Pieces, State};
+use block_core::{AllWays, Pieces, State};
 use block_net::{Cells, Parts};
 use block_turns::Block;
 use flow_network::Net;
@@ -30,11 +30,11 @@ const EVENTS: u32 = u32::MAX;
 fn pass(
     old: &Snapshot<Pieces>,
     blocks: &mut Vec<Block>,
-    ways: Mail,
+    ways: AllWays,
     slots: Vec<u32>,
     arcs: usize,
     limit: u32,
-) -> (Mail, Vec<u32>, bool)
+) -> (AllWays, Vec<u32>, bool)
     requires going { IsGoing old.now.value blocks.old.items ways 0 }
     requires ready { IsQuietAndHeld old.now.value }
     requires slots { slots.items ≡ old.now.value.parts.slots.items }
@@ -64,11 +64,11 @@ fn pass(
 fn passes(
     old: &Snapshot<Pieces>,
     blocks: &mut Vec<Block>,
-    ways: Mail,
+    ways: AllWays,
     slots: Vec<u32>,
     arcs: usize,
     limit: u32,
-) -> (Mail, Vec<u32>, bool)
+) -> (AllWays, Vec<u32>, bool)
     requires going { IsGoing old.now.value blocks.old.items ways 0 }
     requires ready { IsQuietAndHeld old.now.value }
     requires slots { slots.items ≡ old.now.value.parts.slots.items }
@@ -91,11 +91,11 @@ fn passes(
 fn more_passes(
     old: &Snapshot<Pieces>,
     blocks: &mut Vec<Block>,
-    ways: Mail,
+    ways: AllWays,
     slots: Vec<u32>,
     arcs: usize,
     limit: u32,
-) -> (Mail, Vec<u32>)
+) -> (AllWays, Vec<u32>)
     requires going { IsGoing old.now.value blocks.old.items ways 1 }
     requires ready { IsQuietAndHeld old.now.value }
     requires slots { slots.items ≡ old.now.value.parts.slots.items }
@@ -148,7 +148,7 @@ fn cells_of(alloc: Global, blocks: Vec<Block>) -> Result<Vec<Cells>, AllocError>
 }
 
 /// The state that the pieces make with what the sink got by what the blocks hold. Takes no memory.
-fn state_of(old: &Snapshot<Pieces>, net: Net, parts: Parts, ways: Mail) -> State
+fn state_of(old: &Snapshot<Pieces>, net: Net, parts: Parts, ways: AllWays) -> State
     requires ready { IsQuietAndHeld old.now.value }
     requires net { net ≡ old.now.value.net }
     requires firsts { parts.firsts.items ≡ old.now.value.parts.firsts.items }
@@ -170,12 +170,12 @@ fn state_of(old: &Snapshot<Pieces>, net: Net, parts: Parts, ways: Mail) -> State
 
 /// Turns of the blocks, in passes, in which nodes of each block first pass on what they have: of an
 /// order the first that have enough for the sink, in reverse, where enough of them have something.
-/// Best are the nearest to the sink first. `homes` tells the block of each node. The only error is
-/// that memory runs out.
+/// Best are the nearest to the sink first. `node_blocks` tells the block of each node. The only
+/// error is that memory runs out.
 pub(crate) fn work(
     alloc: Global,
     state: State,
-    homes: &[u8],
+    node_blocks: &[u8],
     order: &[u32],
 ) -> Result<State, AllocError>
     requires quiet { IsQuiet state }
@@ -183,7 +183,7 @@ pub(crate) fn work(
     ensures net { IfOk result (λ s. s.net ≡ state.net) }
     ensures less { IfOk result (λ s. potential s < potential state) }
 {
-    let orders = orders_of(alloc, state.parts(), homes, order)?;
+    let orders = orders_of(alloc, state.parts(), node_blocks, order)?;
     let arcs = state.arcs();
     let pieces = state.into_pieces();
     let old = Snapshot::of(&pieces);

@@ -29,8 +29,8 @@ fn advance(alloc: Global, state: State, workspace: &Workspace) -> Result<State, 
 {
     let mut state = state;
     state.raise_to(workspace.labels.as_slice());
-    let homes = workspace.homes.as_slice();
-    let next = work(alloc, state, homes, workspace.order.as_slice())?;
+    let node_blocks = workspace.node_blocks.as_slice();
+    let next = work(alloc, state, node_blocks, workspace.order.as_slice())?;
     Ok(next)
 }
 

@@ -3,16 +3,16 @@ ghost use Rattle.std.specs.Prelude.{◌≡◌, ◌*◌, ◌<◌, ◌≤◌, leng
 ghost use Rattle.block_events.specs.Soundness.{IsSquare};
 ghost use Rattle.block_net.specs.Limits.{arc_limit};
 ghost use Rattle.block_turns.specs.Steps.{Step, IsSure};
-ghost use Rattle.block_cut.specs.Ends.{seen_by, ends_view};
+ghost use Rattle.block_cut.specs.WayEnds.{seen_by, way_ends_view};
 ghost use Rattle.block_cut.specs.Turns.{ReachesFrom};
 
-use crate::way_ends::Ends;
-use block_core::Mail;
+use crate::way_ends::WayEnds;
+use block_core::AllWays;
 use block_turns::{Block, turn};
 
 /// One turn of a block over the core's ways, by ends that were just made: it does a list of at most
 /// `limit` events, which is a run of the core, and answers how many. Takes no memory.
-pub(crate) fn turn_over(block: &mut Block, ends: &mut Ends, limit: u32) -> u32
+pub(crate) fn turn_over(block: &mut Block, ends: &mut WayEnds, limit: u32) -> u32
     requires { ends.old.now ≡ ends.old.first }
     ensures few { result ≤ limit }
     ensures some { 0 < limit → (e : Step) → IsSure block.old (seen_by ends.old) e → 0 < result }
@@ -30,13 +30,13 @@ pub(crate) fn turn_over(block: &mut Block, ends: &mut Ends, limit: u32) -> u32
 /// places: the ways and the table afterwards, and how many events it did. Takes no memory.
 pub(crate) fn turn_of(
     block: &mut Block,
-    ways: Mail,
+    ways: AllWays,
     slots: Vec<u32>,
     b: usize,
     blocks: usize,
     arcs: usize,
     limit: u32,
-) -> (Mail, Vec<u32>, u32)
+) -> (AllWays, Vec<u32>, u32)
     requires block { b < blocks }
     requires square { IsSquare blocks ways.messages }
     requires slots { length slots.items ≡ 2 * arcs }
@@ -45,12 +45,12 @@ pub(crate) fn turn_of(
     ensures slots { result.1.items ≡ slots.items }
     ensures few { result.2 ≤ limit }
     ensures some { 0 < limit → (e : Step)
-        → IsSure block.old (seen_by (ends_view b blocks ways ways slots.items arcs))
+        → IsSure block.old (seen_by (way_ends_view b blocks ways ways slots.items arcs))
         e → 0 < result.2 }
     ensures run { ReachesFrom blocks b result.2 block.old block.new ways.messages
         result.0.messages }
 {
-    let mut ends = Ends::new(b, blocks, ways, slots, arcs);
+    let mut ends = WayEnds::new(b, blocks, ways, slots, arcs);
     let count = turn_over(block, &mut ends, limit);
     let (ways, slots) = ends.into_ways();
     (ways, slots, count)

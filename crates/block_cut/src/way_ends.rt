@@ -2,10 +2,10 @@
 ghost use Rattle.std.specs.Prelude.{◌≡◌, ◌*◌, ◌≤◌, ◌<◌, length};
 ghost use Rattle.block_events.specs.Soundness.{IsSquare};
 ghost use Rattle.block_net.specs.Limits.{arc_limit};
-ghost use Rattle.block_cut.specs.Ends.{IsEnds, seen_by, is_other_block, place_in};
-ghost use Rattle.block_cut.specs.Ends.{outward_direction, ends_view};
+ghost use Rattle.block_cut.specs.WayEnds.{IsEnds, seen_by, is_other_block, place_in};
+ghost use Rattle.block_cut.specs.WayEnds.{outward_direction, way_ends_view};
 
-use block_core::Mail;
+use block_core::AllWays;
 use block_events::{Direction, Message};
 use block_turns::{Letter, Ways};
 use std::marker::Model;
@@ -14,24 +14,24 @@ use std::snapshot::Snapshot;
 /// One block's ends of the ways of the core, which they hold meanwhile, and the table by which a
 /// letter's place is found.
 #[derive(Drop)]
-pub(crate) struct Ends {
+pub(crate) struct WayEnds {
     block: usize,
     blocks: usize,
-    ways: Mail,
+    ways: AllWays,
     slots: Vec<u32>,
     arcs: usize,
-    first: Snapshot<Mail>,
+    first: Snapshot<AllWays>,
 }
 
-impl Model for Ends {
-    ghost use Rattle.block_cut.specs.Ends.{EndsView, IsEnds, ends_view};
+impl Model for WayEnds {
+    ghost use Rattle.block_cut.specs.WayEnds.{WayEndsView, IsEnds, way_ends_view};
 
-    ghost Value = { EndsView };
+    ghost Value = { WayEndsView };
 
-    ghost view = { λ e. ends_view e.block e.blocks e.first.value e.ways e.slots.items e.arcs };
+    ghost view = { λ e. way_ends_view e.block e.blocks e.first.value e.ways e.slots.items e.arcs };
 
     ghost invariant = { λ e. IsEnds
-        (ends_view e.block e.blocks e.first.value e.ways e.slots.items e.arcs) };
+        (way_ends_view e.block e.blocks e.first.value e.ways e.slots.items e.arcs) };
 }
 
 /// The direction of a message, or its opposite: that which leaves the block that takes the message.
@@ -48,17 +48,17 @@ fn outward_direction(message: Message) -> Direction
     }
 }
 
-impl Ends {
+impl WayEnds {
     /// The ends of one block of so many.
-    pub fn new(block: usize, blocks: usize, ways: Mail, slots: Vec<u32>, arcs: usize) -> Ends
+    pub fn new(block: usize, blocks: usize, ways: AllWays, slots: Vec<u32>, arcs: usize) -> WayEnds
         requires block { block < blocks }
         requires square { IsSquare blocks ways.messages }
         requires slots { length slots.items ≡ 2 * arcs }
         requires arcs { arcs ≤ arc_limit }
-        ensures { result ≡ ends_view block blocks ways ways slots.items arcs }
+        ensures { result ≡ way_ends_view block blocks ways ways slots.items arcs }
     {
         let first = Snapshot::of(&ways);
-        Ends {
+        WayEnds {
             block,
             blocks,
             ways,
@@ -69,7 +69,7 @@ impl Ends {
     }
 
     /// The ways, and the table of places.
-    pub fn into_ways(self) -> (Mail, Vec<u32>)
+    pub fn into_ways(self) -> (AllWays, Vec<u32>)
         ensures ways { result.0 ≡ self.now }
         ensures slots { result.1.items ≡ self.slots }
     {
@@ -107,10 +107,10 @@ impl Ends {
     }
 }
 
-impl Ways for Ends {
-    type Fixed = Ends;
+impl Ways for WayEnds {
+    type Identity = WayEnds;
 
-    ghost fixed = { λ e. record e { now = e.first } };
+    ghost identity = { λ e. record e { now = e.first } };
 
     ghost seen = { λ e. seen_by e };
 

@@ -37,9 +37,9 @@ over_same n f g ways sq same =
     sum_below-same n (λ j. sum_by f (way_at ways i j)) (λ j. sum_by g (way_at ways i j)) (λ j lj. same i j li lj))
     ∙ sym (each_way n g ways sq))
 
-pub over_home : (n : ℕ) (f : Message → ℕ) (ways : List (List (List Message))) (b c : ℕ) → IsSquare n ways → b < n → c < n
+pub over_node_block : (n : ℕ) (f : Message → ℕ) (ways : List (List (List Message))) (b c : ℕ) → IsSquare n ways → b < n → c < n
     → ((i j : ℕ) → i < n → j < n → (i ≡ b → j ≡ c → ⊥) → sum_by f (way_at ways i j) ≡ 0) → over_messages f ways ≡ sum_by f (way_at ways b c)
-over_home n f ways b c sq lb lc off =
+over_node_block n f ways b c sq lb lc off =
     each_way n f ways sq
     ∙ (sum_only n b (λ i. sum_below n (λ j. sum_by f (way_at ways i j))) lb (λ i li ne. sum_below-none n (λ j. sum_by f (way_at ways i j)) (λ j lj. off i j li lj (λ e g. ne e)))
     ∙ sum_only n c (λ j. sum_by f (way_at ways b j)) lc (λ j lj ne. off b j lb lj (λ e g. ne g)))

@@ -18,7 +18,7 @@ use Rattle.block_events.specs.Workers.{IsBetween}
 use Rattle.block_events.proofs.Words.{parcels, taken, back, weight_out, one, later, last_of, parcel_of, answer_of, last_append, counts_same}
 use Rattle.block_events.proofs.Logs.{IsGood, IsTold, Answers, IsUnder, parcel_here, accepted_here, refused_here}
 use Rattle.block_events.proofs.Adding.{in_or_none, sum_by_both}
-use Rattle.block_events.proofs.Joining.{IsMet, all_right, good_new, parcels_away, taken_away, back_away, at_home, on_way, flights_met}
+use Rattle.block_events.proofs.Joining.{IsMet, all_right, good_new, parcels_away, taken_away, back_away, at_node_block, on_way, flights_met}
 
 -- ---- the last of its kind, where there is at most one
 
@@ -85,16 +85,16 @@ parcel_left old new ends met i j li lj k z lk x a d is o =
     let net = old.net in
     let n = old.blocks in
     let way = way_at new.ways i j in
-    let home = at_home net n (parcels one x) new.ways i j met.square li lj (good_new old new ends met) (parcels_away net n one x i j o) in
+    let node_block = at_node_block net n (parcels one x) new.ways i j met.square li lj (good_new old new ends met) (parcels_away net n one x i j o) in
     let total = on_way old new ends met one x o.direction o.border in
     let here : parcels one x (get_or way k z) ≡ 1 = ap (parcels one x) is ∙ counts_same x 1 in
     let part = get_or-le-sum_by (parcels one x) way k z lk in
-    let some = weight_some (flight_of new x) (omega (arith, home, total, here, part)) in
+    let some = weight_some (flight_of new x) (omega (arith, node_block, total, here, part)) in
     let f = some.0 in
     let lane = ap (λ (l : Lane). l.flight) (met.joined.lanes x o.direction ∙ ap (λ b. lane_at (ends b).lanes x) o.near) in
     let sent : last_of (parcel_of x) (way_at (ends i).ways i j) ≡ Some f = (met.own i li).log.last x o.direction j o f (sym lane ∙ some.1) in
     let found : last_of (parcel_of x) way ≡ Some (record { amount = a; label = d }) =
-    last_found (parcel_of x) (parcels one x) way k z (record { amount = a; label = d }) (parcel_counts x) (omega (arith, home, total, some.2)) lk (ap (parcel_of x) is ∙ parcel_here x a d) in
+    last_found (parcel_of x) (parcels one x) way k z (record { amount = a; label = d }) (parcel_counts x) (omega (arith, node_block, total, some.2)) lk (ap (parcel_of x) is ∙ parcel_here x a d) in
     let split = ap (last_of (parcel_of x)) (met.ways i j li lj) ∙ last_append (parcel_of x) (way_at (ends j).ways i j) way in
     let same = sym sent ∙ (split ∙ ap (λ r. later r (last_of (parcel_of x) (way_at (ends j).ways i j))) found) in
     some.1 ∙ same
@@ -109,9 +109,9 @@ answer_left old new ends met i j li lj k z lk x m is answers_x o =
     let n = old.blocks in
     let way = way_at new.ways i j in
     let there = way_at new.ways j i in
-    let home_p = at_home net n (parcels one x) new.ways j i met.square lj li (good_new old new ends met) (parcels_away net n one x j i o) in
-    let home_t = at_home net n (taken one x) new.ways i j met.square li lj (good_new old new ends met) (taken_away net n one x j i o) in
-    let home_b = at_home net n (back one x) new.ways i j met.square li lj (good_new old new ends met) (back_away net n one x j i o) in
+    let node_block_p = at_node_block net n (parcels one x) new.ways j i met.square lj li (good_new old new ends met) (parcels_away net n one x j i o) in
+    let node_block_t = at_node_block net n (taken one x) new.ways i j met.square li lj (good_new old new ends met) (taken_away net n one x j i o) in
+    let node_block_b = at_node_block net n (back one x) new.ways i j met.square li lj (good_new old new ends met) (back_away net n one x j i o) in
     let both = sum_by_both (taken one x) (back one x) way in
     let total = on_way old new ends met one x o.direction o.border in
     let here : 1 ≤ answers x (get_or way k z) = elim (answer_counts x (get_or way k z)) [
@@ -119,16 +119,16 @@ answer_left old new ends met i j li lj k z lk x m is answers_x o =
       | inr some ↦ some
     ] in
     let part = get_or-le-sum_by (answers x) way k z lk in
-    let some = weight_some (flight_of new x) (omega (arith, home_t, home_b, both, total, here, part)) in
+    let some = weight_some (flight_of new x) (omega (arith, node_block_t, node_block_b, both, total, here, part)) in
     let f = some.0 in
     let lane = ap (λ (l : Lane). l.flight) (met.joined.lanes x o.direction ∙ ap (λ b. lane_at (ends b).lanes x) o.near) in
     let sent : last_of (parcel_of x) (way_at (ends j).ways j i) ≡ Some f = (met.own j lj).log.last x o.direction i o f (sym lane ∙ some.1) in
-    let none : last_of (parcel_of x) there ≡ None = last_none (parcel_of x) (parcels one x) there (parcel_counts x) (omega (arith, home_p, home_t, home_b, both, total, here, part, some.2)) in
+    let none : last_of (parcel_of x) there ≡ None = last_none (parcel_of x) (parcels one x) there (parcel_counts x) (omega (arith, node_block_p, node_block_t, node_block_b, both, total, here, part, some.2)) in
     let split_p = ap (last_of (parcel_of x)) (met.ways j i lj li) ∙ last_append (parcel_of x) (way_at (ends i).ways j i) there in
     let got_f : last_of (parcel_of x) (way_at (ends i).ways j i) ≡ Some f =
     sym (split_p ∙ ap (λ r. later r (last_of (parcel_of x) (way_at (ends i).ways j i))) none) ∙ sent in
     let found : last_of (answer_of x) way ≡ Some m =
-    last_found (answer_of x) (answers x) way k z m (answer_counts x) (omega (arith, home_t, home_b, both, total, some.2)) lk (ap (answer_of x) is ∙ answers_x) in
+    last_found (answer_of x) (answers x) way k z m (answer_counts x) (omega (arith, node_block_t, node_block_b, both, total, some.2)) lk (ap (answer_of x) is ∙ answers_x) in
     let split_a = ap (last_of (answer_of x)) (met.ways i j li lj) ∙ last_append (answer_of x) (way_at (ends j).ways i j) way in
     let put_m = split_a ∙ ap (λ r. later r (last_of (answer_of x) (way_at (ends j).ways i j))) found in
     (f, some.1, (met.own i li).log.answered x j o f m got_f put_m)

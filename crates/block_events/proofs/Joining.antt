@@ -19,7 +19,7 @@ use Rattle.block_events.specs.Rounds.{IsJoined}
 use Rattle.block_events.proofs.Words.{parcels, taken, back, weight_out, one, counts_not, all_left}
 use Rattle.block_events.proofs.Logs.{IsGood, IsTold, Tells}
 use Rattle.block_events.proofs.Histories.{IsOwn}
-use Rattle.block_events.proofs.Adding.{over_same, over_home, over_both, over_none, sum_none, sum_same}
+use Rattle.block_events.proofs.Adding.{over_same, over_node_block, over_both, over_none, sum_none, sum_same}
 
 -- the state with the net of another
 abbrev pub placed : State → State → State
@@ -73,10 +73,10 @@ back_away net blocks w x b c o i j (Accepted y a) p off = refl
 back_away net blocks w x b c o i j (Refused y a d told) p off = counts_not y x (w a) (off_between net blocks x y b c j i o p (λ e f. off f e))
 
 -- then the sum over all ways is the sum over that way
-pub at_home : (net : Network) (blocks : ℕ) (f : Message → ℕ) (ways : List (List (List Message))) (p q : ℕ) → IsSquare blocks ways → p < blocks → q < blocks
+pub at_node_block : (net : Network) (blocks : ℕ) (f : Message → ℕ) (ways : List (List (List Message))) (p q : ℕ) → IsSquare blocks ways → p < blocks → q < blocks
     → ((i j : ℕ) → i < blocks → j < blocks → All (IsGood net blocks i j) (way_at ways i j)) → Away net blocks f p q → over_messages f ways ≡ sum_by f (way_at ways p q)
-at_home net blocks f ways p q sq lp lq good away =
-    over_home blocks f ways p q sq lp lq (λ i j li lj off. sum_none f (way_at ways i j) (λ k d l. away i j (get_or (way_at ways i j) k d) (good i j li lj k d l).0 off))
+at_node_block net blocks f ways p q sq lp lq good away =
+    over_node_block blocks f ways p q sq lp lq (λ i j li lj off. sum_none f (way_at ways i j) (λ k d l. away i j (get_or (way_at ways i j) k d) (good i j li lj k d l).0 off))
 
 -- what p put for q is what q took from p and what is left
 pub linked : (old new : State) (ends : ℕ → State) → IsMet old new ends → (f : Message → ℕ) (p q : ℕ) → p < old.blocks → q < old.blocks → Away old.net old.blocks f p q
@@ -84,9 +84,9 @@ pub linked : (old new : State) (ends : ℕ → State) → IsMet old new ends →
 linked old new ends met f p q lp lq away =
     let net = old.net in
     let n = old.blocks in
-    let a = at_home net n f (ends p).ways p q (met.own p lp).fit.sized.ways lp lq (λ i j li lj. (met.own p lp).log.good i j) away in
-    let b = at_home net n f (ends q).ways p q (met.own q lq).fit.sized.ways lp lq (λ i j li lj. (met.own q lq).log.good i j) away in
-    let c = at_home net n f new.ways p q met.square lp lq (good_new old new ends met) away in
+    let a = at_node_block net n f (ends p).ways p q (met.own p lp).fit.sized.ways lp lq (λ i j li lj. (met.own p lp).log.good i j) away in
+    let b = at_node_block net n f (ends q).ways p q (met.own q lq).fit.sized.ways lp lq (λ i j li lj. (met.own q lq).log.good i j) away in
+    let c = at_node_block net n f new.ways p q met.square lp lq (good_new old new ends met) away in
     let cut = ap (sum_by f) (met.ways p q lp lq) ∙ sum_by-append f (way_at (ends q).ways p q) (way_at new.ways p q) in
     omega (arith, a, b, c, cut)
 

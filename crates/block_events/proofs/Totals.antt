@@ -167,11 +167,11 @@ got_met old new ends met =
       rooms_sum old old.rooms met.sized.rooms,
     )) in
     let turn = sum_below-swap n m D in
-    let home = λ (v : ℕ). block_of net n v in
+    let node_block = λ (v : ℕ). block_of net n v in
     let picks = sum_below-same m (λ v. sum_below n (λ b. D b v) + room_of new v) (room_of old) (λ v lv.
     let lb = block_below old new ends met v lv in
-    let only = sum_only n (home v) (λ b. D b v) lb (λ b lb' ne. omega (arith, (met.own b lb').log.others v (λ e. ne (sym e)))) in
-    omega (arith, only, met.joined.rooms v lv, (met.own (home v) lb).log.falls v)) in
+    let only = sum_only n (node_block v) (λ b. D b v) lb (λ b lb' ne. omega (arith, (met.own b lb').log.others v (λ e. ne (sym e)))) in
+    omega (arith, only, met.joined.rooms v lv, (met.own (node_block v) lb).log.falls v)) in
     omega (
       arith,
       met.joined.got,

@@ -112,8 +112,8 @@ blocks_after_accept b x a d = record b {
 }
 
 -- the parcel that was out was taken
-abbrev pub blocks_after_settle : BlocksView → Direction → BlocksView
-blocks_after_settle b x =
+abbrev pub blocks_after_delivery : BlocksView → Direction → BlocksView
+blocks_after_delivery b x =
     record b { lanes = put_lane b.lanes x (record (lane_at b.lanes x) { flight = None }) }
 
 -- the parcel that was out comes back

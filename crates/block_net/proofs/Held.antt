@@ -17,7 +17,7 @@ use Rattle.block_net.specs.Views.{CellsView, IsBlock, no_row, no_border}
 use Rattle.block_net.specs.Whole.{table, index_of}
 use Rattle.block_net.specs.Split.{ByNode, BlockRows, no_rows, starts_from, block_made, inner_rows, outer_rows, CanSplit, directions, direction_in, first_node, base_of, span, lane_by, border_by, lane_made, border_made, lanes_made, borders_made, firsts_made, starts_made, ranks_made, rows_made, block_rows, all_rows, blank_rows, rows_at, AreHeld}
 use Rattle.block_net.proofs.Tables.{length_table, table_at}
-use Rattle.block_net.proofs.Numbers.{is_direction, index_forth, index_small, first_low, first_within, first_grows, home_below, home_is}
+use Rattle.block_net.proofs.Numbers.{is_direction, index_forth, index_small, first_low, first_within, first_grows, node_block_below, node_block_is}
 use Rattle.block_net.proofs.Written.{of_arc}
 use Rattle.block_net.proofs.Spots.{starts_grow}
 use Rattle.block_net.proofs.Spans.{stands_in, length_span}
@@ -30,10 +30,10 @@ ready_made net blocks h split = record { net_is = h; split = split; rows_are = r
 
 -- ---- what is read of a direction
 
-pub first_read : (net : Network) (blocks v home : ℕ) (firsts : List ℕ) → firsts ≡ firsts_made net blocks → home ≡ block_of net blocks v → home < blocks
-    → slice_index firsts home ≡ first_node (nodes net) blocks (block_of net blocks v)
-first_read net blocks v home firsts e h l =
-    ap (λ (xs : List ℕ). slice_index xs home) e ∙ (table_at blocks (first_node (nodes net) blocks) home 0 l ∙ ap (first_node (nodes net) blocks) h)
+pub first_read : (net : Network) (blocks v node_block : ℕ) (firsts : List ℕ) → firsts ≡ firsts_made net blocks → node_block ≡ block_of net blocks v → node_block < blocks
+    → slice_index firsts node_block ≡ first_node (nodes net) blocks (block_of net blocks v)
+first_read net blocks v node_block firsts e h l =
+    ap (λ (xs : List ℕ). slice_index xs node_block) e ∙ (table_at blocks (first_node (nodes net) blocks) node_block 0 l ∙ ap (first_node (nodes net) blocks) h)
 
 pub inner_base : (net : Network) (blocks b f : ℕ) (starts : List ℕ) → starts ≡ starts_made net blocks → f ≡ first_node (nodes net) blocks b
     → slice_index starts f ≡ base_of net blocks (inner_rows (rows_made net blocks)) b
@@ -71,7 +71,7 @@ step_of net blocks o x h split d e =
     let v = near net x in
     let lv = near_in net x h d in
     let b = block_of net blocks v in
-    let lb = home_below n blocks v split.some lv in
+    let lb = node_block_below n blocks v split.some lv in
     let first = first_node n blocks b in
     let next = first_node n blocks (b + 1) in
     let within = first_within n blocks (b + 1) split.some (omega (arith, lb)) in
@@ -133,7 +133,7 @@ pub held_lane : (net : Network) (blocks : ℕ) (rows : ByNode) (D : Direction �
 held_lane net blocks rows D lists x b s row L ready held dx ox eb lb es er el eo ls =
     let new = set lists b L in
     let lb' : b < length lists = omega (arith, lb, held.many) in
-    let home = λ (y : Direction). block_of net blocks (near net y) in
+    let node_block = λ (y : Direction). block_of net blocks (near net y) in
     let slot = λ (y : Direction). slice_index rows.slots (index_of net y) in
     let same = λ (c : ℕ) (e : c ≡ b). at_same lists b c L e lb' in
     let other = λ (c : ℕ) (ne : c ≢ b). at_other lists b c L ne in
@@ -150,15 +150,15 @@ held_lane net blocks rows D lists x b s row L ready held dx ox eb lb es er el eo
         | inr ne ↦ ap (λ (r : BlockRows). length r.lanes) (other c ne) ∙ held.lanes_len c l
       ];
       borders_len = λ c l. ap length (kept c) ∙ held.borders_len c l;
-      lanes = λ y dy hy oy. elim (cases_eq (home y) b) [
+      lanes = λ y dy hy oy. elim (cases_eq (node_block y) b) [
         | inl e ↦
-            let at : (rows_at new (home y)).lanes ≡ set (rows_at lists b).lanes s row = ap (λ (r : BlockRows). r.lanes) (same (home y) e) ∙ el in
+            let at : (rows_at new (node_block y)).lanes ≡ set (rows_at lists b).lanes s row = ap (λ (r : BlockRows). r.lanes) (same (node_block y) e) ∙ el in
             elim (cases_eq (slot y) s) [
               | inl here ↦
                   let one : y ≡ x = one_slot net blocks rows false y x ready dy dx oy ox (e ∙ eb) (here ∙ es) in
                   ap (λ (xs : List InnerLane). get_or xs (slot y) no_row) at
                   ∙ (get_or-set_at (rows_at lists b).lanes s (slot y) row no_row here ls
-                  ∙ (er ∙ ap (λ (y : Direction). lane_made net rows.slots (first_node (nodes net) blocks (home y)) y) (sym one)))
+                  ∙ (er ∙ ap (λ (y : Direction). lane_made net rows.slots (first_node (nodes net) blocks (node_block y)) y) (sym one)))
               | inr off ↦
                   let old : D y = elim hy [
                     | inl was ↦ was
@@ -171,16 +171,16 @@ held_lane net blocks rows D lists x b s row L ready held dx ox eb lb es er el eo
         | inr ne ↦
             let old : D y = elim hy [
               | inl was ↦ was
-              | inr one ↦ absurd (ne (ap home one ∙ sym eb))
+              | inr one ↦ absurd (ne (ap node_block one ∙ sym eb))
             ] in
-            ap (λ (r : BlockRows). get_or r.lanes (slot y) no_row) (other (home y) ne) ∙ held.lanes y dy old oy
+            ap (λ (r : BlockRows). get_or r.lanes (slot y) no_row) (other (node_block y) ne) ∙ held.lanes y dy old oy
       ];
       borders = λ y dy hy oy.
           let old : D y = elim hy [
             | inl was ↦ was
             | inr one ↦ absurd (true≢false (sym oy ∙ (ap (is_border net blocks) one ∙ ox)))
           ] in
-          ap (λ (xs : List Border). get_or xs (slot y) no_border) (kept (home y)) ∙ held.borders y dy old oy;
+          ap (λ (xs : List Border). get_or xs (slot y) no_border) (kept (node_block y)) ∙ held.borders y dy old oy;
     }
 
 -- one more direction to another block stands at its slot
@@ -193,7 +193,7 @@ pub held_border : (net : Network) (blocks : ℕ) (rows : ByNode) (D : Direction 
 held_border net blocks rows D lists x b s row L ready held dx ox eb lb es er el eo ls =
     let new = set lists b L in
     let lb' : b < length lists = omega (arith, lb, held.many) in
-    let home = λ (y : Direction). block_of net blocks (near net y) in
+    let node_block = λ (y : Direction). block_of net blocks (near net y) in
     let slot = λ (y : Direction). slice_index rows.slots (index_of net y) in
     let same = λ (c : ℕ) (e : c ≡ b). at_same lists b c L e lb' in
     let other = λ (c : ℕ) (ne : c ≢ b). at_other lists b c L ne in
@@ -210,15 +210,15 @@ held_border net blocks rows D lists x b s row L ready held dx ox eb lb es er el 
         | inr ne ↦ ap (λ (r : BlockRows). length r.borders) (other c ne) ∙ held.borders_len c l
       ];
       lanes_len = λ c l. ap length (kept c) ∙ held.lanes_len c l;
-      borders = λ y dy hy oy. elim (cases_eq (home y) b) [
+      borders = λ y dy hy oy. elim (cases_eq (node_block y) b) [
         | inl e ↦
-            let at : (rows_at new (home y)).borders ≡ set (rows_at lists b).borders s row = ap (λ (r : BlockRows). r.borders) (same (home y) e) ∙ el in
+            let at : (rows_at new (node_block y)).borders ≡ set (rows_at lists b).borders s row = ap (λ (r : BlockRows). r.borders) (same (node_block y) e) ∙ el in
             elim (cases_eq (slot y) s) [
               | inl here ↦
                   let one : y ≡ x = one_slot net blocks rows true y x ready dy dx oy ox (e ∙ eb) (here ∙ es) in
                   ap (λ (xs : List Border). get_or xs (slot y) no_border) at
                   ∙ (get_or-set_at (rows_at lists b).borders s (slot y) row no_border here ls
-                  ∙ (er ∙ ap (λ (y : Direction). border_made net blocks rows.slots (first_node (nodes net) blocks (home y)) y) (sym one)))
+                  ∙ (er ∙ ap (λ (y : Direction). border_made net blocks rows.slots (first_node (nodes net) blocks (node_block y)) y) (sym one)))
               | inr off ↦
                   let old : D y = elim hy [
                     | inl was ↦ was
@@ -231,16 +231,16 @@ held_border net blocks rows D lists x b s row L ready held dx ox eb lb es er el 
         | inr ne ↦
             let old : D y = elim hy [
               | inl was ↦ was
-              | inr one ↦ absurd (ne (ap home one ∙ sym eb))
+              | inr one ↦ absurd (ne (ap node_block one ∙ sym eb))
             ] in
-            ap (λ (r : BlockRows). get_or r.borders (slot y) no_border) (other (home y) ne) ∙ held.borders y dy old oy
+            ap (λ (r : BlockRows). get_or r.borders (slot y) no_border) (other (node_block y) ne) ∙ held.borders y dy old oy
       ];
       lanes = λ y dy hy oy.
           let old : D y = elim hy [
             | inl was ↦ was
             | inr one ↦ absurd (false≢true (sym oy ∙ (ap (is_border net blocks) one ∙ ox)))
           ] in
-          ap (λ (xs : List InnerLane). get_or xs (slot y) no_row) (kept (home y)) ∙ held.lanes y dy old oy;
+          ap (λ (xs : List InnerLane). get_or xs (slot y) no_row) (kept (node_block y)) ∙ held.lanes y dy old oy;
     }
 
 pub held_none : (net : Network) (blocks : ℕ) (rows : ByNode) (lists : List BlockRows) → lists ≡ table blocks (blank_rows net blocks rows)
@@ -260,7 +260,7 @@ held_none net blocks rows lists e =
 -- the direction of a block at a slot
 pub record IsAt (net : Network) (blocks : ℕ) (o : Bool) (rows : ByNode) (b j : ℕ) (x : Direction) : Type 0 where
   pub direction : IsDirection net x
-  pub home : block_of net blocks (near net x) ≡ b
+  pub node_block : block_of net blocks (near net x) ≡ b
   pub outer : is_border net blocks x ≡ o
   pub slot : slice_index rows.slots (index_of net x) ≡ j
 
@@ -282,18 +282,18 @@ stands_there net blocks o rows b j ready lb lj =
     let stands = stands_in net blocks o group first next p is within order (omega arith) high in
     let i = slice_index group.places p in
     let x = direction_in net i in
-    let home : block_of net blocks (near net x) ≡ b = home_is n blocks b (near net x) some (omega (arith, stands.high, within)) stands.low stands.high in
+    let node_block : block_of net blocks (near net x) ≡ b = node_block_is n blocks b (near net x) some (omega (arith, stands.high, within)) stands.low stands.high in
     let slots = picked_slots net blocks rows o ready.rows_are p (omega (arith, grow 0 first (omega arith) (omega (arith, order, within)))) (omega (arith, high, grow next n within (omega arith))) in (
       x,
       record {
         direction = is_direction net i stands.small;
-        home = home;
+        node_block = node_block;
         outer = stands.outer;
-        slot = ap (slice_index rows.slots) (index_forth net i stands.small) ∙ (slots ∙ omega (arith, ap (base_of net blocks group) home));
+        slot = ap (slice_index rows.slots) (index_forth net i stands.small) ∙ (slots ∙ omega (arith, ap (base_of net blocks group) node_block));
       },
     )
 
-same_rows : (L M : BlockRows) → L.lanes ≡ M.lanes → L.borders ≡ M.borders → L ≡ M
+pub same_rows : (L M : BlockRows) → L.lanes ≡ M.lanes → L.borders ≡ M.borders → L ≡ M
 same_rows L M e f = ap (λ (xs : List InnerLane). record { lanes = xs; borders = L.borders }) e ∙ ap (λ (xs : List Border). record { lanes = M.lanes; borders = xs }) f
 
 lanes_done : (net : Network) (blocks k : ℕ) (rows : ByNode) (lists : List BlockRows) (b : ℕ) → IsReady net blocks rows → k ≡ length net.arcs
@@ -314,12 +314,12 @@ lanes_done net blocks k rows lists b ready ek held lb =
     let at = there.1 in
     let row = row_of net blocks rows false x ready at.direction at.outer in
     let read = read_row (lane_made net rows.slots (first_node n blocks (block_of net blocks (near net x)))) net blocks rows false x _ _ row.0 d ready.rows_are
-    (first_within n blocks (block_of net blocks (near net x) + 1) ready.split.some (omega (arith, at.home, lb))) at.direction row.1 in
+    (first_within n blocks (block_of net blocks (near net x) + 1) ready.split.some (omega (arith, at.node_block, lb))) at.direction row.1 in
     let read' : get_or (lanes_made net rows.slots first rows') j d ≡ lane_made net rows.slots first x =
-    subst (λ (c : ℕ). get_or (lanes_made net rows.slots (first_node n blocks c) (span (pick false net rows) (first_node n blocks c) (first_node n blocks (c + 1)))) j d ≡ lane_made net rows.slots (first_node n blocks c) x) at.home
+    subst (λ (c : ℕ). get_or (lanes_made net rows.slots (first_node n blocks c) (span (pick false net rows) (first_node n blocks c) (first_node n blocks (c + 1)))) j d ≡ lane_made net rows.slots (first_node n blocks c) x) at.node_block
     (subst (λ (i : ℕ). get_or (lanes_made net rows.slots (first_node n blocks (block_of net blocks (near net x))) (span (pick false net rows) (first_node n blocks (block_of net blocks (near net x))) (first_node n blocks (block_of net blocks (near net x) + 1)))) i d ≡ lane_made net rows.slots (first_node n blocks (block_of net blocks (near net x))) x) at.slot read) in
     let here : get_or (rows_at lists b).lanes j no_row ≡ lane_made net rows.slots first x =
-    subst (λ (c : ℕ). get_or (rows_at lists c).lanes j no_row ≡ lane_made net rows.slots (first_node n blocks c) x) at.home
+    subst (λ (c : ℕ). get_or (rows_at lists c).lanes j no_row ≡ lane_made net rows.slots (first_node n blocks c) x) at.node_block
     (subst (λ (i : ℕ). get_or (rows_at lists (block_of net blocks (near net x))).lanes i no_row ≡ lane_made net rows.slots (first_node n blocks (block_of net blocks (near net x))) x) at.slot
     (held.lanes x at.direction (omega (arith, at.direction, ek)) at.outer)) in
     get_or_default (rows_at lists b).lanes j d no_row l ∙ (here ∙ sym read'))
@@ -342,12 +342,12 @@ borders_done net blocks k rows lists b ready ek held lb =
     let at = there.1 in
     let row = row_of net blocks rows true x ready at.direction at.outer in
     let read = read_row (border_made net blocks rows.slots (first_node n blocks (block_of net blocks (near net x)))) net blocks rows true x _ _ row.0 d ready.rows_are
-    (first_within n blocks (block_of net blocks (near net x) + 1) ready.split.some (omega (arith, at.home, lb))) at.direction row.1 in
+    (first_within n blocks (block_of net blocks (near net x) + 1) ready.split.some (omega (arith, at.node_block, lb))) at.direction row.1 in
     let read' : get_or (borders_made net blocks rows.slots first rows') j d ≡ border_made net blocks rows.slots first x =
-    subst (λ (c : ℕ). get_or (borders_made net blocks rows.slots (first_node n blocks c) (span (pick true net rows) (first_node n blocks c) (first_node n blocks (c + 1)))) j d ≡ border_made net blocks rows.slots (first_node n blocks c) x) at.home
+    subst (λ (c : ℕ). get_or (borders_made net blocks rows.slots (first_node n blocks c) (span (pick true net rows) (first_node n blocks c) (first_node n blocks (c + 1)))) j d ≡ border_made net blocks rows.slots (first_node n blocks c) x) at.node_block
     (subst (λ (i : ℕ). get_or (borders_made net blocks rows.slots (first_node n blocks (block_of net blocks (near net x))) (span (pick true net rows) (first_node n blocks (block_of net blocks (near net x))) (first_node n blocks (block_of net blocks (near net x) + 1)))) i d ≡ border_made net blocks rows.slots (first_node n blocks (block_of net blocks (near net x))) x) at.slot read) in
     let here : get_or (rows_at lists b).borders j no_border ≡ border_made net blocks rows.slots first x =
-    subst (λ (c : ℕ). get_or (rows_at lists c).borders j no_border ≡ border_made net blocks rows.slots (first_node n blocks c) x) at.home
+    subst (λ (c : ℕ). get_or (rows_at lists c).borders j no_border ≡ border_made net blocks rows.slots (first_node n blocks c) x) at.node_block
     (subst (λ (i : ℕ). get_or (rows_at lists (block_of net blocks (near net x))).borders i no_border ≡ border_made net blocks rows.slots (first_node n blocks (block_of net blocks (near net x))) x) at.slot
     (held.borders x at.direction (omega (arith, at.direction, ek)) at.outer)) in
     get_or_default (rows_at lists b).borders j d no_border l ∙ (here ∙ sym read'))

@@ -10,5 +10,6 @@ mod Splitting
 mod Ordered
 mod Written
 mod Held
+mod Sorted
 pub mod Linking
 pub mod Moving

@@ -19,7 +19,7 @@ use Rattle.block_net.specs.declared.lanes.InnerLane.{InnerLane}
 use Rattle.block_net.specs.Views.{IsBlock, IsLane, IsBorder, spare}
 use Rattle.block_net.specs.Split.{ByNode, Rows, inner_rows, outer_rows, CanSplit, directions, direction_in, AreRows, AreGrouped, first_node, span, lane_made, border_made, lanes_made, borders_made, block_from, base_of}
 use Rattle.block_net.proofs.Tables.{length_table, table_at}
-use Rattle.block_net.proofs.Numbers.{is_direction, arc_of_low, arc_of_high, first_low, first_high, home_is}
+use Rattle.block_net.proofs.Numbers.{is_direction, arc_of_low, arc_of_high, first_low, first_high, node_block_is}
 use Rattle.block_net.proofs.Spots.{starts_grow}
 use Rattle.block_net.proofs.Spans.{length_range, range_at, StandsIn, slot_of, stands_in, all_in_span, length_span}
 use Rattle.block_net.proofs.Once.{sum_of_once, sum_split}
@@ -40,9 +40,9 @@ far_in_block net blocks b first next rows p ef en ln h some stands =
     let x = direction_in net (slice_index rows.places p) in
     let d = is_direction net (slice_index rows.places p) stands.small in
     let lf = far_in net x h d in
-    let home : block_of net blocks (near net x) ≡ b =
-    home_is n blocks b (near net x) some (omega (arith, stands.high, ln)) (omega (arith, stands.low, ef)) (omega (arith, stands.high, en)) in
-    let away : block_of net blocks (far net x) ≡ b = sym (inner_blocks net blocks x stands.outer) ∙ home in
+    let node_block : block_of net blocks (near net x) ≡ b =
+    node_block_is n blocks b (near net x) some (omega (arith, stands.high, ln)) (omega (arith, stands.low, ef)) (omega (arith, stands.high, en)) in
+    let away : block_of net blocks (far net x) ≡ b = sym (inner_blocks net blocks x stands.outer) ∙ node_block in
     let low : first_node n blocks b ≤ far net x = subst (λ (c : ℕ). first_node n blocks c ≤ far net x) away (first_low n blocks (far net x) some lf) in
     let high : far net x < first_node n blocks (b + 1) = subst (λ (c : ℕ). far net x < first_node n blocks (c + 1)) away (first_high n blocks (far net x) some lf) in
     (omega (arith, low, ef), omega (arith, high, en))
@@ -134,9 +134,9 @@ block_from_is net blocks rows b first next h split is ef en lf ln =
     let found = slot_of net blocks false (inner_rows rows) slots y h split.some is.inner is.inner_slots d (border_opposite net blocks x ∙ stands.outer) in
     let slot = found.1 in
     let e = near_opposite net x in
-    let home : block_of net blocks (near net y) ≡ b =
-    ap (block_of net blocks) e ∙ home_is n blocks b (far net x) split.some (omega (arith, away.1, ln)) (omega (arith, away.0, ef)) (omega (arith, away.1, en)) in
-    let base = ap (base_of net blocks (inner_rows rows)) home in
+    let node_block : block_of net blocks (near net y) ≡ b =
+    ap (block_of net blocks) e ∙ node_block_is n blocks b (far net x) split.some (omega (arith, away.1, ln)) (omega (arith, away.0, ef)) (omega (arith, away.1, en)) in
+    let base = ap (base_of net blocks (inner_rows rows)) node_block in
     let grow = starts_grow net blocks false (inner_rows rows) is.inner (near net y + 1) next (omega (arith, e, away.1)) (omega (arith, ln)) in
     let base' : base_of net blocks (inner_rows rows) b ≡ slice_index (inner_rows rows).starts first = ap (slice_index (inner_rows rows).starts) (sym ef) in
     record {

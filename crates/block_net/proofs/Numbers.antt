@@ -87,8 +87,8 @@ swapped a b = grind arith
 mul_pos : (a b : ℕ) → 1 ≤ a → 1 ≤ b → 1 ≤ a * b
 mul_pos a b la lb = mul-le 1 1 a b la lb
 
-pub home_below : (n blocks v : ℕ) → 1 ≤ blocks → v < n → (v * blocks) / n < blocks
-home_below n blocks v some l =
+pub node_block_below : (n blocks v : ℕ) → 1 ≤ blocks → v < n → (v * blocks) / n < blocks
+node_block_below n blocks v some l =
     div_below (v * blocks) n blocks (omega (arith, l)) (omega (arith, some, one_more v blocks, swapped n blocks, mul-le (v + 1) blocks n blocks (omega (arith, l)) (omega arith)))
 
 pub first_low : (n blocks v : ℕ) → 1 ≤ blocks → v < n → first_node n blocks ((v * blocks) / n) ≤ v
@@ -118,8 +118,8 @@ first_grows n blocks b some =
     le-div f ((b + 1) * n + (blocks - 1)) blocks (omega (arith, some)) (omega (arith, split, one_more b n))
 
 -- a node from the first of a block on, and before the next block's first, lies in the block
-pub home_is : (n blocks b v : ℕ) → 1 ≤ blocks → v < n → first_node n blocks b ≤ v → v < first_node n blocks (b + 1) → (v * blocks) / n ≡ b
-home_is n blocks b v some l low high =
+pub node_block_is : (n blocks b v : ℕ) → 1 ≤ blocks → v < n → first_node n blocks b ≤ v → v < first_node n blocks (b + 1) → (v * blocks) / n ≡ b
+node_block_is n blocks b v some l low high =
     let q = first_node n blocks b in
     let q' = first_node n blocks (b + 1) in
     let split = div-add-mod' (b * n + (blocks - 1)) blocks in

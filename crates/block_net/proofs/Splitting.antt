@@ -14,10 +14,10 @@ use Rattle.block_events.proofs.Opening.{opened_is}
 use Rattle.block_net.specs.declared.lanes.InnerLane.{InnerLane}
 use Rattle.block_net.specs.declared.lanes.Border.{Border}
 use Rattle.block_net.specs.Views.{CellsView, count, excess_in, label_in, room_in, lane_in, border_in, no_row, no_border, first_lane, first_border}
-use Rattle.block_net.specs.Whole.{Whole, table, index_of, block_at, block_with, home, place, near_home, is_outer, lane_of, border_of, shown_lane, shown_border, shown_of, state_shown, no_block, IsInnerAt, IsBorderAt, StandsAt, IsPlaced, LiesAt, IsFilled}
+use Rattle.block_net.specs.Whole.{Whole, table, index_of, block_at, block_with, node_block, place, near_node_block, is_outer, lane_of, border_of, shown_lane, shown_border, shown_of, state_shown, no_block, IsInnerAt, IsBorderAt, StandsAt, IsPlaced, LiesAt, IsFilled}
 use Rattle.block_net.specs.Split.{ByNode, Rows, inner_rows, outer_rows, CanSplit, direction_in, AreRows, AreGrouped, HasSlots, first_node, base_of, span, starts_from, lane_made, border_made, lanes_made, borders_made, block_made, blocks_made, firsts_made, whole_at_opening, IsSplit}
 use Rattle.block_net.proofs.Tables.{length_table, table_at}
-use Rattle.block_net.proofs.Numbers.{is_direction, index_is, index_forth, first_low, first_high, first_within, first_grows, home_below, home_is}
+use Rattle.block_net.proofs.Numbers.{is_direction, index_is, index_forth, first_low, first_high, first_within, first_grows, node_block_below, node_block_is}
 use Rattle.block_net.proofs.Spots.{starts_grow}
 use Rattle.block_net.proofs.Spans.{length_range, range_at, slot_of, stands_in, length_span}
 use Rattle.block_net.proofs.Made.{inner_blocks}
@@ -36,9 +36,9 @@ count_made net blocks rows = length_table blocks (block_made net blocks rows)
 
 -- ---- nodes
 
--- the home of a node, its block and its place
-pub record IsHome (net : Network) (blocks : ℕ) (rows : ByNode) (v b : ℕ) : Type 0 where
-  pub home_is : home (made net blocks rows) v ≡ b
+-- where a node stands: its block and its place
+pub record IsNodeBlock (net : Network) (blocks : ℕ) (rows : ByNode) (v b : ℕ) : Type 0 where
+  pub node_block_is : node_block (made net blocks rows) v ≡ b
   pub small : b < blocks
   pub block_is : block_with (made net blocks rows) v ≡ block_made net blocks rows b
   pub place_is : place (made net blocks rows) v ≡ v - first_node (nodes net) blocks b
@@ -46,16 +46,16 @@ pub record IsHome (net : Network) (blocks : ℕ) (rows : ByNode) (v b : ℕ) : T
   pub high : v < first_node (nodes net) blocks (b + 1)
   pub within : first_node (nodes net) blocks (b + 1) ≤ nodes net
 
-at_home : (net : Network) (blocks : ℕ) (rows : ByNode) (v : ℕ) → IsReady net blocks rows → v < nodes net
-    → IsHome net blocks rows v (core.block_of net blocks v)
-at_home net blocks rows v ready l =
+at_node_block : (net : Network) (blocks : ℕ) (rows : ByNode) (v : ℕ) → IsReady net blocks rows → v < nodes net
+    → IsNodeBlock net blocks rows v (core.block_of net blocks v)
+at_node_block net blocks rows v ready l =
     let n = nodes net in
     let some = ready.split.some in
     let b = core.block_of net blocks v in
-    let lb = home_below n blocks v some l in
-    let h : home (made net blocks rows) v ≡ b = ap (λ k. (v * k) / n) (count_made net blocks rows) in
+    let lb = node_block_below n blocks v some l in
+    let h : node_block (made net blocks rows) v ≡ b = ap (λ k. (v * k) / n) (count_made net blocks rows) in
     record {
-      home_is = h;
+      node_block_is = h;
       small = lb;
       block_is = ap (block_at (made net blocks rows)) h ∙ table_at blocks (block_made net blocks rows) b no_block lb;
       place_is = ap (λ k. v - slice_index (firsts_made net blocks) k) h ∙ ap (λ k. v - k) (table_at blocks (first_node n blocks) b 0 lb);
@@ -124,7 +124,7 @@ row_of net blocks rows o x ready d e =
     let b = core.block_of net blocks v in
     let first = first_node n blocks b in
     let next = first_node n blocks (b + 1) in
-    let at = at_home net blocks rows v ready lv in
+    let at = at_node_block net blocks rows v ready lv in
     let group = pick o net rows in
     let is = picked net blocks rows o ready.rows_are in
     let found = slot_of net blocks o group rows.slots x ready.net_is ready.split.some is (picked_slots net blocks rows o ready.rows_are) d e in
@@ -160,7 +160,7 @@ read_row make net blocks rows o x first next p d is ln dx row =
 lane_is : (net : Network) (blocks : ℕ) (rows : ByNode) (x : Direction) → IsReady net blocks rows → IsDirection net x → core.is_border net blocks x ≡ false
     → lane_of (made net blocks rows) x ≡ lane_made net rows.slots (first_node (nodes net) blocks (core.block_of net blocks (near net x))) x
 lane_is net blocks rows x ready d e =
-    let at = at_home net blocks rows (near net x) ready (near_in net x ready.net_is d) in
+    let at = at_node_block net blocks rows (near net x) ready (near_in net x ready.net_is d) in
     let row = row_of net blocks rows false x ready d e in
     ap (λ (b : CellsView). lane_in b (slice_index rows.slots (index_of net x))) at.block_is
     ∙ read_row (lane_made net rows.slots (first_node (nodes net) blocks (core.block_of net blocks (near net x)))) net blocks rows false x _ _ row.0 no_row ready.rows_are at.within d row.1
@@ -168,7 +168,7 @@ lane_is net blocks rows x ready d e =
 border_is : (net : Network) (blocks : ℕ) (rows : ByNode) (x : Direction) → IsReady net blocks rows → IsDirection net x → core.is_border net blocks x ≡ true
     → border_of (made net blocks rows) x ≡ border_made net blocks rows.slots (first_node (nodes net) blocks (core.block_of net blocks (near net x))) x
 border_is net blocks rows x ready d e =
-    let at = at_home net blocks rows (near net x) ready (near_in net x ready.net_is d) in
+    let at = at_node_block net blocks rows (near net x) ready (near_in net x ready.net_is d) in
     let row = row_of net blocks rows true x ready d e in
     ap (λ (b : CellsView). border_in b (slice_index rows.slots (index_of net x))) at.block_is
     ∙ read_row (border_made net blocks rows.slots (first_node (nodes net) blocks (core.block_of net blocks (near net x)))) net blocks rows true x _ _ row.0 no_border ready.rows_are at.within d row.1
@@ -187,8 +187,8 @@ inner_at net blocks rows x ready d e =
     let b = core.block_of net blocks v in
     let B = block_made net blocks rows b in
     let first = first_node (nodes net) blocks b in
-    let at = at_home net blocks rows v ready (near_in net x ready.net_is d) in
-    let away = at_home net blocks rows (far net x) ready (far_in net x ready.net_is d) in
+    let at = at_node_block net blocks rows v ready (near_in net x ready.net_is d) in
+    let away = at_node_block net blocks rows (far net x) ready (far_in net x ready.net_is d) in
     let row = (row_of net blocks rows false x ready d e).1 in
     let lane = lane_is net blocks rows x ready d e in
     let same : core.block_of net blocks (far net x) ≡ b = sym (inner_blocks net blocks x e) in
@@ -208,8 +208,8 @@ border_at net blocks rows x ready d e =
     let b = core.block_of net blocks v in
     let B = block_made net blocks rows b in
     let first = first_node (nodes net) blocks b in
-    let at = at_home net blocks rows v ready (near_in net x ready.net_is d) in
-    let away = at_home net blocks rows (far net x) ready (far_in net x ready.net_is d) in
+    let at = at_node_block net blocks rows v ready (near_in net x ready.net_is d) in
+    let away = at_node_block net blocks rows (far net x) ready (far_in net x ready.net_is d) in
     let row = (row_of net blocks rows true x ready d e).1 in
     let border = border_is net blocks rows x ready d e in
     record {
@@ -218,7 +218,7 @@ border_at net blocks rows x ready d e =
       within = omega (arith, row.within, ap (λ (q : CellsView). length q.borders) at.block_is, length_borders net blocks rows.slots first (span (outer_rows (nodes net) rows) first (first_node (nodes net) blocks (b + 1))));
       direction = ap (λ (q : Border). q.direction) border;
       near = ap (λ (q : Border). q.near) border ∙ sym at.place_is;
-      to = ap (λ (q : Border). q.to) border ∙ sym away.home_is;
+      to = ap (λ (q : Border). q.to) border ∙ sym away.node_block_is;
       opposite = ap (λ (q : Border). q.opposite) border;
       capacity = ap (λ (q : Border). q.capacity) border;
     }
@@ -227,10 +227,10 @@ border_at net blocks rows x ready d e =
 pub one_slot : (net : Network) (blocks : ℕ) (rows : ByNode) (o : Bool) (x y : Direction) → IsReady net blocks rows → IsDirection net x → IsDirection net y
     → core.is_border net blocks x ≡ o → core.is_border net blocks y ≡ o → core.block_of net blocks (near net x) ≡ core.block_of net blocks (near net y)
     → slice_index rows.slots (index_of net x) ≡ slice_index rows.slots (index_of net y) → x ≡ y
-one_slot net blocks rows o x y ready dx dy ex ey home same =
+one_slot net blocks rows o x y ready dx dy ex ey node_block same =
     let one = row_of net blocks rows o x ready dx ex in
     let two = row_of net blocks rows o y ready dy ey in
-    let base = ap (base_of net blocks (pick o net rows)) home in
+    let base = ap (base_of net blocks (pick o net rows)) node_block in
     let p : one.0 ≡ two.0 = omega (arith, one.1.slot, two.1.slot, one.1.low, two.1.low, base, same) in
     let index : index_of net x ≡ index_of net y = sym one.1.stands ∙ (ap (slice_index (pick o net rows).places) p ∙ two.1.stands) in
     sym (index_is net x dx) ∙ (ap (direction_in net) index ∙ index_is net y dy)
@@ -245,7 +245,7 @@ stands_at net blocks rows o v j ready lv low high =
     let b = core.block_of net blocks v in
     let first = first_node n blocks b in
     let next = first_node n blocks (b + 1) in
-    let at = at_home net blocks rows v ready lv in
+    let at = at_node_block net blocks rows v ready lv in
     let group = pick o net rows in
     let is = picked net blocks rows o ready.rows_are in
     let starts = group.starts in
@@ -278,30 +278,30 @@ placed net blocks rows ready =
     let n = nodes net in
     let w = made net blocks rows in
     let len = count_made net blocks rows in
-    let home_of = λ (v : ℕ) (l : v < n). at_home net blocks rows v ready l in
+    let node_block_of = λ (v : ℕ) (l : v < n). at_node_block net blocks rows v ready l in
     let first = λ (v : ℕ). first_node n blocks (core.block_of net blocks v) in
     let next = λ (v : ℕ). first_node n blocks (core.block_of net blocks v + 1) in
-    let lane_starts = λ (v : ℕ) (l : v < n). ap (λ (q : CellsView). first_lane q (place w v)) (home_of v l).block_is ∙ ap (λ k. slice_index (starts_from (inner_rows rows).starts (first v) (next v)) k) (home_of v l).place_is in
-    let lane_ends = λ (v : ℕ) (l : v < n). ap (λ (q : CellsView). first_lane q (place w v + 1)) (home_of v l).block_is ∙ ap (λ k. slice_index (starts_from (inner_rows rows).starts (first v) (next v)) (k + 1)) (home_of v l).place_is in
-    let border_starts = λ (v : ℕ) (l : v < n). ap (λ (q : CellsView). first_border q (place w v)) (home_of v l).block_is ∙ ap (λ k. slice_index (starts_from (outer_rows (nodes net) rows).starts (first v) (next v)) k) (home_of v l).place_is in
-    let border_ends = λ (v : ℕ) (l : v < n). ap (λ (q : CellsView). first_border q (place w v + 1)) (home_of v l).block_is ∙ ap (λ k. slice_index (starts_from (outer_rows (nodes net) rows).starts (first v) (next v)) (k + 1)) (home_of v l).place_is in
+    let lane_starts = λ (v : ℕ) (l : v < n). ap (λ (q : CellsView). first_lane q (place w v)) (node_block_of v l).block_is ∙ ap (λ k. slice_index (starts_from (inner_rows rows).starts (first v) (next v)) k) (node_block_of v l).place_is in
+    let lane_ends = λ (v : ℕ) (l : v < n). ap (λ (q : CellsView). first_lane q (place w v + 1)) (node_block_of v l).block_is ∙ ap (λ k. slice_index (starts_from (inner_rows rows).starts (first v) (next v)) (k + 1)) (node_block_of v l).place_is in
+    let border_starts = λ (v : ℕ) (l : v < n). ap (λ (q : CellsView). first_border q (place w v)) (node_block_of v l).block_is ∙ ap (λ k. slice_index (starts_from (outer_rows (nodes net) rows).starts (first v) (next v)) k) (node_block_of v l).place_is in
+    let border_ends = λ (v : ℕ) (l : v < n). ap (λ (q : CellsView). first_border q (place w v + 1)) (node_block_of v l).block_is ∙ ap (λ k. slice_index (starts_from (outer_rows (nodes net) rows).starts (first v) (next v)) (k + 1)) (node_block_of v l).place_is in
     record {
       firsts_len = length_table blocks (first_node n blocks) ∙ sym len;
       slots_len = ready.rows_are.slots_len;
-      homes = λ v l. omega (arith, (home_of v l).home_is, (home_of v l).small, len);
-      firsts = λ v l. omega (arith, ap (slice_index (firsts_made net blocks)) (home_of v l).home_is, table_at blocks (first_node n blocks) (core.block_of net blocks v) 0 (home_of v l).small, (home_of v l).low);
+      node_blocks = λ v l. omega (arith, (node_block_of v l).node_block_is, (node_block_of v l).small, len);
+      firsts = λ v l. omega (arith, ap (slice_index (firsts_made net blocks)) (node_block_of v l).node_block_is, table_at blocks (first_node n blocks) (core.block_of net blocks v) 0 (node_block_of v l).small, (node_block_of v l).low);
       places = λ v l.
-          let at = home_of v l in
+          let at = node_block_of v l in
           omega (arith, at.place_is, at.low, at.high, ap count at.block_is, length_range net.sources (first v) (next v) at.within);
       tops = λ b l. ap (λ (q : CellsView). q.top) (table_at blocks (block_made net blocks rows) b no_block (omega (arith, l, len)));
       inner = λ x d e. inner_at net blocks rows x ready d (sym (outer_is net blocks rows x) ∙ e);
       borders = λ x d e. border_at net blocks rows x ready d (sym (outer_is net blocks rows x) ∙ e);
-      apart = λ x y dx dy kind home same.
-          let one = at_home net blocks rows (near net x) ready (near_in net x ready.net_is dx) in
-          let two = at_home net blocks rows (near net y) ready (near_in net y ready.net_is dy) in
+      apart = λ x y dx dy kind node_block same.
+          let one = at_node_block net blocks rows (near net x) ready (near_in net x ready.net_is dx) in
+          let two = at_node_block net blocks rows (near net y) ready (near_in net y ready.net_is dy) in
           one_slot net blocks rows (core.is_border net blocks y) x y ready dx dy
           (sym (outer_is net blocks rows x) ∙ (kind ∙ outer_is net blocks rows y)) refl
-          (sym one.home_is ∙ (home ∙ two.home_is)) same;
+          (sym one.node_block_is ∙ (node_block ∙ two.node_block_is)) same;
       lanes = λ v j l low high. stands_at net blocks rows false v j ready l (omega (arith, low, lane_starts v l)) (omega (arith, high, lane_ends v l));
       outers = λ v j l low high. stands_at net blocks rows true v j ready l (omega (arith, low, border_starts v l)) (omega (arith, high, border_ends v l));
     }
@@ -313,12 +313,12 @@ block_is net blocks rows b l = table_at blocks (block_made net blocks rows) b no
 
 -- a node between the first of a block and the first of the next
 lies_in : (net : Network) (blocks : ℕ) (rows : ByNode) (b v : ℕ) → IsReady net blocks rows → b < blocks → first_node (nodes net) blocks b ≤ v
-    → v < first_node (nodes net) blocks (b + 1) → home (made net blocks rows) v ≡ b
+    → v < first_node (nodes net) blocks (b + 1) → node_block (made net blocks rows) v ≡ b
 lies_in net blocks rows b v ready lb low high =
     let n = nodes net in
     let some = ready.split.some in
     let within = first_within n blocks (b + 1) some (omega (arith, lb)) in
-    ap (λ k. (v * k) / n) (count_made net blocks rows) ∙ home_is n blocks b v some (omega (arith, high, within)) low high
+    ap (λ k. (v * k) / n) (count_made net blocks rows) ∙ node_block_is n blocks b v some (omega (arith, high, within)) low high
 
 node_of : (net : Network) (blocks : ℕ) (rows : ByNode) (b p : ℕ) → IsReady net blocks rows → b < blocks → p < count (block_made net blocks rows b)
     → (v : ℕ) × LiesAt (made net blocks rows) b p v
@@ -331,13 +331,13 @@ node_of net blocks rows b p ready lb lp =
       first + p,
       record {
         node = omega (arith, high, within);
-        home = here;
+        node_block = here;
         place = omega (arith, ap (slice_index (firsts_made net blocks)) here, table_at blocks (first_node n blocks) b 0 lb);
       },
     )
 
 border_in_block : (net : Network) (blocks : ℕ) (rows : ByNode) (b j : ℕ) → IsReady net blocks rows → b < blocks → j < length (block_made net blocks rows b).borders
-    → (x : Direction) × (near_home (made net blocks rows) x ≡ b) × StandsAt (made net blocks rows) true (near net x) j x
+    → (x : Direction) × (near_node_block (made net blocks rows) x ≡ b) × StandsAt (made net blocks rows) true (near net x) j x
 border_in_block net blocks rows b j ready lb lj =
     let n = nodes net in
     let some = ready.split.some in
@@ -356,7 +356,7 @@ border_in_block net blocks rows b j ready lb lj =
     let i = slice_index group.places p in
     let x = direction_in net i in
     let here = lies_in net blocks rows b (near net x) ready lb stands.low stands.high in
-    let home : core.block_of net blocks (near net x) ≡ b = sym (ap (λ k. (near net x * k) / n) (count_made net blocks rows)) ∙ here in
+    let node_block : core.block_of net blocks (near net x) ≡ b = sym (ap (λ k. (near net x * k) / n) (count_made net blocks rows)) ∙ here in
     let slots = ready.rows_are.outer_slots p (omega (arith, grow 0 first (omega arith) (omega (arith, order, within)))) (omega (arith, high, grow next n within (omega arith))) in (
       x,
       here,
@@ -364,7 +364,7 @@ border_in_block net blocks rows b j ready lb lj =
         direction = is_direction net i stands.small;
         near = refl;
         outer = outer_is net blocks rows x ∙ stands.outer;
-        slot = ap (slice_index rows.slots) (index_forth net i stands.small) ∙ (slots ∙ omega (arith, ap (base_of net blocks group) home));
+        slot = ap (slice_index rows.slots) (index_forth net i stands.small) ∙ (slots ∙ omega (arith, ap (base_of net blocks group) node_block));
       },
     )
 
@@ -422,7 +422,7 @@ opening net blocks rows ready =
     let w = made net blocks rows in
     let first = λ (v : ℕ). first_node n blocks (core.block_of net blocks v) in
     let next = λ (v : ℕ). first_node n blocks (core.block_of net blocks v + 1) in
-    let at = λ (v : ℕ) (l : v < n). at_home net blocks rows v ready l in
+    let at = λ (v : ℕ) (l : v < n). at_node_block net blocks rows v ready l in
     let part = λ (xs : List ℕ) (v : ℕ) (l : v < n). range_at xs (first v) (next v) (v - first v) 0 (omega (arith, (at v l).low, (at v l).high)) ∙ ap (slice_index xs) (back_to (first v) v (at v l).low) in
     let excess = table_of n (λ v. excess_in (block_with w v) (place w v)) net.sources refl (λ v l.
     sym (ap (λ (q : CellsView). excess_in q (place w v)) (at v l).block_is ∙ (ap (slice_index (slice_range net.sources (first v) (next v))) (at v l).place_is ∙ part net.sources v l))) in

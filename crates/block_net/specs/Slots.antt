@@ -1,15 +1,19 @@
 -- How the directions of a net are put into its blocks.
-use Rattle.std.specs.Prelude.{◌≡◌, ℕ, ◌<◌, List}
+use Rattle.std.specs.Prelude.{◌≡◌, ℕ, ◌<◌, List, Option, Some, Result, Ok, length, slice_index_or}
+use Rattle.std.specs.declared.alloc.AllocError.{AllocError}
 use Rattle.flow_network.specs.Cut.{IsNet}
 use Rattle.block_net.specs.declared.filling.NetInBlocks.{NetInBlocks}
-use Rattle.block_net.specs.Split.{BlockRows, ByNode, CanSplit, homes_made, firsts_made, starts_made}
-use Rattle.block_net.specs.Split.{ranks_made, rows_made, AreWritten, AreHeld}
+use Rattle.block_net.specs.declared.rows.SortedNet.{SortedNet}
+use Rattle.block_net.specs.Split.{BlockRows, ByNode, CanSplit, node_blocks_made, firsts_made}
+use Rattle.block_net.specs.Split.{starts_made}
+use Rattle.block_net.specs.Split.{ranks_made, rows_made, block_made, AreWritten, AreHeld}
+use Rattle.block_net.specs.Views.{CellsView}
 
 -- the net can be split, and the numbers are those that are made of it
 pub record AreNumbersMade (split : NetInBlocks) : Type 0 where
   pub is_net : IsNet split.net.now
   pub can_split : CanSplit split.net.now split.blocks
-  pub homes_are : split.homes.now ≡ homes_made split.net.now split.blocks
+  pub node_blocks_are : split.node_blocks.now ≡ node_blocks_made split.net.now split.blocks
   pub firsts_are : split.firsts.now ≡ firsts_made split.net.now split.blocks
   pub starts_are : split.starts.now ≡ starts_made split.net.now split.blocks
 
@@ -27,3 +31,15 @@ HasSlotsWritten split arcs slots =
 abbrev pub HasListsHeld : NetInBlocks → ℕ → List BlockRows → Type 0
 HasListsHeld split arcs lists =
     AreHeld split.net.now split.blocks (split_rows split) (λ x. x.arc < arcs) lists
+
+-- the net can be split, and its directions stand in the order of their keys, each with its slot
+pub record IsNetSorted (sorted : SortedNet) : Type 0 where
+  pub numbers : AreNumbersMade sorted.split
+  pub places_are : sorted.places.now ≡ (split_rows sorted.split).places
+  pub slots_are : sorted.slots.now ≡ (split_rows sorted.split).slots
+
+-- each block that was made without an error is the net's
+abbrev pub AreMadeOf : NetInBlocks → List (Option (Result CellsView AllocError)) → Type 0
+AreMadeOf split made = (b : ℕ) (d : _) (cells : CellsView) → b < length made
+    → slice_index_or made b d ≡ Some (Ok cells)
+    → cells ≡ block_made split.net.now split.blocks (split_rows split) b

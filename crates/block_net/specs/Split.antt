@@ -40,8 +40,8 @@ abbrev pub first_node : ℕ → ℕ → ℕ → ℕ
 first_node n blocks b = (b * n + (blocks - 1)) / blocks
 
 -- the block of each node
-abbrev pub homes_made : Network → ℕ → List ℕ
-homes_made net blocks = table (nodes net) (block_of net blocks)
+abbrev pub node_blocks_made : Network → ℕ → List ℕ
+node_blocks_made net blocks = table (nodes net) (block_of net blocks)
 
 -- what a direction is grouped by: the node that it leaves, and where it leads to another block that
 -- node's number after those of all nodes

@@ -183,8 +183,8 @@ cells_with_known b j d = record b
     { borders = slice_set b.borders j (record (border_in b j) { known = d }) }
 
 -- the parcel that was out was taken
-abbrev pub cells_after_settle : CellsView → ℕ → CellsView
-cells_after_settle b j = record b
+abbrev pub cells_after_delivery : CellsView → ℕ → CellsView
+cells_after_delivery b j = record b
     { borders = slice_set b.borders j (record (border_in b j) { flight = None }) }
 
 -- the parcel that was out comes back

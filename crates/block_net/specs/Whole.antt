@@ -63,19 +63,19 @@ abbrev pub block_at : Whole → ℕ → CellsView
 block_at w b = slice_index_or w.blocks b no_block
 
 -- the block of a node
-abbrev pub home : Whole → ℕ → ℕ
-home w v = core.block_of w.net (length w.blocks) v
+abbrev pub node_block : Whole → ℕ → ℕ
+node_block w v = core.block_of w.net (length w.blocks) v
 
 -- the block that a node lies in
 abbrev pub block_with : Whole → ℕ → CellsView
-block_with w v = block_at w (home w v)
+block_with w v = block_at w (node_block w v)
 
 -- the place of a node in its block
 abbrev pub place : Whole → ℕ → ℕ
-place w v = v - slice_index w.firsts (home w v)
+place w v = v - slice_index w.firsts (node_block w v)
 
-abbrev pub near_home : Whole → Direction → ℕ
-near_home w x = home w (near w.net x)
+abbrev pub near_node_block : Whole → Direction → ℕ
+near_node_block w x = node_block w (near w.net x)
 
 -- where a direction stands in the table of slots: first all that lead from an arc's tail to its
 -- head
@@ -92,10 +92,10 @@ abbrev pub is_outer : Whole → Direction → Bool
 is_outer w x = core.is_border w.net (length w.blocks) x
 
 abbrev pub lane_of : Whole → Direction → InnerLane
-lane_of w x = lane_in (block_at w (near_home w x)) (slot w x)
+lane_of w x = lane_in (block_at w (near_node_block w x)) (slot w x)
 
 abbrev pub border_of : Whole → Direction → Border
-border_of w x = border_in (block_at w (near_home w x)) (slot w x)
+border_of w x = border_in (block_at w (near_node_block w x)) (slot w x)
 
 abbrev pub shown_lane : InnerLane → Lane
 shown_lane lane = record { residual = lane.residual; known = 0; flight = None }
@@ -158,7 +158,7 @@ pub record IsBorderAt (w : Whole) (x : Direction) : Type 0 where
   pub within : slot w x < length (block_with w (near w.net x)).borders
   pub direction : (border_of w x).direction ≡ x
   pub near : (border_of w x).near ≡ place w (near w.net x)
-  pub to : (border_of w x).to ≡ home w (far w.net x)
+  pub to : (border_of w x).to ≡ node_block w (far w.net x)
   pub opposite : (border_of w x).opposite ≡ slot w (opposite x)
   pub capacity : (border_of w x).capacity ≡ (arc_at w.net x.arc).capacity
 
@@ -175,15 +175,15 @@ pub record IsPlaced (w : Whole) : Type 0 where
   pub slots_len : length w.slots ≡ 2 * length w.net.arcs
   pub tops : (b : ℕ) → b < length w.blocks → (block_at w b).top ≡ top w.net
   -- each node has a place in its block, counted from the block's first node
-  pub homes : (v : ℕ) → v < nodes w.net → home w v < length w.blocks
-  pub firsts : (v : ℕ) → v < nodes w.net → slice_index w.firsts (home w v) ≤ v
+  pub node_blocks : (v : ℕ) → v < nodes w.net → node_block w v < length w.blocks
+  pub firsts : (v : ℕ) → v < nodes w.net → slice_index w.firsts (node_block w v) ≤ v
   pub places : (v : ℕ) → v < nodes w.net → place w v < count (block_with w v)
   -- each direction has a slot in the range of its near end
   pub inner : (x : Direction) → IsDirection w.net x → is_outer w x ≡ false → IsInnerAt w x
   pub borders : (x : Direction) → IsDirection w.net x → is_outer w x ≡ true → IsBorderAt w x
   pub apart : (x y : Direction) → IsDirection w.net x → IsDirection w.net y
       → is_outer w x ≡ is_outer w y
-      → near_home w x ≡ near_home w y → slot w x ≡ slot w y → x ≡ y
+      → near_node_block w x ≡ near_node_block w y → slot w x ≡ slot w y → x ≡ y
   -- and the ranges of a node hold nothing else
   pub lanes : (v j : ℕ) → v < nodes w.net → lanes_begin w v ≤ j → j < lanes_end w v
       → (x : Direction) × StandsAt w false v j x
@@ -193,7 +193,7 @@ pub record IsPlaced (w : Whole) : Type 0 where
 -- v is the node at a place of a block
 pub record LiesAt (w : Whole) (b p v : ℕ) : Type 0 where
   pub node : v < nodes w.net
-  pub home : home w v ≡ b
+  pub node_block : node_block w v ≡ b
   pub place : place w v ≡ p
 
 -- each block has a label for each of its nodes, and holds no node and no direction to another block
@@ -202,7 +202,7 @@ pub record IsFilled (w : Whole) : Type 0 where
   pub labels : (b : ℕ) → b < length w.blocks → length (block_at w b).labels ≡ count (block_at w b)
   pub nodes : (b p : ℕ) → b < length w.blocks → p < count (block_at w b) → (v : ℕ) × LiesAt w b p v
   pub borders : (b j : ℕ) → b < length w.blocks → j < length (block_at w b).borders
-      → (x : Direction) × (near_home w x ≡ b) × StandsAt w true (near w.net x) j x
+      → (x : Direction) × (near_node_block w x ≡ b) × StandsAt w true (near w.net x) j x
 
 -- another block in a block's stead
 abbrev pub put_block : Whole → ℕ → CellsView → Whole

@@ -10,7 +10,7 @@ ghost use Rattle.block_net.specs.Views.{CellsView, count, excess_in, label_in, r
 ghost use Rattle.block_net.specs.Views.{border_in, first_lane, first_border, out_of, MayPush};
 ghost use Rattle.block_net.specs.Views.{MaySend, cells_after_push, cells_after_sink_push};
 ghost use Rattle.block_net.specs.Views.{cells_after_relabel, cells_after_send, cells_after_accept};
-ghost use Rattle.block_net.specs.Views.{cells_after_settle, cells_after_return, cells_with_known};
+ghost use Rattle.block_net.specs.Views.{cells_after_delivery, cells_after_return, cells_with_known};
 ghost use Rattle.block_net.specs.Views.{parcel_of, lane_allows, border_allows, highest};
 
 use crate::buckets::Buckets;
@@ -420,16 +420,16 @@ impl Cells {
     }
 
     /// The parcel of a direction was taken.
-    pub fn settle(&mut self, j: usize)
+    pub fn deliver_parcel(&mut self, j: usize)
         requires { j < length self.old.borders }
-        ensures { self.new ≡ cells_after_settle self.old j }
+        ensures { self.new ≡ cells_after_delivery self.old j }
     {
         let border = self.borders[j].border();
         self.borders[j].set(border.residual, border.known, None);
     }
 
     /// The parcel of a direction comes back.
-    pub fn take_back(&mut self, j: usize, amount: u64, told: u32)
+    pub fn return_parcel(&mut self, j: usize, amount: u64, told: u32)
         requires place { j < length self.old.borders }
         requires fits { amount ≤ out_of (border_in self.old j).flight }
         requires told { told ≤ self.old.top }

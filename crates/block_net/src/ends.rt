@@ -5,10 +5,27 @@ ghost use Rattle.flow_network.specs.Cut.{nodes, IsNet};
 ghost use Rattle.block_events.specs.Directions.{IsDirection, near, far};
 ghost use Rattle.block_events.specs.States.{is_border};
 ghost use Rattle.block_net.specs.Limits.{block_limit};
-ghost use Rattle.block_net.specs.Split.{CanSplit, first_node, homes_made};
+ghost use Rattle.block_net.specs.Split.{CanSplit, first_node, node_blocks_made, slot_direction};
 
 use block_events::Direction;
 use flow_network::Net;
+
+/// The direction at an index of the table of slots, for so many arcs.
+pub(crate) fn direction_at(arcs: usize, index: usize) -> Direction
+    ensures { result ≡ slot_direction arcs index }
+{
+    if index < arcs {
+        Direction {
+            arc: index,
+            back: false,
+        }
+    } else {
+        Direction {
+            arc: index - arcs,
+            back: true,
+        }
+    }
+}
 
 /// The node that a direction leaves.
 pub(crate) fn near(net: &Net, direction: Direction) -> u32
@@ -62,9 +79,9 @@ pub(crate) fn bounds(net: &Net, blocks: usize, block: usize) -> (usize, usize)
 }
 
 /// Whether a direction leads to another block, by the block of each node.
-pub(crate) fn leads_out(net: &Net, blocks: usize, homes: &[u8], direction: Direction) -> bool
+pub(crate) fn leads_out(net: &Net, blocks: usize, node_blocks: &[u8], direction: Direction) -> bool
     requires direction { IsDirection net.now direction }
-    requires homes { homes.now ≡ homes_made net.now blocks }
+    requires node_blocks { node_blocks.now ≡ node_blocks_made net.now blocks }
     ensures { result ≡ is_border net.now blocks direction }
 {
     let tail = near(net, direction);
@@ -72,7 +89,7 @@ pub(crate) fn leads_out(net: &Net, blocks: usize, homes: &[u8], direction: Direc
     if blocks == 1 {
         return false;
     }
-    let from = homes[tail as usize];
-    let to = homes[head as usize];
+    let from = node_blocks[tail as usize];
+    let to = node_blocks[head as usize];
     from != to
 }

@@ -6,15 +6,16 @@ ghost use Rattle.block_events.specs.States.{block_of};
 ghost use Rattle.block_events.specs.Soundness.{first_residual};
 ghost use Rattle.block_net.specs.Limits.{arc_limit, block_limit};
 ghost use Rattle.block_net.specs.Whole.{table};
-ghost use Rattle.block_net.specs.Split.{CanSplit, homes_made, firsts_made, rows_made, ranks_made};
+ghost use Rattle.block_net.specs.Split.{CanSplit, node_blocks_made, firsts_made, rows_made};
+ghost use Rattle.block_net.specs.Split.{ranks_made};
 ghost use Rattle.block_net.specs.Split.{starts_made, lane_by, border_by, all_rows, blank_rows};
 ghost use Rattle.block_net.specs.Slots.{AreNumbersMade, HasSlotsWritten, HasListsHeld, split_rows};
 
 use crate::by_node::directions_by_node;
 use crate::ends::{far, near};
-use crate::homes::homes_of;
 use crate::leaving::Leaving;
 use crate::make::blanks;
+use crate::node_blocks::node_blocks_of;
 use crate::{Border, InnerLane};
 use block_events::Direction;
 use flow_network::Net;
@@ -22,17 +23,17 @@ use grouping::Ranked;
 use std::alloc::{AllocError, Global};
 
 /// The block of a node, by the block of each.
-fn home_of(net: &Net, blocks: usize, homes: &[u8], node: u32) -> usize
+pub(crate) fn node_block_of(net: &Net, blocks: usize, node_blocks: &[u8], node: u32) -> usize
     requires node { node < nodes net.now }
     requires some { 1 ≤ blocks }
-    requires homes { homes.now ≡ homes_made net.now blocks }
+    requires node_blocks { node_blocks.now ≡ node_blocks_made net.now blocks }
     ensures value { result ≡ block_of net.now blocks node }
     ensures below { result < blocks }
 {
     if blocks == 1 {
         return 0;
     }
-    homes[node as usize] as usize
+    node_blocks[node as usize] as usize
 }
 
 /// The slot of a direction takes the place of its rank: it is counted from where those of its block
@@ -49,7 +50,7 @@ fn take_slot(slots: &mut [u32], index: usize, base: u32) -> u32
 }
 
 /// What a direction can carry before any flow.
-fn first_residual(net: &Net, direction: Direction) -> u64
+pub(crate) fn first_residual(net: &Net, direction: Direction) -> u64
     requires { IsDirection net.now direction }
     ensures { result ≡ first_residual net.now direction }
 {
@@ -123,16 +124,16 @@ fn put_border(
 /// A net that is split into so many blocks, and the numbers by which its directions find their
 /// slots.
 #[derive(Clone, Copy)]
-struct NetInBlocks<'a> {
-    net: &'a Net,
-    blocks: usize,
+pub(crate) struct NetInBlocks<'a> {
+    pub net: &'a Net,
+    pub blocks: usize,
     /// The block of each node.
-    homes: &'a [u8],
+    pub node_blocks: &'a [u8],
     /// The first node of each block.
-    firsts: &'a [usize],
+    pub firsts: &'a [usize],
     /// Where the directions of each node begin: those within blocks, and after them those to
     /// others.
-    starts: &'a [u32],
+    pub starts: &'a [u32],
 }
 
 /// Both directions of an arc stand at their slots, which take the place of their ranks.
@@ -147,15 +148,15 @@ fn put_arc(split: &NetInBlocks, arc: usize, slots: &mut [u32], lists: &mut [Leav
     let NetInBlocks {
         net,
         blocks,
-        homes,
+        node_blocks,
         firsts,
         starts,
     } = *split;
     let forth = Direction { arc, back: false };
     let back = Direction { arc, back: true };
     let arcs = net.arcs().len();
-    let from = home_of(net, blocks, homes, near(net, forth));
-    let to = home_of(net, blocks, homes, far(net, forth));
+    let from = node_block_of(net, blocks, node_blocks, near(net, forth));
+    let to = node_block_of(net, blocks, node_blocks, far(net, forth));
     let tail = firsts[from];
     let head = firsts[to];
     if from == to {
@@ -224,14 +225,14 @@ pub(crate) fn fill_blocks(
     ensures lists { IfOk result
         (λ made. made.lists.items ≡ all_rows net.now blocks (rows_made net.now blocks)) }
 {
-    let homes = homes_of(alloc, net, blocks)?;
-    let Ranked { starts, ranks } = directions_by_node(alloc, net, blocks, homes.as_slice())?;
+    let node_blocks = node_blocks_of(alloc, net, blocks)?;
+    let Ranked { starts, ranks } = directions_by_node(alloc, net, blocks, node_blocks.as_slice())?;
     let mut slots = ranks;
     let mut lists = blanks(alloc, net, blocks, starts.as_slice())?;
     let split = NetInBlocks {
         net,
         blocks,
-        homes: homes.as_slice(),
+        node_blocks: node_blocks.as_slice(),
         firsts,
         starts: starts.as_slice(),
     };

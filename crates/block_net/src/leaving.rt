@@ -49,6 +49,13 @@ fn blank_borders(alloc: Global, count: usize) -> Result<Vec<CompactBorder>, Allo
 }
 
 impl Leaving {
+    /// Those within a block, and those to other blocks.
+    pub fn of(lanes: Vec<InnerLane>, borders: Vec<CompactBorder>) -> Leaving
+        ensures { result ≡ record { lanes = lanes.items; borders = borders.items } }
+    {
+        Leaving { lanes, borders }
+    }
+
     /// Room for so many directions within a block, and so many to other blocks.
     pub fn blank(alloc: Global, lanes: usize, borders: usize) -> Result<Leaving, AllocError>
         ensures { IfOk result (λ made. made

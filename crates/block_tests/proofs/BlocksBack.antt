@@ -8,7 +8,7 @@ use Rattle.parcel.specs.States.{way_at}
 use Rattle.block_tests.specs.Runs.{two_source_net}
 use Rattle.block_events.proofs.Opening.{opened_sound}
 use Rattle.discharge.specs.Views.{count, first_lane, first_border}
-use Rattle.parcel.specs.Whole.{block_at, block_with, home, place, near_home, slot, is_outer, IsInnerAt, IsBorderAt, StandsAt, LiesAt, IsPlaced, IsFilled, with_blocks}
+use Rattle.parcel.specs.Whole.{block_at, block_with, node_block, place, near_node_block, slot, is_outer, IsInnerAt, IsBorderAt, StandsAt, LiesAt, IsPlaced, IsFilled, with_blocks}
 use Rattle.parcel.specs.Views.{IsLaid}
 use Rattle.discharge.specs.Steps.{TurnView, Relabel, Send, DoesMany}
 use Rattle.block_cut.specs.Rounds.{fresh}
@@ -49,14 +49,14 @@ stands1 : (j : ℕ) → 0 ≤ j → j < 1 → (x : Direction) × StandsAt whole_
 stands1 j from below = (backward 0, record { direction = omega arith; near = refl; outer = refl; slot = omega (arith, from, below) })
 
 abbrev Apart : Direction → Direction → Type 0
-Apart x y = is_outer whole_before x ≡ is_outer whole_before y → near_home whole_before x ≡ near_home whole_before y → slot whole_before x ≡ slot whole_before y → x ≡ y
+Apart x y = is_outer whole_before x ≡ is_outer whole_before y → near_node_block whole_before x ≡ near_node_block whole_before y → slot whole_before x ≡ slot whole_before y → x ≡ y
 
 placed : IsPlaced whole_before
 placed = record {
   firsts_len = refl;
   slots_len = refl;
-  homes = λ v lv. by_node (λ v. home whole_before v < 2) (omega arith) (omega arith) v lv;
-  firsts = λ v lv. by_node (λ v. slice_index whole_before.firsts (home whole_before v) ≤ v) (omega arith) (omega arith) v lv;
+  node_blocks = λ v lv. by_node (λ v. node_block whole_before v < 2) (omega arith) (omega arith) v lv;
+  firsts = λ v lv. by_node (λ v. slice_index whole_before.firsts (node_block whole_before v) ≤ v) (omega arith) (omega arith) v lv;
   places = λ v lv. by_node (λ v. place whole_before v < count (block_with whole_before v)) (omega arith) (omega arith) v lv;
   tops = λ b lb. by_node (λ b. (block_at whole_before b).top ≡ 4) refl refl b lb;
   inner = λ x d e. by_way (λ x. is_outer whole_before x ≡ false → IsInnerAt whole_before x) (λ e. absurd (false≢true (sym e))) (λ e. absurd (false≢true (sym e))) x.arc x.back d e;
@@ -77,7 +77,7 @@ abbrev Lies : ℕ → ℕ → Type 0
 Lies b p = (v : ℕ) × LiesAt whole_before b p v
 
 abbrev Leaves : ℕ → ℕ → Type 0
-Leaves b j = (x : Direction) × (near_home whole_before x ≡ b) × StandsAt whole_before true (near two_source_net x) j x
+Leaves b j = (x : Direction) × (near_node_block whole_before x ≡ b) × StandsAt whole_before true (near two_source_net x) j x
 
 leaves0 : Leaves 0 0
 leaves0 = (forward 0, refl, record { direction = omega arith; near = refl; outer = refl; slot = refl })
@@ -89,8 +89,8 @@ filled : IsFilled whole_before
 filled = record {
   labels = λ b lb. by_node (λ b. length (block_at whole_before b).labels ≡ count (block_at whole_before b)) refl refl b lb;
   nodes = λ b p lb. by_node (λ b. p < count (block_at whole_before b) → Lies b p)
-      (by_one (Lies 0) (0, record { node = omega arith; home = refl; place = refl }) p)
-      (by_one (Lies 1) (1, record { node = omega arith; home = refl; place = refl }) p) b lb;
+      (by_one (Lies 0) (0, record { node = omega arith; node_block = refl; place = refl }) p)
+      (by_one (Lies 1) (1, record { node = omega arith; node_block = refl; place = refl }) p) b lb;
   borders = λ b j lb. by_node (λ b. j < length (block_at whole_before b).borders → Leaves b j)
       (by_one (Leaves 0) leaves0 j) (by_one (Leaves 1) leaves1 j) b lb;
 }

@@ -31,9 +31,9 @@ impl OneLetter {
 }
 
 impl Ways for OneLetter {
-    type Fixed = ();
+    type Identity = ();
 
-    ghost fixed = { λ _. tt };
+    ghost identity = { λ _. tt };
 
     ghost seen = { λ e. seen_of e.came e.put_for e.put e.taken_from e.taken };
 

@@ -4,7 +4,7 @@ use crate::building::{Row, net_of};
 use crate::ends::OneLetter;
 use crate::rows::expect;
 use block_net::{ARC_LIMIT, BLOCK_LIMIT, Cells, Parts};
-use discharge::{Block, push_inner, push_sink, receive, relabel, send, settle, turn};
+use discharge::{Block, end_flight, push_inner, push_sink, receive, relabel, send, turn};
 use parcel::{Direction, Flight, Letter, Message};
 use std::alloc::AllocError;
 use std::process::Abort;
@@ -374,7 +374,9 @@ fn expect_nothing(
 ) -> Result<Block, AllocError> {
     let mut block = block;
     let mut ways = OneLetter::with(None);
-    assert!(*rt; !receive(&mut block, &mut ways, other) && !settle(&mut block, &mut ways, other));
+    assert!(*rt;
+        !receive(&mut block, &mut ways, other) && !end_flight(&mut block, &mut ways, other)
+    );
     assert!(*rt; ways.put.is_none() && ways.taken.is_none());
     expect_edge(rt, block, wanted)
 }
@@ -389,7 +391,7 @@ fn answer_to(
 ) -> Result<Option<Letter>, AllocError> {
     let mut block = block;
     let mut ways = OneLetter::with(parcel);
-    assert!(*rt; !settle(&mut block, &mut ways, 0) && ways.taken.is_none());
+    assert!(*rt; !end_flight(&mut block, &mut ways, 0) && ways.taken.is_none());
     assert!(*rt; receive(&mut block, &mut ways, 0) && ways.taken.is_some());
     expect_edge(rt, block, wanted)?;
     Ok(put_for(&ways, 0))
@@ -397,7 +399,7 @@ fn answer_to(
 
 /// The answer ends the first block's flight, and is no parcel to take. What the block then holds is
 /// told.
-fn expect_settled(
+fn expect_ended(
     rt: &(impl Abort + AllocGlobal),
     block: Block,
     answer: Option<Letter>,
@@ -406,7 +408,7 @@ fn expect_settled(
     let mut block = block;
     let mut ways = OneLetter::with(answer);
     assert!(*rt; !receive(&mut block, &mut ways, 1) && ways.taken.is_none());
-    assert!(*rt; settle(&mut block, &mut ways, 1) && ways.taken.is_some());
+    assert!(*rt; end_flight(&mut block, &mut ways, 1) && ways.taken.is_some());
     assert!(*rt; ways.put.is_none());
     expect_edge(rt, block, wanted)?;
     Ok(())
@@ -464,7 +466,7 @@ struct Meeting {
     rises: bool,
     told: Option<u32>,
     met: Edge,
-    settled: Edge,
+    ended: Edge,
 }
 
 const MEETINGS: &[Meeting] = &[
@@ -479,7 +481,7 @@ const MEETINGS: &[Meeting] = &[
             known: 1,
             ..SECOND
         },
-        settled: Edge {
+        ended: Edge {
             flight: None,
             ..SENT
         },
@@ -489,7 +491,7 @@ const MEETINGS: &[Meeting] = &[
         rises: true,
         told: Some(1),
         met: Edge { label: 1, ..SECOND },
-        settled: Edge { known: 1, ..FIRST },
+        ended: Edge { known: 1, ..FIRST },
     },
 ];
 
@@ -536,7 +538,7 @@ fn expect_meeting(
     let (first, parcel) = sent_by_first(rt, first)?;
     let answer = answer_by_second(rt, second, parcel, meeting)?;
     expect(rt, "MEETINGS", place, is_answer(answer, meeting.told));
-    expect_settled(rt, first, answer, meeting.settled)
+    expect_ended(rt, first, answer, meeting.ended)
 }
 
 #[test]

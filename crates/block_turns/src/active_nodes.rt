@@ -8,7 +8,7 @@ use crate::{Bucketed, Ways};
 
 /// A node passes on what it has, where it is an active node of the block: at most `limit` events.
 fn push_if_active<W: Ways>(cells: &mut Bucketed, ways: &mut W, v: usize, limit: u32) -> u32
-    ensures fixed { W.fixed ways.new ≡ W.fixed ways.old }
+    ensures identity { W.identity ways.new ≡ W.identity ways.old }
     ensures few { result ≤ limit }
     ensures still { result ≡ 0 → cells.new ≡ cells.old }
     ensures does { DoesEvents cells.old.block (W.seen ways.old) result cells.new.block
@@ -31,7 +31,7 @@ pub(crate) fn push_wave<W: Ways>(
     order: &[u32],
     limit: u32,
 ) -> u32
-    ensures fixed { W.fixed ways.new ≡ W.fixed ways.old }
+    ensures identity { W.identity ways.new ≡ W.identity ways.old }
     ensures few { result ≤ limit }
     ensures still { result ≡ 0 → cells.new ≡ cells.old }
     ensures does { DoesEvents cells.old.block (W.seen ways.old) result cells.new.block
@@ -58,7 +58,7 @@ fn rest(cells: &mut Bucketed, v: usize)
 /// `limit`, and how many of them were new labels. The nodes before it are set aside, and so is it
 /// where it got a new label: what can not reach the sink would rise again and again before others.
 fn pass<W: Ways>(cells: &mut Bucketed, ways: &mut W, limit: u32) -> (u32, u32)
-    ensures fixed { W.fixed ways.new ≡ W.fixed ways.old }
+    ensures identity { W.identity ways.new ≡ W.identity ways.old }
     ensures few { result.0 ≤ limit }
     ensures rises { result.1 ≤ result.0 }
     ensures does { DoesEvents cells.old.block (W.seen ways.old) result.0 cells.new.block
@@ -82,7 +82,7 @@ fn pass<W: Ways>(cells: &mut Bucketed, ways: &mut W, limit: u32) -> (u32, u32)
 /// Events of a block that take no message, until each active node is set aside, or there are
 /// `limit`, or more than `most` new labels: how many, and how many of them were new labels.
 fn sweep<W: Ways>(cells: &mut Bucketed, ways: &mut W, limit: u32, most: usize) -> (u32, u32)
-    ensures fixed { W.fixed ways.new ≡ W.fixed ways.old }
+    ensures identity { W.identity ways.new ≡ W.identity ways.old }
     ensures few { result.0 ≤ limit }
     ensures rises { result.1 ≤ result.0 }
     ensures does { DoesEvents cells.old.block (W.seen ways.old) result.0 cells.new.block
@@ -119,7 +119,7 @@ pub(crate) fn work<W: Ways>(
     most: usize,
     again: bool,
 ) -> (u32, u32)
-    ensures fixed { W.fixed ways.new ≡ W.fixed ways.old }
+    ensures identity { W.identity ways.new ≡ W.identity ways.old }
     ensures few { result.0 ≤ limit }
     ensures rises { result.1 ≤ result.0 }
     ensures does { DoesEvents cells.old.block (W.seen ways.old) result.0 cells.new.block

@@ -52,7 +52,7 @@ pub(crate) fn try_send<W: Ways>(cells: &mut Bucketed, ways: &mut W, v: usize, j:
     requires active { IsActiveInBlock cells.old.block v }
     requires border { IsBorderOfNode cells.old.block v j }
     requires place { j < length cells.old.block.borders }
-    ensures fixed { W.fixed ways.new ≡ W.fixed ways.old }
+    ensures identity { W.identity ways.new ≡ W.identity ways.old }
     ensures few { result ≤ 1 }
     ensures still { result ≡ 0 → cells.new ≡ cells.old }
     ensures does { DoesEvents cells.old.block (W.seen ways.old) result cells.new.block

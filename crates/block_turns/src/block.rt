@@ -34,11 +34,13 @@ impl Model for Block {
     ghost invariant = { λ b. IsKnown b.cells.block b.others.items };
 }
 
-/// The blocks that the directions of a block lead to, each once.
-fn others_of(alloc: Global, cells: &Cells) -> Result<Vec<u32>, AllocError>
+/// The blocks that the directions of a block lead to, each once, in a list that loses what it has.
+fn others_of(cells: &Cells, room: Vec<u32>) -> Result<Vec<u32>, AllocError>
     ensures { IfOk result (λ others. IsKnown cells.now others.items) }
 {
-    let mut all = Vec::with_capacity(alloc, cells.borders())?;
+    let mut all = room;
+    all.clear();
+    all.reserve(cells.borders())?;
     'borders: for j in 0..cells.borders() {
         all.push_reserved(cells.border(j).to);
     }
@@ -74,7 +76,22 @@ impl Block {
     ) -> Result<Block, AllocError>
         ensures { IfOk result (λ block. block ≡ cells) }
     {
-        let others = others_of(alloc, &cells)?;
+        Block::in_room(alloc, cells, order, most_rises, all_rises, Vec::new(alloc))
+    }
+
+    /// The same, and the blocks that its directions lead to are kept in this list, which loses what
+    /// it has. Asks for no memory where the list and the block have room.
+    pub fn in_room(
+        alloc: Global,
+        cells: Cells,
+        order: Vec<u32>,
+        most_rises: usize,
+        all_rises: usize,
+        room: Vec<u32>,
+    ) -> Result<Block, AllocError>
+        ensures { IfOk result (λ block. block ≡ cells) }
+    {
+        let others = others_of(&cells, room)?;
         let bucketed = Bucketed::new(alloc, cells)?;
         Ok(Block {
             cells: bucketed,
@@ -90,6 +107,13 @@ impl Block {
         ensures { result ≡ self }
     {
         self.cells.into_cells()
+    }
+
+    /// The block, and a list for the next. Takes no memory.
+    pub fn into_parts(self) -> (Cells, Vec<u32>)
+        ensures { result.0 ≡ self }
+    {
+        (self.cells.into_cells(), self.others)
     }
 }
 
@@ -120,7 +144,7 @@ fn events_left(rises_left: usize, limit: u32) -> u32
 /// to its bound, and exact labels are asked for less often. Where there is none, blocks hear from
 /// one another before their nodes rise again.
 pub fn turn<W: Ways>(block: &mut Block, ways: &mut W, limit: u32) -> u32
-    ensures fixed { W.fixed ways.new ≡ W.fixed ways.old }
+    ensures identity { W.identity ways.new ≡ W.identity ways.old }
     ensures few { result ≤ limit }
     ensures does { DoesMany (turn_view block.old (W.seen ways.old)) result
         (turn_view block.new (W.seen ways.new)) }

@@ -9,7 +9,7 @@ ghost use Rattle.block_net.specs.Views.{count, excess_in, label_in, room_in, lan
 ghost use Rattle.block_net.specs.Views.{first_lane, first_border, out_of, highest};
 ghost use Rattle.block_net.specs.Views.{cells_after_push, cells_after_sink_push};
 ghost use Rattle.block_net.specs.Views.{cells_after_relabel, cells_after_send, cells_after_accept};
-ghost use Rattle.block_net.specs.Views.{cells_after_settle, cells_after_return, parcel_of};
+ghost use Rattle.block_net.specs.Views.{cells_after_delivery, cells_after_return, parcel_of};
 ghost use Rattle.block_net.specs.Standing.{row_count};
 ghost use Rattle.block_turns.specs.Active.{IsActiveInBlock};
 ghost use Rattle.block_turns.specs.Standing.{IsAside, HasHighestBucket, KeepsAside, StaysAside};
@@ -305,17 +305,17 @@ impl Bucketed {
     }
 
     /// The parcel of a direction was taken.
-    pub fn settle(&mut self, j: usize)
+    pub fn deliver_parcel(&mut self, j: usize)
         requires { j < length self.old.block.borders }
-        ensures block { self.new.block ≡ cells_after_settle self.old.block j }
+        ensures block { self.new.block ≡ cells_after_delivery self.old.block j }
         ensures aside { KeepsAside self.old self.new }
         ensures stays { StaysAside self.old self.new }
     {
-        self.cells.settle(j);
+        self.cells.deliver_parcel(j);
     }
 
     /// The parcel of a direction comes back.
-    pub fn take_back(&mut self, j: usize, amount: u64, told: u32)
+    pub fn return_parcel(&mut self, j: usize, amount: u64, told: u32)
         requires place { j < length self.old.block.borders }
         requires fits { amount ≤ out_of (border_in self.old.block j).flight }
         requires told { told ≤ self.old.block.top }
@@ -324,7 +324,7 @@ impl Bucketed {
         ensures stays { StaysAside self.old self.new }
     {
         let near = self.cells.border(j).near as usize;
-        self.cells.take_back(j, amount, told);
+        self.cells.return_parcel(j, amount, told);
         renew(&self.cells, &mut self.buckets, near);
     }
 }

@@ -4,8 +4,8 @@ ghost use Rattle.block_turns.specs.declared.letter.Letter.{Letter};
 ghost use Rattle.block_turns.specs.Seen.{WaysView};
 ghost use Rattle.block_turns.specs.Steps.{IsStepEnabled, IsSure, Push, Give, Relabel, Send, Accept};
 ghost use Rattle.block_turns.specs.Steps.{Refuse};
-ghost use Rattle.block_turns.specs.Steps.{Settle};
-ghost use Rattle.block_turns.specs.Calls.{Performs, IsUnchanged, HasReceived, HasSettled};
+ghost use Rattle.block_turns.specs.Steps.{EndFlight};
+ghost use Rattle.block_turns.specs.Calls.{Performs, IsUnchanged, HasReceived, HasEndedFlight};
 
 use crate::acts::{try_give, try_push, try_relabel, try_send};
 use crate::messages::{receive_accepted, receive_parcel, receive_refused};
@@ -64,7 +64,7 @@ pub fn relabel(block: &mut Block, v: usize) -> bool
 /// Answers yes if the event is enabled and the way has room, and then does it. Else it answers no,
 /// and nothing changes. Takes no memory.
 pub fn send<W: Ways>(block: &mut Block, ways: &mut W, v: usize, j: usize) -> bool
-    ensures fixed { W.fixed ways.new ≡ W.fixed ways.old }
+    ensures identity { W.identity ways.new ≡ W.identity ways.old }
     ensures sent { MatchBool result
         (Performs block.old (W.seen ways.old) (Send v j) block.new (W.seen ways.new))
         ((¬ IsSure block.old (W.seen ways.old) (Send v j))
@@ -84,7 +84,7 @@ pub fn send<W: Ways>(block: &mut Block, ways: &mut W, v: usize, j: usize) -> boo
 /// if one of the two is enabled and the way back has room. Else it answers no, and nothing changes.
 /// Takes no memory.
 pub fn receive<W: Ways>(block: &mut Block, ways: &mut W, from: u32) -> bool
-    ensures fixed { W.fixed ways.new ≡ W.fixed ways.old }
+    ensures identity { W.identity ways.new ≡ W.identity ways.old }
     ensures received { MatchBool result
         (HasReceived block.old (W.seen ways.old) from block.new (W.seen ways.new))
         (((l : Letter) → (¬ IsSure block.old (W.seen ways.old) (Accept from l))
@@ -109,11 +109,11 @@ pub fn receive<W: Ways>(block: &mut Block, ways: &mut W, from: u32) -> bool
 /// Takes the answer in front from another block. Its flight is over, and what a refused parcel had
 /// comes back. Answers yes if that is enabled. Else it answers no, and nothing changes. Takes no
 /// memory.
-pub fn settle<W: Ways>(block: &mut Block, ways: &mut W, from: u32) -> bool
-    ensures fixed { W.fixed ways.new ≡ W.fixed ways.old }
-    ensures settled { MatchBool result
-        (HasSettled block.old (W.seen ways.old) from block.new (W.seen ways.new))
-        (((l : Letter) → ¬ IsSure block.old (W.seen ways.old) (Settle from l))
+pub fn end_flight<W: Ways>(block: &mut Block, ways: &mut W, from: u32) -> bool
+    ensures identity { W.identity ways.new ≡ W.identity ways.old }
+    ensures ended { MatchBool result
+        (HasEndedFlight block.old (W.seen ways.old) from block.new (W.seen ways.new))
+        (((l : Letter) → ¬ IsSure block.old (W.seen ways.old) (EndFlight from l))
         × IsUnchanged block.old (W.seen ways.old) block.new (W.seen ways.new)) }
 {
     let Some(letter) = ways.front(from) else {

@@ -3,7 +3,8 @@ ghost use Rattle.std.specs.Prelude.{◌≡◌, ◌↔◌, ◌<◌, ◌≤◌, �
 ghost use Rattle.block_events.specs.declared.message.Message.TheVariants.{Parcel, Accepted};
 ghost use Rattle.block_events.specs.declared.message.Message.TheVariants.{Refused};
 ghost use Rattle.block_events.specs.Directions.{opposite};
-ghost use Rattle.block_turns.specs.Steps.{IsFrom, MayAcceptAt, MayRefuseAt, MaySettleAt, Settle};
+ghost use Rattle.block_turns.specs.Steps.{IsFrom, MayAcceptAt, MayRefuseAt, MayEndFlightAt};
+ghost use Rattle.block_turns.specs.Steps.{EndFlight};
 ghost use Rattle.block_turns.specs.Calls.{Performs, TakesParcel};
 ghost use Rattle.block_turns.specs.Works.{DoesEvents, IsIdleFrom};
 
@@ -84,7 +85,7 @@ pub(crate) fn receive_parcel<W: Ways>(
 ) -> u32
     requires front { (W.seen ways.old).front from
         ≡ Some (record { message = Parcel direction amount label; place = place }) }
-    ensures fixed { W.fixed ways.new ≡ W.fixed ways.old }
+    ensures identity { W.identity ways.new ≡ W.identity ways.old }
     ensures few { result ≤ 1 }
     ensures still { result ≡ 0 → cells.new ≡ cells.old }
     ensures does { DoesEvents cells.old.block (W.seen ways.old) result cells.new.block
@@ -135,8 +136,8 @@ fn are_same(x: Direction, y: Direction) -> bool
 }
 
 /// Whether the answer that a parcel was taken is to be taken.
-fn may_settle(cells: &Cells, from: u32, place: u32, direction: Direction, amount: u64) -> bool
-    ensures { IsTrue result ↔ MaySettleAt cells.now from place (Accepted direction amount) }
+fn may_deliver(cells: &Cells, from: u32, place: u32, direction: Direction, amount: u64) -> bool
+    ensures { IsTrue result ↔ MayEndFlightAt cells.now from place (Accepted direction amount) }
 {
     if amount == 0 || !is_from(cells, from, place) {
         return false;
@@ -161,7 +162,7 @@ fn may_return(
     told: u32,
 ) -> bool
     ensures { IsTrue result
-        ↔ MaySettleAt cells.now from place (Refused direction flight.amount flight.label told) }
+        ↔ MayEndFlightAt cells.now from place (Refused direction flight.amount flight.label told) }
 {
     if flight.amount == 0 || flight.label == 0 || told < flight.label {
         return false;
@@ -190,21 +191,21 @@ pub(crate) fn receive_accepted<W: Ways>(
 ) -> u32
     requires front { (W.seen ways.old).front from
         ≡ Some (record { message = Accepted direction amount; place = place }) }
-    ensures fixed { W.fixed ways.new ≡ W.fixed ways.old }
+    ensures identity { W.identity ways.new ≡ W.identity ways.old }
     ensures few { result ≤ 1 }
     ensures still { result ≡ 0 → cells.new ≡ cells.old }
     ensures does { DoesEvents cells.old.block (W.seen ways.old) result cells.new.block
         (W.seen ways.new) }
     ensures done { 0 < result → Performs cells.old.block (W.seen ways.old)
-        (Settle from (record { message = Accepted direction amount; place = place }))
+        (EndFlight from (record { message = Accepted direction amount; place = place }))
         cells.new.block (W.seen ways.new) }
     ensures idle { result ≡ 0 → IsIdleFrom cells.old.block (W.seen ways.old) from }
 {
-    if !may_settle(cells.cells(), from, place, direction, amount) {
+    if !may_deliver(cells.cells(), from, place, direction, amount) {
         return 0;
     }
     ways.take(from);
-    cells.settle(place as usize);
+    cells.deliver_parcel(place as usize);
     1
 }
 
@@ -223,13 +224,13 @@ pub(crate) fn receive_refused<W: Ways>(
           message = Refused direction flight.amount flight.label told;
           place = place;
         }) }
-    ensures fixed { W.fixed ways.new ≡ W.fixed ways.old }
+    ensures identity { W.identity ways.new ≡ W.identity ways.old }
     ensures few { result ≤ 1 }
     ensures still { result ≡ 0 → cells.new ≡ cells.old }
     ensures does { DoesEvents cells.old.block (W.seen ways.old) result cells.new.block
         (W.seen ways.new) }
     ensures done { 0 < result → Performs cells.old.block (W.seen ways.old)
-        (Settle from
+        (EndFlight from
         (record { message = Refused direction flight.amount flight.label told; place = place }))
         cells.new.block (W.seen ways.new) }
     ensures idle { result ≡ 0 → IsIdleFrom cells.old.block (W.seen ways.old) from }
@@ -239,13 +240,13 @@ pub(crate) fn receive_refused<W: Ways>(
     }
     let near = cells.border(place as usize).near;
     ways.take(from);
-    cells.take_back(place as usize, flight.amount, told);
+    cells.return_parcel(place as usize, flight.amount, told);
     1
 }
 
 /// Takes the message in front from a block, where that is enabled: one event or none.
 fn take_front<W: Ways>(cells: &mut Bucketed, ways: &mut W, from: u32) -> u32
-    ensures fixed { W.fixed ways.new ≡ W.fixed ways.old }
+    ensures identity { W.identity ways.new ≡ W.identity ways.old }
     ensures few { result ≤ 1 }
     ensures still { result ≡ 0 → cells.new ≡ cells.old }
     ensures does { DoesEvents cells.old.block (W.seen ways.old) result cells.new.block
@@ -294,7 +295,7 @@ fn take_front<W: Ways>(cells: &mut Bucketed, ways: &mut W, from: u32) -> u32
 
 /// Takes the messages from a block, as long as they are enabled: at most `limit` events.
 fn receive_from<W: Ways>(cells: &mut Bucketed, ways: &mut W, from: u32, limit: u32) -> u32
-    ensures fixed { W.fixed ways.new ≡ W.fixed ways.old }
+    ensures identity { W.identity ways.new ≡ W.identity ways.old }
     ensures few { result ≤ limit }
     ensures still { result ≡ 0 → cells.new ≡ cells.old }
     ensures does { DoesEvents cells.old.block (W.seen ways.old) result cells.new.block
@@ -316,7 +317,7 @@ pub(crate) fn receive_all<W: Ways>(
     others: &[u32],
     limit: u32,
 ) -> u32
-    ensures fixed { W.fixed ways.new ≡ W.fixed ways.old }
+    ensures identity { W.identity ways.new ≡ W.identity ways.old }
     ensures few { result ≤ limit }
     ensures still { result ≡ 0 → cells.new ≡ cells.old }
     ensures does { DoesEvents cells.old.block (W.seen ways.old) result cells.new.block

@@ -63,7 +63,7 @@ fn push_all(cells: &mut Bucketed, v: usize, limit: u32) -> u32
 /// room: at most `limit` events.
 fn send_all<W: Ways>(cells: &mut Bucketed, ways: &mut W, v: usize, limit: u32) -> u32
     requires { v < count cells.old.block }
-    ensures fixed { W.fixed ways.new ≡ W.fixed ways.old }
+    ensures identity { W.identity ways.new ≡ W.identity ways.old }
     ensures few { result ≤ limit }
     ensures still { result ≡ 0 → cells.new ≡ cells.old }
     ensures does { DoesEvents cells.old.block (W.seen ways.old) result cells.new.block
@@ -89,7 +89,7 @@ fn send_all<W: Ways>(cells: &mut Bucketed, ways: &mut W, v: usize, limit: u32) -
 /// to other blocks. At most `limit` events.
 pub(crate) fn push_on<W: Ways>(cells: &mut Bucketed, ways: &mut W, v: usize, limit: u32) -> u32
     requires node { v < count cells.old.block }
-    ensures fixed { W.fixed ways.new ≡ W.fixed ways.old }
+    ensures identity { W.identity ways.new ≡ W.identity ways.old }
     ensures few { result ≤ limit }
     ensures still { result ≡ 0 → cells.new ≡ cells.old }
     ensures does { DoesEvents cells.old.block (W.seen ways.old) result cells.new.block
@@ -106,7 +106,7 @@ pub(crate) fn push_on<W: Ways>(cells: &mut Bucketed, ways: &mut W, v: usize, lim
 /// and how many of them were new labels.
 pub(crate) fn visit<W: Ways>(cells: &mut Bucketed, ways: &mut W, v: usize, limit: u32) -> (u32, u32)
     requires node { v < count cells.old.block }
-    ensures fixed { W.fixed ways.new ≡ W.fixed ways.old }
+    ensures identity { W.identity ways.new ≡ W.identity ways.old }
     ensures few { result.0 ≤ limit }
     ensures still { result.0 ≡ 0 → cells.new ≡ cells.old }
     ensures rises { result.1 ≤ result.0 }

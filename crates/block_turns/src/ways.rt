@@ -11,10 +11,10 @@ use crate::Letter;
 /// of its calls takes memory.
 pub trait Ways {
     /// What tells these ends from all others, for clauses alone.
-    type Fixed;
+    type Identity;
 
     /// No call changes it.
-    ghost fixed: { Self → Self.Fixed };
+    ghost identity: { Self → Self.Identity };
 
     /// What the block has put and taken since the beginning, and what it has seen of room and
     /// fronts.
@@ -22,7 +22,7 @@ pub trait Ways {
 
     /// Whether there is room for a message to another block.
     fn room(&mut self, to: u32) -> bool
-        ensures fixed { fixed self.new ≡ fixed self.old }
+        ensures identity { identity self.new ≡ identity self.old }
         ensures look { IsLook (seen self.old) (seen self.new) }
         ensures value { result ≡ (seen self.new).room to };
 
@@ -32,19 +32,19 @@ pub trait Ways {
         requires room { (seen self.old).room to ≡ true }
         requires fair { IsFair letter.message }
         requires arc { (direction_of letter.message).arc < 2 ^ 32 }
-        ensures fixed { fixed self.new ≡ fixed self.old }
+        ensures identity { identity self.new ≡ identity self.old }
         ensures put { IsPut to letter.message (seen self.old) (seen self.new) };
 
     /// The message from another block that is to be taken next, where one has come.
     fn front(&mut self, from: u32) -> Option<Letter>
-        ensures fixed { fixed self.new ≡ fixed self.old }
+        ensures identity { identity self.new ≡ identity self.old }
         ensures look { IsLook (seen self.old) (seen self.new) }
         ensures value { result ≡ (seen self.new).front from };
 
     /// Takes the message that was seen in front.
     fn take(&mut self, from: u32)
         requires { is_some ((seen self.old).front from) ≡ true }
-        ensures fixed { fixed self.new ≡ fixed self.old }
+        ensures identity { identity self.new ≡ identity self.old }
         ensures take { (l : Letter) → (seen self.old).front from ≡ Some l
             → IsTake from l.message (seen self.old) (seen self.new) };
 }

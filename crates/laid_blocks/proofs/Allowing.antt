@@ -10,7 +10,7 @@ use Rattle.block_events.specs.States as core
 use Rattle.block_events.specs.Events.{least_below, is_open_direction, allowed_label, highest_label}
 use Rattle.block_events.proofs.Allowed.{least-le-start, least-le}
 use Rattle.block_net.specs.Views.{CellsView, lane_in, label_in, room_in, first_lane, first_border, least_span, lane_allows, border_allows, highest}
-use Rattle.block_net.specs.Whole.{Whole, block_at, block_with, home, place, slot, is_outer, StandsAt}
+use Rattle.block_net.specs.Whole.{Whole, block_at, block_with, node_block, place, slot, is_outer, StandsAt}
 use Rattle.block_events.specs.Effects.{BlocksView, state_of}
 use Rattle.laid_blocks.specs.Views.{IsSpot, IsRow}
 use Rattle.laid_blocks.proofs.Steps.{IsAt, label_read, room_read, top_read, inner_read, border_read, far_spot}
@@ -66,7 +66,7 @@ module _ (w : Whole) (v : BlocksView) (b : ℕ) (B : CellsView) (u p : ℕ) (at 
   row_at leaves j x stands = record {
     direction = stands.direction;
     outer = stands.outer;
-    home = ap (home w) stands.near ∙ spot.home;
+    node_block = ap (node_block w) stands.near ∙ spot.node_block;
     slot = stands.slot;
     block = spot.block;
   }
@@ -135,7 +135,7 @@ module _ (w : Whole) (v : BlocksView) (b : ℕ) (B : CellsView) (u p : ℕ) (at 
 
   -- the block of the node
   block_is : block_with w u ≡ B
-  block_is = ap (block_at w) spot.home ∙ at.is
+  block_is = ap (block_at w) spot.node_block ∙ at.is
 
   starts_are : (f : CellsView → List ℕ) (g : ℕ → ℕ) → slice_index (f (block_with w u)) (g (place w u)) ≡ slice_index (f B) (g p)
   starts_are f g = ap (λ q. slice_index (f (block_with w u)) (g q)) spot.place ∙ ap (λ (q : CellsView). slice_index (f q) (g p)) block_is

@@ -14,7 +14,7 @@ use Rattle.block_events.proofs.Lanes.{cases_direction, lane_same, lane_other, Is
 use Rattle.block_net.specs.declared.lanes.Border.{Border}
 use Rattle.block_net.specs.Views as block
 use Rattle.block_net.specs.Views.{CellsView, border_in, count}
-use Rattle.block_net.specs.Whole.{Whole, block_at, block_with, home, place, near_home, slot, is_outer, border_of, put_block, no_block}
+use Rattle.block_net.specs.Whole.{Whole, block_at, block_with, node_block, place, near_node_block, slot, is_outer, border_of, put_block, no_block}
 use Rattle.block_net.proofs.Tables.{table_at}
 use Rattle.block_net.proofs.Spans.{length_range, range_at}
 use Rattle.block_events.specs.Effects.{BlocksView}
@@ -22,7 +22,7 @@ use Rattle.laid_blocks.specs.Views.{blocks_in, IsLaid, IsSpot, IsRow}
 use Rattle.block_events.specs.Effects.{blocks_with_known_labels, told_lane}
 use Rattle.laid_blocks.specs.Raising.{told_one}
 use Rattle.laid_blocks.specs.ByBlock.{direction_at, told_at, IsTelling, HasLabelsInBlock, IsToldFrom, IsRelabelled}
-use Rattle.laid_blocks.proofs.Writing.{IsLike, laid_put, home_put, place_put, block_same, block_other, numbers_same, lanes_keep}
+use Rattle.laid_blocks.proofs.Writing.{IsLike, laid_put, node_block_put, place_put, block_same, block_other, numbers_same, lanes_keep}
 use Rattle.laid_blocks.proofs.Steps.{IsAt, informed_at}
 use Rattle.laid_blocks.proofs.Opened.{laid_long}
 
@@ -45,11 +45,11 @@ far_at w b j laid lb lj =
     let r = border_in (block_at w b) j in
     let same : border_of w x ≡ r = ap (λ h. border_in (block_at w h) (slot w x)) found.1 ∙ ap (border_in (block_at w b)) stands.slot in
     let is : r.direction ≡ x = sym (ap (λ (q : Border). q.direction) same) ∙ at.direction in
-    let to : r.to ≡ home w (far w.net x) = sym (ap (λ (q : Border). q.to) same) ∙ at.to in
+    let to : r.to ≡ node_block w (far w.net x) = sym (ap (λ (q : Border). q.to) same) ∙ at.to in
     let node = far_in w.net x laid.net stands.direction in
-    let in_block = laid.placed.homes (far w.net x) node in
-    let row : IsRow w x true b j = record { direction = stands.direction; outer = stands.outer; home = found.1; slot = stands.slot; block = lb } in
-    let here = subst (λ (h : ℕ). IsSpot w (far w.net x) h (far w.net x - slice_index w.firsts h)) (sym to) (record { node = node; home = refl; place = refl; block = in_block }) in
+    let in_block = laid.placed.node_blocks (far w.net x) node in
+    let row : IsRow w x true b j = record { direction = stands.direction; outer = stands.outer; node_block = found.1; slot = stands.slot; block = lb } in
+    let here = subst (λ (h : ℕ). IsSpot w (far w.net x) h (far w.net x - slice_index w.firsts h)) (sym to) (record { node = node; node_block = refl; place = refl; block = in_block }) in
     record {
       is = refl;
       row = subst (λ (q : Direction). IsRow w q true b j) (sym is) row;
@@ -114,8 +114,8 @@ long_of w laid =
 outer_same : (w u : Whole) (x : Direction) → u.net ≡ w.net → length u.blocks ≡ length w.blocks → is_outer u x ≡ is_outer w x
 outer_same w u x net number = rw (net, number) refl
 
-home_same : (w u : Whole) (x : Direction) → u.net ≡ w.net → length u.blocks ≡ length w.blocks → near_home u x ≡ near_home w x
-home_same w u x net number = rw (net, number) refl
+node_block_same : (w u : Whole) (x : Direction) → u.net ≡ w.net → length u.blocks ≡ length w.blocks → near_node_block u x ≡ near_node_block w x
+node_block_same w u x net number = rw (net, number) refl
 
 slot_same : (w u : Whole) (x : Direction) → u.net ≡ w.net → u.slots ≡ w.slots → slot u x ≡ slot w x
 slot_same w u x net slots = rw (net, slots) refl
@@ -147,11 +147,11 @@ telling_more w u t b j telling lb lj is laid =
         | inl e ↦ rw e (lane_same (length w.net.arcs) v.lanes x lane (subst (λ (n : Network). IsLongOf (length n.arcs) v.lanes) net (long_of u telling.laid)) x_in)
         | inr off ↦
             let apart : slot w y ≡ j → ⊥ = λ e. off (telling.laid.placed.apart y x (subst (λ (n : Network). IsDirection n y) (sym net) ly) row.direction
-            (outer_same w u y net telling.number ∙ (outer ∙ sym row.outer)) (home_same w u y net telling.number ∙ (here ∙ sym row.home)) (slot_same w u y net telling.slots ∙ (e ∙ sym row.slot))) in
+            (outer_same w u y net telling.number ∙ (outer ∙ sym row.outer)) (node_block_same w u y net telling.number ∙ (here ∙ sym row.node_block)) (slot_same w u y net telling.slots ∙ (e ∙ sym row.slot))) in
             lane_other v.lanes x y lane off ∙ telling.told y ly outer here (omega (arith, below, apart))
       ];
       others = λ y ly from. ap (λ (q : core.Lanes). core.lane_at q y) lanes ∙ (lane_other v.lanes x y lane
-          (λ e. omega (arith, from (sym (outer_same w u y net telling.number) ∙ (ap (is_outer u) e ∙ row.outer)) (sym (home_same w u y net telling.number) ∙ (ap (near_home u) e ∙ row.home)), ap (slot w) e, x_slot))
+          (λ e. omega (arith, from (sym (outer_same w u y net telling.number) ∙ (ap (is_outer u) e ∙ row.outer)) (sym (node_block_same w u y net telling.number) ∙ (ap (near_node_block u) e ∙ row.node_block)), ap (slot w) e, x_slot))
           ∙ telling.others y ly (λ o h. omega (arith, from o h)));
     }
 
@@ -165,8 +165,8 @@ nodes_of w b laid lb some =
     let v = found.0 in
     let at = found.1 in
     let first = laid.placed.firsts v at.node in
-    let here = ap (slice_index w.firsts) at.home in
-    let is : v - slice_index w.firsts b ≡ n - 1 = sym (ap (λ h. v - slice_index w.firsts h) at.home) ∙ at.place in
+    let here = ap (slice_index w.firsts) at.node_block in
+    let is : v - slice_index w.firsts b ≡ n - 1 = sym (ap (λ h. v - slice_index w.firsts h) at.node_block) ∙ at.place in
     omega (arith, is, first, here, at.node, some)
 
 abbrev view_of : Network → ℕ → List ℕ → List ℕ → List ℕ → core.Lanes → BlocksView
@@ -180,7 +180,7 @@ module _ (w : Whole) (b : ℕ) (labels : List ℕ) (laid : IsLaid w) (lb : b < l
   labelled_none none = record {
     laid = laid;
     rest = refl;
-    here = λ v lv home. absurd (omega (arith, laid.placed.places v lv, ap (λ h. count (block_at w h)) home, none));
+    here = λ v lv node_block. absurd (omega (arith, laid.placed.places v lv, ap (λ h. count (block_at w h)) node_block, none));
     others = λ v lv off. refl;
   }
 
@@ -207,12 +207,12 @@ module _ (w : Whole) (b : ℕ) (labels : List ℕ) (laid : IsLaid w) (lb : b < l
     capacity = λ j. refl;
   }
 
-  label_now : (v : ℕ) → v < nodes w.net → slice_index (blocks_in (put_block w b new_block)).labels v ≡ slice_index (block_at (put_block w b new_block) (home w v)).labels (place w v)
+  label_now : (v : ℕ) → v < nodes w.net → slice_index (blocks_in (put_block w b new_block)).labels v ≡ slice_index (block_at (put_block w b new_block) (node_block w v)).labels (place w v)
   label_now v lv =
       let u = put_block w b new_block in
       table_at (nodes w.net) (λ i. slice_index (block_with u i).labels (place u i)) v 0 lv
       ∙ (ap (slice_index (block_with u v).labels) (place_put w b new_block v)
-      ∙ ap (λ h. slice_index (block_at u h).labels (place w v)) (home_put w b new_block v))
+      ∙ ap (λ h. slice_index (block_at u h).labels (place w v)) (node_block_put w b new_block v))
 
   pub labelled_block : slice_index w.firsts b + count (block_at w b) ≤ length labels → HasLabelsInBlock w (put_block w b new_block) b labels
   labelled_block le =
@@ -224,19 +224,19 @@ module _ (w : Whole) (b : ℕ) (labels : List ℕ) (laid : IsLaid w) (lb : b < l
             (numbers_same (λ (q : CellsView). q.excess) w b new_block lb refl)
             (numbers_same (λ (q : CellsView). q.rooms) w b new_block lb refl)
             (lanes_keep w b new_block lb refl refl);
-        here = λ v lv home.
+        here = λ v lv node_block.
             let low = laid.placed.firsts v lv in
-            let low' = ap (slice_index w.firsts) home in
-            let at : place w v ≡ v - first = ap (λ h. v - slice_index w.firsts h) home in
-            let inside : place w v < count (block_at w b) = omega (arith, laid.placed.places v lv, ap (λ h. count (block_at w h)) home) in
+            let low' = ap (slice_index w.firsts) node_block in
+            let at : place w v ≡ v - first = ap (λ h. v - slice_index w.firsts h) node_block in
+            let inside : place w v < count (block_at w b) = omega (arith, laid.placed.places v lv, ap (λ h. count (block_at w h)) node_block) in
             label_now v lv
-            ∙ (ap (λ h. slice_index (block_at u h).labels (place w v)) home
+            ∙ (ap (λ h. slice_index (block_at u h).labels (place w v)) node_block
             ∙ (ap (λ (q : CellsView). slice_index q.labels (place w v)) (block_same w b new_block lb)
             ∙ (range_at labels first (first + count (block_at w b)) (place w v) 0 (omega (arith, inside))
             ∙ ap (slice_index labels) (omega (arith, at, low, low')))));
         others = λ v lv off.
             label_now v lv
-            ∙ (ap (λ (q : CellsView). slice_index q.labels (place w v)) (block_other w b new_block (home w v) off)
+            ∙ (ap (λ (q : CellsView). slice_index q.labels (place w v)) (block_other w b new_block (node_block w v) off)
             ∙ sym (table_at (nodes w.net) (λ i. slice_index (block_with w i).labels (place w i)) v 0 lv));
       }
 

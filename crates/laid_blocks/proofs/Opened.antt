@@ -27,7 +27,7 @@ opened_laid net blocks parts is can split = record {
   placed = record {
     firsts_len = split.placed.firsts_len;
     slots_len = split.placed.slots_len;
-    homes = split.placed.homes;
+    node_blocks = split.placed.node_blocks;
     firsts = split.placed.firsts;
     places = split.placed.places;
     tops = split.placed.tops;
@@ -39,7 +39,7 @@ opened_laid net blocks parts is can split = record {
   };
   filled = record {
     labels = split.filled.labels;
-    nodes = λ b p lb lp. let found = split.filled.nodes b p lb lp in (found.0, record { node = found.1.node; home = found.1.home; place = found.1.place });
+    nodes = λ b p lb lp. let found = split.filled.nodes b p lb lp in (found.0, record { node = found.1.node; node_block = found.1.node_block; place = found.1.place });
     borders = λ b j lb lj. let found = split.filled.borders b j lb lj in (found.0, found.1, record { direction = found.2.direction; near = found.2.near; outer = found.2.outer; slot = found.2.slot });
   };
 }

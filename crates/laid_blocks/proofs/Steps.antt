@@ -19,9 +19,9 @@ use Rattle.block_net.specs.declared.lanes.InnerLane.{InnerLane}
 use Rattle.block_net.specs.declared.lanes.Border.{Border}
 use Rattle.block_net.specs.Views as block
 use Rattle.block_net.specs.Views.{CellsView, no_row, no_border, count, excess_in, label_in, room_in, lane_in, border_in, out_of, parcel_of}
-use Rattle.block_net.specs.Whole.{Whole, no_block, block_at, block_with, home, place, slot, is_outer, lane_of, border_of, shown_lane, shown_border, put_block}
+use Rattle.block_net.specs.Whole.{Whole, no_block, block_at, block_with, node_block, place, slot, is_outer, lane_of, border_of, shown_lane, shown_border, put_block}
 use Rattle.block_net.proofs.Tables.{table_at}
-use Rattle.block_events.specs.Effects.{BlocksView, blocks_after_sink_push, blocks_after_relabel, blocks_after_push, blocks_after_send, blocks_after_accept, blocks_after_settle, blocks_after_return}
+use Rattle.block_events.specs.Effects.{BlocksView, blocks_after_sink_push, blocks_after_relabel, blocks_after_push, blocks_after_send, blocks_after_accept, blocks_after_delivery, blocks_after_return}
 use Rattle.laid_blocks.specs.Views.{blocks_in, IsLaid, IsSpot, IsRow}
 use Rattle.laid_blocks.proofs.Writing.{IsLike, spot_put, row_put, numbers_same, numbers_set, numbers, lanes_keep, lane_shown, border_shown, lane_read, inner_shown, outer_shown, same_spot, laid_put, set_other, block_same}
 
@@ -40,14 +40,14 @@ at_read w v b B laid view l read = record { laid = laid; view = view; block = l;
 
 pub node_below : (w : Whole) (v : BlocksView) (b : ℕ) (B : CellsView) (u p : ℕ) → IsAt w v b B → IsSpot w u b p → p < count B
 node_below w v b B u p at spot =
-    let is = ap (λ (q : CellsView). count q) (ap (block_at w) spot.home ∙ at.is) in
+    let is = ap (λ (q : CellsView). count q) (ap (block_at w) spot.node_block ∙ at.is) in
     omega (arith, is, spot.place, at.laid.placed.places u spot.node)
 
 number_read : (f : CellsView → List ℕ) (w : Whole) (b : ℕ) (B : CellsView) (u p : ℕ) → block_at w b ≡ B → IsSpot w u b p → slice_index (f B) p ≡ slice_index (numbers f w) u
 number_read f w b B u p is spot =
     sym (table_at (nodes w.net) (λ v. slice_index (f (block_with w v)) (place w v)) u 0 spot.node
     ∙ (ap (slice_index (f (block_with w u))) spot.place
-    ∙ ap (λ (q : CellsView). slice_index (f q) p) (ap (block_at w) spot.home ∙ is)))
+    ∙ ap (λ (q : CellsView). slice_index (f q) p) (ap (block_at w) spot.node_block ∙ is)))
 
 pub excess_read : (w : Whole) (v : BlocksView) (b : ℕ) (B : CellsView) (u p : ℕ) → IsAt w v b B → IsSpot w u b p → excess_in B p ≡ slice_index v.excess u
 excess_read w v b B u p at spot = number_read (λ (q : CellsView). q.excess) w b B u p at.is spot ∙ ap (λ (q : BlocksView). slice_index q.excess u) at.view
@@ -63,21 +63,21 @@ top_read w v b B at = ap (λ (q : CellsView). q.top) (sym at.is) ∙ (at.laid.pl
 
 pub lane_below : (w : Whole) (v : BlocksView) (b : ℕ) (B : CellsView) (x : Direction) (j : ℕ) → IsAt w v b B → IsRow w x false b j → j < length B.lanes
 lane_below w v b B x j at row =
-    let is = ap (λ (q : CellsView). length q.lanes) (ap (block_at w) row.home ∙ at.is) in
+    let is = ap (λ (q : CellsView). length q.lanes) (ap (block_at w) row.node_block ∙ at.is) in
     omega (arith, is, row.slot, (at.laid.placed.inner x row.direction row.outer).within)
 
 pub border_below : (w : Whole) (v : BlocksView) (b : ℕ) (B : CellsView) (x : Direction) (j : ℕ) → IsAt w v b B → IsRow w x true b j → j < length B.borders
 border_below w v b B x j at row =
-    let is = ap (λ (q : CellsView). length q.borders) (ap (block_at w) row.home ∙ at.is) in
+    let is = ap (λ (q : CellsView). length q.borders) (ap (block_at w) row.node_block ∙ at.is) in
     omega (arith, is, row.slot, (at.laid.placed.borders x row.direction row.outer).within)
 
 lane_is : (w : Whole) (v : BlocksView) (b : ℕ) (B : CellsView) (x : Direction) (j : ℕ) → IsAt w v b B → IsRow w x false b j → lane_in B j ≡ lane_of w x
 lane_is w v b B x j at row =
-    sym (ap (λ (q : CellsView). lane_in q (slot w x)) (ap (block_at w) row.home ∙ at.is) ∙ ap (lane_in B) row.slot)
+    sym (ap (λ (q : CellsView). lane_in q (slot w x)) (ap (block_at w) row.node_block ∙ at.is) ∙ ap (lane_in B) row.slot)
 
 border_is : (w : Whole) (v : BlocksView) (b : ℕ) (B : CellsView) (x : Direction) (j : ℕ) → IsAt w v b B → IsRow w x true b j → border_in B j ≡ border_of w x
 border_is w v b B x j at row =
-    sym (ap (λ (q : CellsView). border_in q (slot w x)) (ap (block_at w) row.home ∙ at.is) ∙ ap (border_in B) row.slot)
+    sym (ap (λ (q : CellsView). border_in q (slot w x)) (ap (block_at w) row.node_block ∙ at.is) ∙ ap (border_in B) row.slot)
 
 pub inner_read : (w : Whole) (v : BlocksView) (b : ℕ) (B : CellsView) (x : Direction) (j : ℕ) → IsAt w v b B → IsRow w x false b j → shown_lane (lane_in B j) ≡ core.lane_at v.lanes x
 inner_read w v b B x j at row =
@@ -130,7 +130,7 @@ pub spot_as : (w : Whole) (v : BlocksView) (b : ℕ) (B : CellsView) (x : Direct
 spot_as w v b B x leaves j n c p at row e spot =
     let here : IsSpot w (near w.net x) b p = record {
       node = near_in w.net x at.laid.net row.direction;
-      home = row.home;
+      node_block = row.node_block;
       place = ap (place w) (sym e) ∙ spot.place;
       block = row.block;
     } in
@@ -140,7 +140,7 @@ pub border_spot : (w : Whole) (v : BlocksView) (b : ℕ) (B : CellsView) (x : Di
 border_spot w v b B x j at row =
     let here : IsSpot w (near w.net x) b (border_in B j).near = record {
       node = near_in w.net x at.laid.net row.direction;
-      home = row.home;
+      node_block = row.node_block;
       place = sym (ap (λ (q : Border). q.near) (border_is w v b B x j at row) ∙ (at.laid.placed.borders x row.direction row.outer).near);
       block = row.block;
     } in
@@ -155,7 +155,7 @@ pub far_spot : (w : Whole) (v : BlocksView) (b : ℕ) (B : CellsView) (x : Direc
 far_spot w v b B x j at row =
     let here : IsSpot w (far w.net x) b (lane_in B j).far = record {
       node = far_in w.net x at.laid.net row.direction;
-      home = sym (same_blocks (home w (near w.net x)) (home w (far w.net x)) row.outer) ∙ row.home;
+      node_block = sym (same_blocks (node_block w (near w.net x)) (node_block w (far w.net x)) row.outer) ∙ row.node_block;
       place = sym (lane_far w v b B x j at row);
       block = row.block;
     } in
@@ -165,7 +165,7 @@ pub back_row : (w : Whole) (v : BlocksView) (b : ℕ) (B : CellsView) (x : Direc
 back_row w v b B x j at row = record {
   direction = row.direction;
   outer = border_opposite w.net (length w.blocks) x ∙ row.outer;
-  home = ap (home w) (near_opposite w.net x) ∙ (sym (same_blocks (home w (near w.net x)) (home w (far w.net x)) row.outer) ∙ row.home);
+  node_block = ap (node_block w) (near_opposite w.net x) ∙ (sym (same_blocks (node_block w (near w.net x)) (node_block w (far w.net x)) row.outer) ∙ row.node_block);
   slot = sym (lane_opposite w v b B x j at row);
   block = row.block;
 }
@@ -175,7 +175,7 @@ pub far_other : (w : Whole) (v : BlocksView) (b : ℕ) (B : CellsView) (x : Dire
     → (near v.net x ≡ far v.net x → ⊥) → (lane_in B j).far ≡ p → ⊥
 far_other w v b B x j p at row spot off same =
     let away = far_spot w v b B x j at row in
-    off (same_spot w (near v.net x) (far v.net x) b p at.laid.placed spot (record { node = away.node; home = away.home; place = away.place ∙ same; block = away.block }))
+    off (same_spot w (near v.net x) (far v.net x) b p at.laid.placed spot (record { node = away.node; node_block = away.node_block; place = away.place ∙ same; block = away.block }))
 
 -- ---- how much goes, and the parcel that it goes in
 
@@ -412,12 +412,12 @@ sent_at w v b B x j p a at row spot =
     let lane = border_read w v b B x j at row in
     seen_as _ _ (blocks_after_send v x a) b _ (rw (excess_read w v b B u p at spot, label_read w v b B u p at spot, ← lane) refl) (joined w b one (block.cells_after_send B p j a) _ second)
 
-pub settled_at : (w : Whole) (v : BlocksView) (b : ℕ) (B : CellsView) (x : Direction) (j : ℕ) → IsAt w v b B → IsRow w x true b j
-    → IsAt (put_block w b (block.cells_after_settle B j)) (blocks_after_settle v x) b (block.cells_after_settle B j)
-settled_at w v b B x j at row =
+pub delivered_at : (w : Whole) (v : BlocksView) (b : ℕ) (B : CellsView) (x : Direction) (j : ℕ) → IsAt w v b B → IsRow w x true b j
+    → IsAt (put_block w b (block.cells_after_delivery B j)) (blocks_after_delivery v x) b (block.cells_after_delivery B j)
+delivered_at w v b B x j at row =
     let new : Border = record (border_in B j) { flight = None } in
     let first = border_step w v b B at x j new row (record { direction = refl; near = refl; to = refl; opposite = refl; capacity = refl }) in
-    seen_as _ _ (blocks_after_settle v x) b _ (rw (← border_read w v b B x j at row) refl) first
+    seen_as _ _ (blocks_after_delivery v x) b _ (rw (← border_read w v b B x j at row) refl) first
 
 pub informed_at : (w : Whole) (v : BlocksView) (b : ℕ) (B : CellsView) (x : Direction) (j d : ℕ) → IsAt w v b B → IsRow w x true b j
     → IsAt (put_block w b (block.cells_with_known B j d)) (record v { lanes = core.put_lane v.lanes x (record (core.lane_at v.lanes x) { known = d }) }) b (block.cells_with_known B j d)

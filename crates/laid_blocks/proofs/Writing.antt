@@ -10,7 +10,7 @@ use Rattle.block_events.specs.States as core
 use Rattle.block_net.specs.declared.lanes.InnerLane.{InnerLane}
 use Rattle.block_net.specs.declared.lanes.Border.{Border}
 use Rattle.block_net.specs.Views.{CellsView, no_row, no_border, count, lane_in, border_in}
-use Rattle.block_net.specs.Whole.{Whole, table, no_block, block_at, block_with, home, place, near_home, slot, is_outer, lane_of, border_of, shown_lane, shown_border, shown_of, IsInnerAt, IsBorderAt, StandsAt, IsPlaced, IsFilled, put_block}
+use Rattle.block_net.specs.Whole.{Whole, table, no_block, block_at, block_with, node_block, place, near_node_block, slot, is_outer, lane_of, border_of, shown_lane, shown_border, shown_of, IsInnerAt, IsBorderAt, StandsAt, IsPlaced, IsFilled, put_block}
 use Rattle.block_net.proofs.Tables.{length_table, table_at, table_is}
 use Rattle.laid_blocks.specs.Views.{blocks_in, IsLaid, IsSpot, IsRow}
 
@@ -31,8 +31,8 @@ table_set n f g v y lv here others =
 
 -- ---- one block
 
-pub home_put : (w : Whole) (b : ℕ) (block : CellsView) (u : ℕ) → home (put_block w b block) u ≡ home w u
-home_put w b block u = ap (λ q. (u * q) / nodes w.net) (length-set w.blocks b block)
+pub node_block_put : (w : Whole) (b : ℕ) (block : CellsView) (u : ℕ) → node_block (put_block w b block) u ≡ node_block w u
+node_block_put w b block u = ap (λ q. (u * q) / nodes w.net) (length-set w.blocks b block)
 
 pub outer_put : (w : Whole) (b : ℕ) (block : CellsView) (x : Direction) → is_outer (put_block w b block) x ≡ is_outer w x
 outer_put w b block x = ap (λ q. core.is_border w.net q x) (length-set w.blocks b block)
@@ -54,10 +54,10 @@ block_keeps w b block c f l same = elim (cases_eq c b) [
 with_keeps : {A : Type 0} (w : Whole) (b : ℕ) (block : CellsView) (v : ℕ) (f : CellsView → A) → b < length w.blocks → f block ≡ f (block_at w b)
     → f (block_with (put_block w b block) v) ≡ f (block_with w v)
 with_keeps w b block v f l same =
-    ap (λ h. f (block_at (put_block w b block) h)) (home_put w b block v) ∙ block_keeps w b block (home w v) f l same
+    ap (λ h. f (block_at (put_block w b block) h)) (node_block_put w b block v) ∙ block_keeps w b block (node_block w v) f l same
 
 pub place_put : (w : Whole) (b : ℕ) (block : CellsView) (v : ℕ) → place (put_block w b block) v ≡ place w v
-place_put w b block v = ap (λ h. v - slice_index w.firsts h) (home_put w b block v)
+place_put w b block v = ap (λ h. v - slice_index w.firsts h) (node_block_put w b block v)
 
 -- what is read at a node's place, or at the next, in a list that the block keeps
 read_keeps : (w : Whole) (b : ℕ) (block : CellsView) (v : ℕ) (g : ℕ → ℕ) (f : CellsView → List ℕ) → b < length w.blocks → f block ≡ f (block_at w b)
@@ -82,7 +82,7 @@ numbers_same f w b block l same =
 pub spot_put : (w : Whole) (v b p c : ℕ) (block : CellsView) → IsSpot w v b p → IsSpot (put_block w c block) v b p
 spot_put w v b p c block at = record {
   node = at.node;
-  home = home_put w c block v ∙ at.home;
+  node_block = node_block_put w c block v ∙ at.node_block;
   place = place_put w c block v ∙ at.place;
   block = omega (arith, at.block, length-set w.blocks c block);
 }
@@ -92,10 +92,10 @@ pub same_spot : (w : Whole) (u v b p : ℕ) → IsPlaced w → IsSpot w u b p �
 same_spot w u v b p placed at_u at_v =
     let first_u = placed.firsts u at_u.node in
     let first_v = placed.firsts v at_v.node in
-    let eu : place w u ≡ u - slice_index w.firsts b = ap (λ h. u - slice_index w.firsts h) at_u.home in
-    let ev : place w v ≡ v - slice_index w.firsts b = ap (λ h. v - slice_index w.firsts h) at_v.home in
-    let fu = ap (slice_index w.firsts) at_u.home in
-    let fv = ap (slice_index w.firsts) at_v.home in
+    let eu : place w u ≡ u - slice_index w.firsts b = ap (λ h. u - slice_index w.firsts h) at_u.node_block in
+    let ev : place w v ≡ v - slice_index w.firsts b = ap (λ h. v - slice_index w.firsts h) at_v.node_block in
+    let fu = ap (slice_index w.firsts) at_u.node_block in
+    let fv = ap (slice_index w.firsts) at_v.node_block in
     omega (arith, first_u, first_v, eu, ev, fu, fv, at_u.place, at_v.place)
 
 pub numbers_set : (f : CellsView → List ℕ) (w : Whole) (v b p y : ℕ) (block : CellsView) → IsPlaced w → IsSpot w v b p → p < length (f (block_at w b))
@@ -106,19 +106,19 @@ numbers_set f w v b p y block placed at lp made =
     let here : f (block_at w' b) ≡ set old p y = ap f (block_same w b block at.block) ∙ made in
     table_set (nodes w.net) (λ u. slice_index (f (block_with w u)) (place w u)) (λ u. slice_index (f (block_with w' u)) (place w' u)) v y at.node
     (ap (slice_index (f (block_with w' v))) (place_put w b block v ∙ at.place)
-    ∙ (ap (λ h. slice_index (f (block_at w' h)) p) (home_put w b block v ∙ at.home)
+    ∙ (ap (λ h. slice_index (f (block_at w' h)) p) (node_block_put w b block v ∙ at.node_block)
     ∙ (ap (λ xs. slice_index xs p) here ∙ get_or-set_same old p y 0 lp)))
     (λ u lu off.
     ap (slice_index (f (block_with w' u))) (place_put w b block u)
-    ∙ (ap (λ h. slice_index (f (block_at w' h)) (place w u)) (home_put w b block u)
-    ∙ elim (cases_eq (home w u) b) [
+    ∙ (ap (λ h. slice_index (f (block_at w' h)) (place w u)) (node_block_put w b block u)
+    ∙ elim (cases_eq (node_block w u) b) [
       | inl e ↦
-          let apart : place w u ≡ p → ⊥ = λ h. off (same_spot w u v b p placed (record { node = lu; home = e; place = h; block = at.block }) at) in
+          let apart : place w u ≡ p → ⊥ = λ h. off (same_spot w u v b p placed (record { node = lu; node_block = e; place = h; block = at.block }) at) in
           ap (λ h. slice_index (f (block_at w' h)) (place w u)) e
           ∙ (ap (λ xs. slice_index xs (place w u)) here
           ∙ (get_or-set_other old p (place w u) y 0 apart
           ∙ ap (λ h. slice_index (f (block_at w h)) (place w u)) (sym e)))
-      | inr away ↦ ap (λ q. slice_index (f q) (place w u)) (block_other w b block (home w u) away)
+      | inr away ↦ ap (λ q. slice_index (f q) (place w u)) (block_other w b block (node_block w u) away)
     ]))
 
 -- ---- directions
@@ -127,7 +127,7 @@ pub row_put : (w : Whole) (x : Direction) (leaves : Bool) (b j c : ℕ) (block :
 row_put w x leaves b j c block at = record {
   direction = at.direction;
   outer = outer_put w c block x ∙ at.outer;
-  home = home_put w c block (near w.net x) ∙ at.home;
+  node_block = node_block_put w c block (near w.net x) ∙ at.node_block;
   slot = at.slot;
   block = omega (arith, at.block, length-set w.blocks c block);
 }
@@ -199,7 +199,7 @@ lane_here : (w : Whole) (x : Direction) (b j : ℕ) (block : CellsView) (lane : 
     → lane_of (put_block w b block) x ≡ lane
 lane_here w x b j block lane at lj made =
     let w' = put_block w b block in
-    ap (λ h. lane_in (block_at w' h) (slot w x)) (home_put w b block (near w.net x) ∙ at.home)
+    ap (λ h. lane_in (block_at w' h) (slot w x)) (node_block_put w b block (near w.net x) ∙ at.node_block)
     ∙ (ap (λ (q : CellsView). lane_in q (slot w x)) (block_same w b block at.block)
     ∙ (ap (lane_in block) at.slot ∙ (ap (λ ls. get_or ls j no_row) made ∙ get_or-set_same (block_at w b).lanes j lane no_row lj)))
 
@@ -207,44 +207,44 @@ border_here : (w : Whole) (x : Direction) (b j : ℕ) (block : CellsView) (borde
     → border_of (put_block w b block) x ≡ border
 border_here w x b j block border at lj made =
     let w' = put_block w b block in
-    ap (λ h. border_in (block_at w' h) (slot w x)) (home_put w b block (near w.net x) ∙ at.home)
+    ap (λ h. border_in (block_at w' h) (slot w x)) (node_block_put w b block (near w.net x) ∙ at.node_block)
     ∙ (ap (λ (q : CellsView). border_in q (slot w x)) (block_same w b block at.block)
     ∙ (ap (border_in block) at.slot ∙ (ap (λ ls. get_or ls j no_border) made ∙ get_or-set_same (block_at w b).borders j border no_border lj)))
 
 -- two directions of one kind are apart where their blocks or slots are
-slots_apart : (w : Whole) (x y : Direction) (leaves : Bool) (b j : ℕ) → IsPlaced w → IsRow w x leaves b j → IsDirection w.net y → is_outer w y ≡ leaves → near_home w y ≡ b → (y ≡ x → ⊥)
+slots_apart : (w : Whole) (x y : Direction) (leaves : Bool) (b j : ℕ) → IsPlaced w → IsRow w x leaves b j → IsDirection w.net y → is_outer w y ≡ leaves → near_node_block w y ≡ b → (y ≡ x → ⊥)
     → slot w y ≡ j → ⊥
-slots_apart w x y leaves b j placed at ly outer home off same =
-    off (placed.apart y x ly at.direction (outer ∙ sym at.outer) (home ∙ sym at.home) (same ∙ sym at.slot))
+slots_apart w x y leaves b j placed at ly outer node_block off same =
+    off (placed.apart y x ly at.direction (outer ∙ sym at.outer) (node_block ∙ sym at.node_block) (same ∙ sym at.slot))
 
 lane_there : (w : Whole) (x y : Direction) (b j : ℕ) (block : CellsView) (lane : InnerLane) → IsPlaced w → IsRow w x false b j → block.lanes ≡ set (block_at w b).lanes j lane
     → IsDirection w.net y → is_outer w y ≡ false → (y ≡ x → ⊥) → lane_of (put_block w b block) y ≡ lane_of w y
 lane_there w x y b j block lane placed at made ly outer off =
     let w' = put_block w b block in
-    ap (λ h. lane_in (block_at w' h) (slot w y)) (home_put w b block (near w.net y))
-    ∙ elim (cases_eq (near_home w y) b) [
+    ap (λ h. lane_in (block_at w' h) (slot w y)) (node_block_put w b block (near w.net y))
+    ∙ elim (cases_eq (near_node_block w y) b) [
       | inl e ↦
           ap (λ h. lane_in (block_at w' h) (slot w y)) e
           ∙ (ap (λ (q : CellsView). lane_in q (slot w y)) (block_same w b block at.block)
           ∙ (ap (λ ls. get_or ls (slot w y) no_row) made
           ∙ (get_or-set_other (block_at w b).lanes j (slot w y) lane no_row (slots_apart w x y false b j placed at ly outer e off)
           ∙ ap (λ h. lane_in (block_at w h) (slot w y)) (sym e))))
-      | inr away ↦ ap (λ (q : CellsView). lane_in q (slot w y)) (block_other w b block (near_home w y) away)
+      | inr away ↦ ap (λ (q : CellsView). lane_in q (slot w y)) (block_other w b block (near_node_block w y) away)
     ]
 
 border_there : (w : Whole) (x y : Direction) (b j : ℕ) (block : CellsView) (border : Border) → IsPlaced w → IsRow w x true b j → block.borders ≡ set (block_at w b).borders j border
     → IsDirection w.net y → is_outer w y ≡ true → (y ≡ x → ⊥) → border_of (put_block w b block) y ≡ border_of w y
 border_there w x y b j block border placed at made ly outer off =
     let w' = put_block w b block in
-    ap (λ h. border_in (block_at w' h) (slot w y)) (home_put w b block (near w.net y))
-    ∙ elim (cases_eq (near_home w y) b) [
+    ap (λ h. border_in (block_at w' h) (slot w y)) (node_block_put w b block (near w.net y))
+    ∙ elim (cases_eq (near_node_block w y) b) [
       | inl e ↦
           ap (λ h. border_in (block_at w' h) (slot w y)) e
           ∙ (ap (λ (q : CellsView). border_in q (slot w y)) (block_same w b block at.block)
           ∙ (ap (λ ls. get_or ls (slot w y) no_border) made
           ∙ (get_or-set_other (block_at w b).borders j (slot w y) border no_border (slots_apart w x y true b j placed at ly outer e off)
           ∙ ap (λ h. border_in (block_at w h) (slot w y)) (sym e))))
-      | inr away ↦ ap (λ (q : CellsView). border_in q (slot w y)) (block_other w b block (near_home w y) away)
+      | inr away ↦ ap (λ (q : CellsView). border_in q (slot w y)) (block_other w b block (near_node_block w y) away)
     ]
 
 pub lane_shown : (w : Whole) (x : Direction) (b j : ℕ) (block : CellsView) (lane : InnerLane) → IsPlaced w → IsRow w x false b j → j < length (block_at w b).lanes
@@ -326,7 +326,7 @@ module _ (w : Whole) (b : ℕ) (block : CellsView) (placed : IsPlaced w) (l : b 
         within = omega (arith, with_keeps w b block v (λ (q : CellsView). length q.borders) l like.borders_len, at.within);
         direction = with_keeps w b block v (λ (q : CellsView). (border_in q j).direction) l (like.direction j) ∙ at.direction;
         near = with_keeps w b block v (λ (q : CellsView). (border_in q j).near) l (like.near j) ∙ (at.near ∙ sym (place_put w b block v));
-        to = with_keeps w b block v (λ (q : CellsView). (border_in q j).to) l (like.to j) ∙ (at.to ∙ sym (home_put w b block (far w.net x)));
+        to = with_keeps w b block v (λ (q : CellsView). (border_in q j).to) l (like.to j) ∙ (at.to ∙ sym (node_block_put w b block (far w.net x)));
         opposite = with_keeps w b block v (λ (q : CellsView). (border_in q j).opposite) l (like.opposite j) ∙ at.opposite;
         capacity = with_keeps w b block v (λ (q : CellsView). (border_in q j).capacity) l (like.capacity j) ∙ at.capacity;
       }
@@ -338,15 +338,15 @@ module _ (w : Whole) (b : ℕ) (block : CellsView) (placed : IsPlaced w) (l : b 
   placed_put = record {
     firsts_len = placed.firsts_len ∙ sym (length-set w.blocks b block);
     slots_len = placed.slots_len;
-    homes = λ v lv. omega (arith, home_put w b block v, length-set w.blocks b block, placed.homes v lv);
-    firsts = λ v lv. omega (arith, ap (slice_index w.firsts) (home_put w b block v), placed.firsts v lv);
+    node_blocks = λ v lv. omega (arith, node_block_put w b block v, length-set w.blocks b block, placed.node_blocks v lv);
+    firsts = λ v lv. omega (arith, ap (slice_index w.firsts) (node_block_put w b block v), placed.firsts v lv);
     places = λ v lv. omega (arith, place_put w b block v, with_keeps w b block v count l like.count, placed.places v lv);
     tops = λ c lc. block_keeps w b block c (λ (q : CellsView). q.top) l like.top ∙ placed.tops c (omega (arith, lc, length-set w.blocks b block));
     inner = λ x d e. inner_put x (placed.inner x d (sym (outer_put w b block x) ∙ e));
     borders = λ x d e. outer_at x (placed.borders x d (sym (outer_put w b block x) ∙ e));
-    apart = λ x y dx dy same home slot. placed.apart x y dx dy
+    apart = λ x y dx dy same node_block slot. placed.apart x y dx dy
         (sym (outer_put w b block x) ∙ (same ∙ outer_put w b block y))
-        (sym (home_put w b block (near w.net x)) ∙ (home ∙ home_put w b block (near w.net y))) slot;
+        (sym (node_block_put w b block (near w.net x)) ∙ (node_block ∙ node_block_put w b block (near w.net y))) slot;
     lanes = λ v j lv from below.
         let found = placed.lanes v j lv (omega (arith, from, read_keeps w b block v (λ q. q) (λ (q : CellsView). q.starts) l like.starts)) (omega (arith, below, read_keeps w b block v (λ q. q + 1) (λ (q : CellsView). q.starts) l like.starts)) in
         (found.0, stands_put false v j found.0 found.1);
@@ -367,11 +367,11 @@ module _ (w : Whole) (b : ℕ) (block : CellsView) (placed : IsPlaced w) (l : b 
         nodes = λ c p lc lp.
             let found = filled.nodes c p (omega (arith, lc, len)) (omega (arith, lp, nodes_len c)) in (
               found.0,
-              record { node = found.1.node; home = home_put w b block found.0 ∙ found.1.home; place = place_put w b block found.0 ∙ found.1.place },
+              record { node = found.1.node; node_block = node_block_put w b block found.0 ∙ found.1.node_block; place = place_put w b block found.0 ∙ found.1.place },
             );
         borders = λ c j lc lj.
             let found = filled.borders c j (omega (arith, lc, len)) (omega (arith, lj, borders_len c)) in
-            (found.0, home_put w b block (near w.net found.0) ∙ found.1, stands_put true (near w.net found.0) j found.0 found.2);
+            (found.0, node_block_put w b block (near w.net found.0) ∙ found.1, stands_put true (near w.net found.0) j found.0 found.2);
       }
 
 pub laid_put : (w : Whole) (b : ℕ) (block : CellsView) → IsLaid w → b < length w.blocks → IsLike (block_at w b) block → IsLaid (put_block w b block)

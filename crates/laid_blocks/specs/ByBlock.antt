@@ -6,7 +6,8 @@ use Rattle.block_events.specs.Directions.{IsDirection, near, far}
 use Rattle.block_events.specs.States as core
 use Rattle.block_events.specs.Effects.{BlocksView, told_lane}
 use Rattle.block_net.specs.Views.{border_in, cells_with_known}
-use Rattle.block_net.specs.Whole.{Whole, block_at, home, near_home, slot, is_outer, put_block}
+use Rattle.block_net.specs.Whole.{Whole, block_at, node_block, near_node_block, slot, is_outer}
+use Rattle.block_net.specs.Whole.{put_block}
 use Rattle.laid_blocks.specs.Views.{blocks_in, IsLaid}
 
 -- the direction at a place of a block, among those to other blocks
@@ -28,20 +29,22 @@ pub record IsTelling (old now : Whole) (b many : ℕ) : Type 0 where
   pub number : length now.blocks ≡ length old.blocks
   pub borders : length (block_at now b).borders ≡ length (block_at old b).borders
   pub rest : blocks_in now ≡ record (blocks_in old) { lanes = (blocks_in now).lanes }
-  pub told : (x : Direction) → IsDirection old.net x → is_outer old x ≡ true → near_home old x ≡ b
+  pub told : (x : Direction) → IsDirection old.net x → is_outer old x ≡ true
+      → near_node_block old x ≡ b
       → slot old x < many
       → core.lane_at (blocks_in now).lanes x ≡ told_lane (blocks_in old) x
   pub others : (x : Direction) → IsDirection old.net x →
-      (is_outer old x ≡ true → near_home old x ≡ b → many ≤ slot old x)
+      (is_outer old x ≡ true → near_node_block old x ≡ b → many ≤ slot old x)
       → core.lane_at (blocks_in now).lanes x ≡ core.lane_at (blocks_in old).lanes x
 
 -- the nodes of a block have the labels that stand in a list, and nothing else changed
 pub record HasLabelsInBlock (old now : Whole) (b : ℕ) (labels : List ℕ) : Type 0 where
   pub laid : IsLaid now
   pub rest : blocks_in now ≡ record (blocks_in old) { labels = (blocks_in now).labels }
-  pub here : (v : ℕ) → v < nodes old.net → home old v ≡ b → slice_index (blocks_in now).labels v
+  pub here : (v : ℕ) → v < nodes old.net → node_block old v ≡ b
+      → slice_index (blocks_in now).labels v
       ≡ slice_index labels v
-  pub others : (v : ℕ) → v < nodes old.net → (home old v ≡ b → ⊥)
+  pub others : (v : ℕ) → v < nodes old.net → (node_block old v ≡ b → ⊥)
       → slice_index (blocks_in now).labels v ≡ slice_index (blocks_in old).labels v
 
 -- each direction from a block to another knows the label of its far end, and nothing else changed;

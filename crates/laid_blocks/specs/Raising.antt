@@ -45,6 +45,11 @@ IsStableAlong b x =
     0 < (core.lane_at b.lanes x).residual
     → slice_index b.labels (near b.net x) ≤ slice_index b.labels (far b.net x) + 1
 
+-- so it is along both directions of an arc
+abbrev pub IsStableAcross : BlocksView → ℕ → Type 0
+IsStableAcross b k = IsStableAlong b (forward k) × IsStableAlong b (backward k)
+
+-- so it is along all directions, and each node with room has a label of at most 1
 pub record IsStable (b : BlocksView) : Type 0 where
   pub rooms : (v : ℕ) → v < nodes b.net → IsStableAt b v
   pub forth : (k : ℕ) → k < length b.net.arcs → IsStableAlong b (forward k)

@@ -7,7 +7,8 @@ use Rattle.block_events.specs.Directions.{IsDirection, near, far}
 use Rattle.block_events.specs.States.{lane_at, is_border}
 use Rattle.block_events.specs.Effects.{BlocksView, view_of}
 use Rattle.block_net.specs.Limits.{arc_limit, block_limit}
-use Rattle.block_net.specs.Whole.{Whole, home, place, near_home, slot, is_outer, state_shown}
+use Rattle.block_net.specs.Whole.{Whole, node_block, place, near_node_block, slot, is_outer}
+use Rattle.block_net.specs.Whole.{state_shown}
 use Rattle.block_net.specs.Whole.{IsPlaced, IsFilled}
 
 -- what a whole of blocks shows, without the messages on the way
@@ -26,7 +27,7 @@ pub record IsLaid (w : Whole) : Type 0 where
 -- a node, its block and its place there
 pub record IsSpot (w : Whole) (v b p : ℕ) : Type 0 where
   pub node : v < nodes w.net
-  pub home : home w v ≡ b
+  pub node_block : node_block w v ≡ b
   pub place : place w v ≡ p
   pub block : b < length w.blocks
 
@@ -34,7 +35,7 @@ pub record IsSpot (w : Whole) (v b p : ℕ) : Type 0 where
 pub record IsRow (w : Whole) (x : Direction) (leaves : Bool) (b j : ℕ) : Type 0 where
   pub direction : IsDirection w.net x
   pub outer : is_outer w x ≡ leaves
-  pub home : near_home w x ≡ b
+  pub node_block : near_node_block w x ≡ b
   pub slot : slot w x ≡ j
   pub block : b < length w.blocks
 

@@ -12,12 +12,12 @@ ghost use Rattle.block_events.specs.States.{lane_at, block_of, is_border};
 ghost use Rattle.block_events.specs.Soundness.{amount_out};
 ghost use Rattle.block_events.specs.Events.{highest_label};
 ghost use Rattle.block_net.specs.Limits.{arc_limit, block_limit};
-ghost use Rattle.block_net.specs.Split.{CanSplit, homes_made};
+ghost use Rattle.block_net.specs.Split.{CanSplit, node_blocks_made};
 ghost use Rattle.block_net.specs.Whole.{index_of, is_outer, whole_of};
 ghost use Rattle.block_events.specs.Effects.{state_of, opening_blocks, blocks_after_sink_push};
 ghost use Rattle.block_events.specs.Effects.{blocks_after_relabel, blocks_after_push};
 ghost use Rattle.block_events.specs.Effects.{blocks_after_send, blocks_after_accept};
-ghost use Rattle.block_events.specs.Effects.{blocks_after_settle, blocks_after_return};
+ghost use Rattle.block_events.specs.Effects.{blocks_after_delivery, blocks_after_return};
 ghost use Rattle.laid_blocks.specs.Views.{blocks_in, IsLaid, IsLong, IsSpot, IsRow};
 ghost use Rattle.laid_blocks.specs.Views.{IsInside, IsCrossing, AreLabels, label_near, label_far};
 ghost use Rattle.laid_blocks.specs.Views.{push_amount, sink_amount};
@@ -25,10 +25,11 @@ ghost use Rattle.laid_blocks.specs.ByBlock.{IsToldFrom, IsRelabelled};
 
 use crate::by_block::{label_block, tell_block};
 use block_events::{Direction, Lane, Message};
-use block_net::{Parts, homes_of, opposite_of};
+use block_net::{Parts, node_blocks_of, opposite_of};
 use flow_network::Net;
 use std::alloc::{AllocError, Global};
 use std::marker::Model;
+use std::thread::Threads;
 
 /// What the blocks of a net hold of its nodes and of its directions.
 ///
@@ -55,7 +56,7 @@ impl Model for Blocks {
 }
 
 /// The block of a node of so many nodes.
-fn home_of(v: usize, nodes: usize, blocks: usize) -> usize
+fn node_block_of(v: usize, nodes: usize, blocks: usize) -> usize
     requires node { v < nodes }
     requires nodes { nodes ≤ node_limit }
     requires blocks { blocks ≤ block_limit }
@@ -97,7 +98,7 @@ pub fn spot(net: &Net, parts: &Parts, v: usize) -> (usize, usize)
     requires node { v < nodes net.now }
     ensures { IsSpot (whole_of net.now parts.now) v result.0 result.1 }
 {
-    let block = home_of(v, net.nodes(), parts.blocks.len());
+    let block = node_block_of(v, net.nodes(), parts.blocks.len());
     (block, v - parts.firsts[block])
 }
 
@@ -121,7 +122,7 @@ fn row(net: &Net, parts: &Parts, direction: Direction) -> (usize, usize)
     ensures { (let w = whole_of net.now parts.now in
         IsRow w direction (is_outer w direction) result.0 result.1) }
 {
-    let block = home_of(near_of(net, direction), net.nodes(), parts.blocks.len());
+    let block = node_block_of(near_of(net, direction), net.nodes(), parts.blocks.len());
     let slot = parts.slots[index_of(net, direction)];
     (block, slot as usize)
 }
@@ -137,6 +138,26 @@ impl Blocks {
         // Asking the net for a number brings its limits to hand.
         let _nodes = net.nodes();
         let parts = Parts::split(alloc, &net, blocks)?;
+        Ok(Blocks { net, parts })
+    }
+
+    /// The blocks that `open` answers, made side by side by at most so many threads where the net
+    /// is large. A thread that the system does not start leaves its blocks to the one that asked
+    /// for it.
+    pub fn open_by<R: Threads + Sync>(
+        rt: &R,
+        alloc: Global,
+        net: Net,
+        blocks: usize,
+        threads: usize,
+    ) -> Result<Blocks, AllocError>
+        requires split { CanSplit net blocks }
+        requires threads { 0 < threads }
+        ensures first { IfOk result (λ b. b ≡ opening_blocks net blocks) }
+        ensures limits { IsNet net }
+    {
+        let _nodes = net.nodes();
+        let parts = Parts::split_by(rt, alloc, &net, blocks, threads)?;
         Ok(Blocks { net, parts })
     }
 
@@ -215,19 +236,19 @@ impl Blocks {
     }
 
     /// The block of a node.
-    pub fn home(&self, v: usize) -> usize
+    pub fn node_block(&self, v: usize) -> usize
         requires { v < nodes self.now.net }
         ensures value { result ≡ block_of self.now.net self.now.blocks v }
         ensures block { result < self.now.blocks }
     {
-        home_of(v, self.net.nodes(), self.parts.blocks.len())
+        node_block_of(v, self.net.nodes(), self.parts.blocks.len())
     }
 
     /// The block of each node, one byte a node. The only error is that memory runs out.
-    pub fn homes(&self, alloc: Global) -> Result<Vec<u8>, AllocError>
-        ensures { IfOk result (λ homes. homes.items ≡ homes_made self.now.net self.now.blocks) }
+    pub fn node_blocks(&self, alloc: Global) -> Result<Vec<u8>, AllocError>
+        ensures { IfOk result (λ v. v.items ≡ node_blocks_made self.now.net self.now.blocks) }
     {
-        homes_of(alloc, &self.net, self.parts.blocks.len())
+        node_blocks_of(alloc, &self.net, self.parts.blocks.len())
     }
 
     /// Whether a direction leads to another block.
@@ -235,7 +256,7 @@ impl Blocks {
         requires { IsDirection self.now.net direction }
         ensures { result ≡ is_border self.now.net self.now.blocks direction }
     {
-        self.home(self.near(direction)) != self.home(self.far(direction))
+        self.node_block(self.near(direction)) != self.node_block(self.far(direction))
     }
 
     /// What a node got and did not pass on.
@@ -446,22 +467,22 @@ impl Blocks {
     }
 
     /// The parcel of a direction to another block was taken.
-    pub fn settle(&mut self, direction: Direction)
+    pub fn deliver_parcel(&mut self, direction: Direction)
         requires { IsCrossing self.old direction }
-        ensures { self.new ≡ blocks_after_settle self.old direction }
+        ensures { self.new ≡ blocks_after_delivery self.old direction }
     {
         let (block, slot) = row(&self.net, &self.parts, direction);
-        self.parts.blocks[block].settle(slot);
+        self.parts.blocks[block].deliver_parcel(slot);
     }
 
     /// The parcel of a direction to another block comes back, with the label that stood against it.
-    pub fn take_back(&mut self, direction: Direction, amount: u64, told: u32)
+    pub fn return_parcel(&mut self, direction: Direction, amount: u64, told: u32)
         requires border { IsCrossing self.old direction }
         requires fits { amount ≤ amount_out (lane_at self.old.lanes direction).flight }
         requires told { told ≤ top self.old.net }
         ensures { self.new ≡ blocks_after_return self.old direction amount told }
     {
         let (block, slot) = row(&self.net, &self.parts, direction);
-        self.parts.blocks[block].take_back(slot, amount, told);
+        self.parts.blocks[block].return_parcel(slot, amount, told);
     }
 }

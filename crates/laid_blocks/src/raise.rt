@@ -3,9 +3,10 @@ ghost use Rattle.std.specs.Prelude.{◌≡◌, ◌+◌, ◌<◌, ℕ, false, Lis
 ghost use Rattle.flow_network.specs.Cut.{nodes};
 ghost use Rattle.flow_network.specs.Progress.{top};
 ghost use Rattle.block_events.specs.Reach.{AreExact};
-ghost use Rattle.block_events.specs.Directions.{IsDirection, forward, backward};
+ghost use Rattle.block_events.specs.Directions.{IsDirection};
 ghost use Rattle.block_events.specs.Effects.{blocks_with_known_labels};
 ghost use Rattle.laid_blocks.specs.Raising.{bare, IsCutOff, IsLowered, IsStableAt, IsStableAlong};
+ghost use Rattle.laid_blocks.specs.Raising.{IsStableAcross};
 ghost use Rattle.laid_blocks.specs.Raising.{IsStable};
 ghost use Rattle.laid_blocks.specs.Views.{AreLabels};
 
@@ -61,8 +62,7 @@ impl Blocks {
     fn lower_arc(&mut self, arc: usize) -> bool
         requires { arc < length self.old.net.arcs }
         ensures lowered { IsLowered self.old self.new result }
-        ensures stable { result ≡ false
-            → IsStableAlong self.old (forward arc) × IsStableAlong self.old (backward arc) }
+        ensures stable { result ≡ false → IsStableAcross self.old arc }
     {
         let forward = self.lower_along(Direction { arc, back: false });
         let backward = self.lower_along(Direction { arc, back: true });
@@ -73,7 +73,7 @@ impl Blocks {
     fn lower_arcs(&mut self) -> bool
         ensures lowered { IsLowered self.old self.new result }
         ensures stable { result ≡ false → (k : ℕ) → k < length self.old.net.arcs
-            → IsStableAlong self.old (forward k) × IsStableAlong self.old (backward k) }
+            → IsStableAcross self.old k }
     {
         let mut lowered = false;
         'arcs: for arc in 0..self.arcs() {

@@ -6,26 +6,26 @@ use Rattle.block_events.proofs.Ends.{block_in}
 use Rattle.block_net.proofs.Tables.{length_table, table_at}
 use Rattle.block_net.proofs.ends.leads_out.Goals as goal
 
-pub bounds-homes-tail : goal.bounds-homes-tail
-bounds-homes-tail c =
-    omega (arith, c.near-tail.ensures.below, ap (length {A = ℕ}) c.requires.homes, length_table (nodes c.args.net.now) (block_of c.args.net.now c.args.blocks))
+pub bounds-node_blocks-tail : goal.bounds-node_blocks-tail
+bounds-node_blocks-tail c =
+    omega (arith, c.near-tail.ensures.below, ap (length {A = ℕ}) c.requires.node_blocks, length_table (nodes c.args.net.now) (block_of c.args.net.now c.args.blocks))
 
-pub bounds-homes-head : goal.bounds-homes-head
-bounds-homes-head c =
-    omega (arith, c.far-head.ensures.below, ap (length {A = ℕ}) c.requires.homes, length_table (nodes c.args.net.now) (block_of c.args.net.now c.args.blocks))
+pub bounds-node_blocks-head : goal.bounds-node_blocks-head
+bounds-node_blocks-head c =
+    omega (arith, c.far-head.ensures.below, ap (length {A = ℕ}) c.requires.node_blocks, length_table (nodes c.args.net.now) (block_of c.args.net.now c.args.blocks))
 
 pub returns : goal.returns
 returns c =
     let net = c.args.net.now in
-    let home = block_of net c.args.blocks in
-    let homes = c.args.homes.now in
+    let node_block = block_of net c.args.blocks in
+    let node_blocks = c.args.node_blocks.now in
     let n = c.near-tail.result in
     let f = c.far-head.result in
-    let at_near : slice_index homes n ≡ home (near net c.args.direction) =
-    ap (λ (xs : List ℕ). slice_index xs n) c.requires.homes ∙ (table_at (nodes net) home n 0 c.near-tail.ensures.below ∙ ap home c.near-tail.ensures.value) in
-    let at_far : slice_index homes f ≡ home (far net c.args.direction) =
-    ap (λ (xs : List ℕ). slice_index xs f) c.requires.homes ∙ (table_at (nodes net) home f 0 c.far-head.ensures.below ∙ ap home c.far-head.ensures.value) in
-    ap (λ (q : ℕ). not (eqb q (slice_index homes f))) at_near ∙ ap (λ (q : ℕ). not (eqb (home (near net c.args.direction)) q)) at_far
+    let at_near : slice_index node_blocks n ≡ node_block (near net c.args.direction) =
+    ap (λ (xs : List ℕ). slice_index xs n) c.requires.node_blocks ∙ (table_at (nodes net) node_block n 0 c.near-tail.ensures.below ∙ ap node_block c.near-tail.ensures.value) in
+    let at_far : slice_index node_blocks f ≡ node_block (far net c.args.direction) =
+    ap (λ (xs : List ℕ). slice_index xs f) c.requires.node_blocks ∙ (table_at (nodes net) node_block f 0 c.far-head.ensures.below ∙ ap node_block c.far-head.ensures.value) in
+    ap (λ (q : ℕ). not (eqb q (slice_index node_blocks f))) at_near ∙ ap (λ (q : ℕ). not (eqb (node_block (near net c.args.direction)) q)) at_far
 
 pub returns-then-blocks-eq1 : goal.returns-then-blocks-eq1
 returns-then-blocks-eq1 c =

@@ -23,7 +23,7 @@ nodes-preserved g c =
     let same : c.visit-did.new.cells ≡ c.nodes.cells = told.still none ∙ c.in-Some.ensures.same in
     let last : c.set_aside.new.self.block ≡ old = c.set_aside.ensures.block ∙ (second.0 ∙ high) in
     record {
-      fixed = told.fixed ∙ inv.fixed;
+      identity = told.identity ∙ inv.identity;
       does = subst (λ (b : CellsView). DoesEvents old was 0 b now) (sym last) (does_look old was now (look_more was seen now first.1 second.1));
       idle = λ some u out. elim (c.set_aside.ensures.aside u out) [
         | inl e ↦

@@ -8,7 +8,7 @@ decreases-nodes g l = waiting_count l.cells
 
 abbrev pub invariant-nodes : goal.invariant-nodes
 invariant-nodes g l = record {
-  fixed : g.W.Ways.fixed l.ways ≡ g.W.Ways.fixed l.fn.ways;
+  identity : g.W.Ways.identity l.ways ≡ g.W.Ways.identity l.fn.ways;
   does : DoesEvents l.fn.cells.block (g.W.Ways.seen l.fn.ways) 0 l.cells.block (g.W.Ways.seen l.ways);
   idle : 0 < l.limit → (v : ℕ) → IsAside l.cells v → IsAside l.fn.cells v ⊎ IsIdle l.fn.cells.block (g.W.Ways.seen l.fn.ways) v;
 }

@@ -7,7 +7,7 @@ wave-preserved g c =
     let inv = c.wave.invariant in
     let told = c.push_if_active-count.ensures in
     record {
-      fixed = told.fixed ∙ inv.fixed;
+      identity = told.identity ∙ inv.identity;
       few = omega arith;
       same = λ none. told.still (omega arith) ∙ inv.same (omega arith);
       does = does_more c.args.cells.now.block c.wave.cells.block c.push_if_active-count.new.cells.block (g.W.Ways.seen c.args.ways.now) (g.W.Ways.seen c.wave.ways) (g.W.Ways.seen c.push_if_active-count.new.ways)

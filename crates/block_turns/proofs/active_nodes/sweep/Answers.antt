@@ -10,7 +10,7 @@ passes-preserved g c =
     let inv = c.passes.invariant in
     let told = c.pass-did.ensures in
     record {
-      fixed = told.fixed ∙ inv.fixed;
+      identity = told.identity ∙ inv.identity;
       few = omega arith;
       more = omega arith;
       rises = omega arith;

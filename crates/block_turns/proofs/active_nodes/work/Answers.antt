@@ -13,7 +13,7 @@ sweeps-preserved g c =
     let all = does_more c.args.cells.now.block c.sweeps.cells.block c.sweep-did.new.cells.block (g.W.Ways.seen c.args.ways.now) (g.W.Ways.seen c.sweeps.ways) now
     c.sweeps.count c.sweep-did.result.0 inv.does told.does in
     record {
-      fixed = told.fixed ∙ inv.fixed;
+      identity = told.identity ∙ inv.identity;
       few = omega arith;
       more = omega arith;
       rises = omega arith;

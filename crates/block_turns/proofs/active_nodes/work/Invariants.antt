@@ -4,7 +4,7 @@ use Rattle.block_turns.proofs.active_nodes.work.Given as goal
 
 abbrev pub invariant-sweeps : goal.invariant-sweeps
 invariant-sweeps g l = record {
-  fixed : g.W.Ways.fixed l.ways ≡ g.W.Ways.fixed l.fn.ways;
+  identity : g.W.Ways.identity l.ways ≡ g.W.Ways.identity l.fn.ways;
   few : l.count ≤ l.limit;
   more : l.i ≤ l.count;
   rises : l.all_rises ≤ l.count;

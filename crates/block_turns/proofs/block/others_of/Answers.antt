@@ -1,4 +1,4 @@
-use Rattle.std.proofs.Common.{◌∙◌, ap, arith}
+use Rattle.std.proofs.Common.{ap, arith}
 use Rattle.block_net.specs.declared.lanes.Border.{Border}
 use Rattle.block_turns.proofs.Others.{known_more, known_once}
 use Rattle.block_turns.proofs.block.others_of.Goals as goal
@@ -8,7 +8,7 @@ borders-preserved c = record {
   known = known_more c.args.cells.now c.borders.all.items c.push_reserved.new.self.items c.borders.j c.border.result.to c.borders.invariant.known
       (ap (λ (x : Border). x.to) c.border.ensures.value) c.push_reserved.ensures.items;
   len = omega arith;
-  room = c.push_reserved.ensures.capacity ∙ c.borders.invariant.room;
+  room = omega (arith, c.push_reserved.ensures.capacity, c.borders.invariant.room);
 }
 
 pub returns : goal.returns

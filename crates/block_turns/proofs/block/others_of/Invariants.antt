@@ -1,4 +1,4 @@
-use Rattle.std.proofs.Common.{◌≡◌, ℕ, ◌<◌, length, Contains}
+use Rattle.std.proofs.Common.{◌≡◌, ℕ, ◌<◌, ◌≤◌, length, Contains}
 use Rattle.std.specs.Vec.{vec_len, vec_capacity}
 use Rattle.block_net.specs.Views.{border_in}
 use Rattle.block_turns.proofs.block.others_of.Given as goal
@@ -7,5 +7,5 @@ abbrev pub invariant-borders : goal.invariant-borders
 invariant-borders l = record {
   known : (k : ℕ) → k < l.j → Contains l.all.items (border_in l.cells k).to;
   len : vec_len l.all ≡ l.j;
-  room : vec_capacity l.all ≡ length l.cells.borders;
+  room : length l.cells.borders ≤ vec_capacity l.all;
 }

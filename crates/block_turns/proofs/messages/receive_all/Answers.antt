@@ -12,7 +12,7 @@ others-preserved g c =
     let was = g.W.Ways.seen c.args.ways.now in
     let seen = g.W.Ways.seen c.others.ways in
     record {
-      fixed = told.fixed ∙ inv.fixed;
+      identity = told.identity ∙ inv.identity;
       few = omega arith;
       does = does_more c.args.cells.now.block c.others.cells.block c.receive_from-count.new.cells.block was seen (g.W.Ways.seen c.receive_from-count.new.ways) c.others.count c.receive_from-count.result inv.does told.does;
       same = λ none. told.still (omega arith) ∙ inv.same (omega arith);

@@ -8,7 +8,7 @@ messages-preserved g c =
     let told = c.take_front.ensures in
     let one : c.messages.count + c.take_front.result ≡ c.messages.count + 1 = omega arith in
     record {
-      fixed = told.fixed ∙ inv.fixed;
+      identity = told.identity ∙ inv.identity;
       does = does_as c.args.cells.now.block c.take_front.new.cells.block (g.W.Ways.seen c.args.ways.now) (g.W.Ways.seen c.take_front.new.ways) (c.messages.count + c.take_front.result) (c.messages.count + 1) one
           (does_more c.args.cells.now.block c.messages.cells.block c.take_front.new.cells.block (g.W.Ways.seen c.args.ways.now) (g.W.Ways.seen c.messages.ways) (g.W.Ways.seen c.take_front.new.ways)
           c.messages.count c.take_front.result inv.does told.does);

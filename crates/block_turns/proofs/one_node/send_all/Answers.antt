@@ -13,7 +13,7 @@ borders-preserved g c =
     let was = g.W.Ways.seen c.args.ways.now in
     let seen = g.W.Ways.seen c.borders.ways in
     record {
-      fixed = told.fixed ∙ inv.fixed;
+      identity = told.identity ∙ inv.identity;
       few = omega arith;
       does = does_more old c.borders.cells.block c.try_send-count.new.cells.block was seen (g.W.Ways.seen c.try_send-count.new.ways) c.borders.count c.try_send-count.result inv.does told.does;
       same = λ none. told.still (omega arith) ∙ inv.same (omega arith);

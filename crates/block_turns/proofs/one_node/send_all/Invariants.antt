@@ -6,7 +6,7 @@ use Rattle.block_turns.proofs.one_node.send_all.Given as goal
 
 abbrev pub invariant-borders : goal.invariant-borders
 invariant-borders g l = record {
-  fixed : g.W.Ways.fixed l.ways ≡ g.W.Ways.fixed l.fn.ways;
+  identity : g.W.Ways.identity l.ways ≡ g.W.Ways.identity l.fn.ways;
   few : l.count ≤ l.limit;
   does : DoesEvents l.fn.cells.block (g.W.Ways.seen l.fn.ways) l.count l.cells.block (g.W.Ways.seen l.ways);
   same : l.count ≡ 0 → l.cells ≡ l.fn.cells;

@@ -12,8 +12,8 @@ put-requires-clause-room c =
     let x = c.args.direction in
     let s : core.State = state_of c.self.inside.blocks c.self.inside.ways.messages c.self.inside.got in
     let on : IsEnabled s (Send x) = subst (λ (t : core.State). IsEnabled t (Send x)) (sym c.self.view_is) (c.may_send.ensures.0 c.if-not-may_send.false) in
-    let from : c.home-from.result ≡ core.near_block s.net s.blocks x = c.home-from.ensures.value ∙ ap (core.block_of s.net s.blocks) c.near-near.ensures.value in
-    let to : c.home-to.result ≡ core.far_block s.net s.blocks x = c.home-to.ensures.value ∙ ap (core.block_of s.net s.blocks) c.far-far.ensures.value in
+    let from : c.node_block-from.result ≡ core.near_block s.net s.blocks x = c.node_block-from.ensures.value ∙ ap (core.block_of s.net s.blocks) c.near-near.ensures.value in
+    let to : c.node_block-to.result ≡ core.far_block s.net s.blocks x = c.node_block-to.ensures.value ∙ ap (core.block_of s.net s.blocks) c.far-far.ensures.value in
     rw (from, to) (send_room x c.self.invariant on)
 
 pub invariant_of-self : goal.invariant_of-self
@@ -22,9 +22,9 @@ invariant_of-self c =
     let s : core.State = state_of c.self.inside.blocks c.self.inside.ways.messages c.self.inside.got in
     let on : IsEnabled s (Send x) = subst (λ (t : core.State). IsEnabled t (Send x)) (sym c.self.view_is) (c.may_send.ensures.0 c.if-not-may_send.false) in
     let parcel = c.send-parcel.ensures.parcel in
-    let put = c.put.ensures.messages ∙ ap (core.put_message c.self.inside.ways.messages c.home-from.result c.home-to.result) parcel in
+    let put = c.put.ensures.messages ∙ ap (core.put_message c.self.inside.ways.messages c.node_block-from.result c.node_block-to.result) parcel in
     let made = sent_is c.self.inside.blocks c.send-parcel.new.self c.self.inside.ways.messages c.put.new.self.messages c.self.inside.got x
-    c.near-near.result c.far-far.result _ _ _ c.home-from.result c.home-to.result _ c.near-near.ensures.value c.far-far.ensures.value
+    c.near-near.result c.far-far.result _ _ _ c.node_block-from.result c.node_block-to.result _ c.near-near.ensures.value c.far-far.ensures.value
     (ap (slice_index c.self.inside.blocks.labels) (sym c.near-near.ensures.value)) (ap (slice_index c.self.inside.blocks.excess) (sym c.near-near.ensures.value)) refl refl
-    c.home-from.ensures.value c.home-to.ensures.value c.send-parcel.ensures.sent put in
+    c.node_block-from.ensures.value c.node_block-to.ensures.value c.send-parcel.ensures.sent put in
     rw c.put.ensures.rooms (held_next (Send x) _ c.self.invariant on made)
