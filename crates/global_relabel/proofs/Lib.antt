@@ -8,3 +8,6 @@ pub mod Rooms
 pub mod Local
 pub mod Nearby
 pub mod Falling
+pub mod Apart
+pub mod Offering
+pub mod Spreading

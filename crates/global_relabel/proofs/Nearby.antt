@@ -7,7 +7,7 @@ use Rattle.block_events.specs.Directions.{IsDirection, near, far}
 use Rattle.block_events.specs.States.{State, lane_at, is_border}
 use Rattle.block_events.specs.Effects.{BlocksView, state_of}
 use Rattle.block_net.specs.declared.parts.Parts.{Parts}
-use Rattle.block_net.specs.Whole.{Whole, home, slot, is_outer, block_at, state_shown, whole_of, StandsAt, IsPlaced}
+use Rattle.block_net.specs.Whole.{Whole, node_block, slot, is_outer, block_at, state_shown, whole_of, StandsAt, IsPlaced}
 use Rattle.block_net.specs.Views.{count}
 use Rattle.laid_blocks.specs.Views.{blocks_in}
 use Rattle.block_core.specs.Parts.{IsIn}
@@ -40,7 +40,7 @@ least_more w leaves labels v before least new j label r x placed seen stands at 
   steps = λ y steps under. elim (cases_lt (slot w y) j) [
     | inl less ↦ omega (arith, seen.steps y steps less, low)
     | inr last ↦
-        let same : y ≡ x = placed.apart y x steps.direction stands.direction (steps.border ∙ sym stands.outer) (ap (home w) (steps.near ∙ sym stands.near)) (omega (arith, last, under, stands.slot)) in
+        let same : y ≡ x = placed.apart y x steps.direction stands.direction (steps.border ∙ sym stands.outer) (ap (node_block w) (steps.near ∙ sym stands.near)) (omega (arith, last, under, stands.slot)) in
         let some : 0 < r = omega (arith, steps.residual, can, ap (λ (z : Direction). (lane_at (state_shown w).lanes z).residual) same) in
         omega (arith, step some, at, ap (λ (z : Direction). slice_index labels (far w.net z)) same)
   ];
@@ -170,8 +170,8 @@ module _ (s : State) (p : Parts) (is : IsIn s p) (labels : List ℕ) where
   pub block_of_places : (b : ℕ) → b < length p.blocks.items
       → ((q : ℕ) → q < count (block_at w b) → IsLocallyExact (state_shown w) labels (slice_index p.firsts.items b + q)) → AreLocallyExactIn s labels b
   block_of_places b lb each v l here =
-      let at_home : home w v ≡ b = rw number_blocks here in
-      let inside = is_inside w is.laid b lb v l at_home in
+      let at_node_block : node_block w v ≡ b = rw number_blocks here in
+      let inside = is_inside w is.laid b lb v l at_node_block in
       let f = slice_index p.firsts.items b in
       let exact = each (v - f) (omega (arith, inside.0, inside.1)) in
       of_shown v (subst (λ u. IsLocallyExact (state_shown w) labels u) (omega (arith, inside.0)) exact)

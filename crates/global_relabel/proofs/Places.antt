@@ -10,18 +10,18 @@ use Rattle.block_events.proofs.Ends.{near_in, far_in}
 use Rattle.block_events.proofs.Lanes.{near_opposite, border_opposite}
 use Rattle.block_net.specs.declared.lanes.Border.{Border}
 use Rattle.block_net.specs.Views.{CellsView, count, lane_in, border_in, first_lane, first_border}
-use Rattle.block_net.specs.Whole.{Whole, block_at, block_with, home, place, slot, is_outer, border_of, state_shown, StandsAt}
+use Rattle.block_net.specs.Whole.{Whole, block_at, block_with, node_block, place, slot, is_outer, border_of, state_shown, StandsAt}
 use Rattle.laid_blocks.specs.Views.{blocks_in, IsLaid, IsSpot, IsRow}
 use Rattle.laid_blocks.proofs.Steps.{IsAt, lane_below, border_below, inner_read, border_read, far_spot, back_row, back_spot}
 
 -- the number of the node at a place of a block
 node_of : (w : Whole) (u b p : ℕ) → IsLaid w → IsSpot w u b p → slice_index w.firsts b + p ≡ u
 node_of w u b p laid spot =
-    omega (arith, ap (slice_index w.firsts) spot.home, spot.place, laid.placed.firsts u spot.node)
+    omega (arith, ap (slice_index w.firsts) spot.node_block, spot.place, laid.placed.firsts u spot.node)
 
 -- the block that a node lies in, and what is read there
 with_is : (w : Whole) (b : ℕ) (B : CellsView) (u p : ℕ) → block_at w b ≡ B → IsSpot w u b p → block_with w u ≡ B
-with_is w b B u p is spot = ap (block_at w) spot.home ∙ is
+with_is w b B u p is spot = ap (block_at w) spot.node_block ∙ is
 
 read_at : (w : Whole) (b : ℕ) (B : CellsView) (u p : ℕ) (f : CellsView → List ℕ) (g : ℕ → ℕ) → block_at w b ≡ B → IsSpot w u b p
     → slice_index (f (block_with w u)) (g (place w u)) ≡ slice_index (f B) (g p)
@@ -32,7 +32,7 @@ row_of : (w : Whole) (b : ℕ) (leaves : Bool) (u p j : ℕ) (x : Direction) →
 row_of w b leaves u p j x spot stands = record {
   direction = stands.direction;
   outer = stands.outer;
-  home = ap (home w) stands.near ∙ spot.home;
+  node_block = ap (node_block w) stands.near ∙ spot.node_block;
   slot = stands.slot;
   block = spot.block;
 }
@@ -71,7 +71,7 @@ pub record IsBorderEnd (w : Whole) (border : Border) (x : Direction) : Type 0 wh
 
 border_is : (w : Whole) (b : ℕ) (B : CellsView) (x : Direction) (j : ℕ) → block_at w b ≡ B → IsRow w x true b j → border_of w x ≡ border_in B j
 border_is w b B x j is row =
-    ap (λ (q : CellsView). border_in q (slot w x)) (ap (block_at w) row.home ∙ is) ∙ ap (border_in B) row.slot
+    ap (λ (q : CellsView). border_in q (slot w x)) (ap (block_at w) row.node_block ∙ is) ∙ ap (border_in B) row.slot
 
 border_end : (w : Whole) (b : ℕ) (B : CellsView) (u p j : ℕ) (x : Direction) → IsAt w (blocks_in w) b B → IsSpot w u b p → StandsAt w true u j x
     → IsBorderEnd w (border_in B j) x
@@ -79,16 +79,16 @@ border_end w b B u p j x at spot stands =
     let row = row_of w b true u p j x spot stands in
     let here = at.laid.placed.borders x stands.direction stands.outer in
     let is = border_is w b B x j at.is row in
-    let to : (border_in B j).to ≡ home w (far w.net x) = sym (ap (λ (q : Border). q.to) is) ∙ here.to in
+    let to : (border_in B j).to ≡ node_block w (far w.net x) = sym (ap (λ (q : Border). q.to) is) ∙ here.to in
     let inside = far_in w.net x at.laid.net stands.direction in
-    let below : (border_in B j).to < length w.blocks = omega (arith, to, at.laid.placed.homes (far w.net x) inside) in
+    let below : (border_in B j).to < length w.blocks = omega (arith, to, at.laid.placed.node_blocks (far w.net x) inside) in
     let c = (border_in B j).to in
     let o = (border_in B j).opposite in
     let there : IsAt w (blocks_in w) c (block_at w c) = record { laid = at.laid; view = refl; block = below; is = refl } in
     let back : IsRow w (opposite x) true c o = record {
       direction = stands.direction;
       outer = border_opposite w.net (length w.blocks) x ∙ stands.outer;
-      home = ap (home w) (near_opposite w.net x) ∙ sym to;
+      node_block = ap (node_block w) (near_opposite w.net x) ∙ sym to;
       slot = sym here.opposite ∙ ap (λ (q : Border). q.opposite) is;
       block = below;
     } in
@@ -150,7 +150,7 @@ module _ (w : Whole) (b : ℕ) (B : CellsView) (at : IsAt w (blocks_in w) b B) w
   lane_back p j lp low high =
       let there = at.laid.filled.nodes b p at.block (omega (arith, lp, ap (λ (q : CellsView). count q) at.is)) in
       let lies = there.1 in
-      let spot : IsSpot w there.0 b p = record { node = lies.node; home = lies.home; place = lies.place; block = at.block } in
+      let spot : IsSpot w there.0 b p = record { node = lies.node; node_block = lies.node_block; place = lies.place; block = at.block } in
       (lane_at_place w b B there.0 p at spot j low high).2.back
 
   -- a direction to another block has its far end there
@@ -160,7 +160,7 @@ module _ (w : Whole) (b : ℕ) (B : CellsView) (at : IsAt w (blocks_in w) b B) w
       let x = found.0 in
       let spot : IsSpot w (near w.net x) b (place w (near w.net x)) = record {
         node = near_in w.net x at.laid.net found.2.direction;
-        home = found.1;
+        node_block = found.1;
         place = refl;
         block = at.block;
       } in

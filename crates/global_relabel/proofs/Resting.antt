@@ -13,7 +13,7 @@ use Rattle.block_events.specs.Soundness.{IsFinished}
 use Rattle.block_events.proofs.Raising.{told_is}
 use Rattle.block_net.specs.declared.parts.Parts.{Parts}
 use Rattle.block_net.specs.Views.{count, excess_in}
-use Rattle.block_net.specs.Whole.{Whole, LiesAt, block_at, home, place, whole_of}
+use Rattle.block_net.specs.Whole.{Whole, LiesAt, block_at, node_block, place, whole_of}
 use Rattle.laid_blocks.specs.Views.{blocks_in}
 use Rattle.block_core.specs.Parts.{IsIn}
 use Rattle.laid_blocks.proofs.Steps.{excess_read}
@@ -66,7 +66,7 @@ module _ (s : State) (p : Parts) (labels : List ℕ) (is : IsIn s p) (exact : Ar
     number : first b + q ≡ there.0
     number =
         let lies = there.1 in
-        omega (arith, ap first lies.home, lies.place, is.laid.placed.firsts there.0 lies.node)
+        omega (arith, ap first lies.node_block, lies.place, is.laid.placed.firsts there.0 lies.node)
 
     pub place_below : first b + q < length labels
     place_below = omega (arith, number, there.1.node, exact.len)
@@ -75,7 +75,7 @@ module _ (s : State) (p : Parts) (labels : List ℕ) (is : IsIn s p) (exact : Ar
     excess_there =
         let lies = there.1 in
         excess_read w (blocks_in w) b (block_at w b) there.0 q (record { laid = is.laid; view = refl; block = lb; is = refl })
-        (record { node = lies.node; home = lies.home; place = lies.place; block = lb })
+        (record { node = lies.node; node_block = lies.node_block; place = lies.place; block = lb })
         ∙ ap (λ (t : State). excess_of t there.0) is.shown
 
     rests : IsFinished s → 0 < excess_in (block_at w b) q → (block_at w b).top ≤ slice_index labels (first b + q)
@@ -94,14 +94,14 @@ module _ (s : State) (p : Parts) (labels : List ℕ) (is : IsIn s p) (exact : Ar
   finished_of_rest quiet all = record {
     quiet = quiet;
     ended = λ v l some.
-        let b = home w v in
-        let lb = is.laid.placed.homes v l in
+        let b = node_block w v in
+        let lb = is.laid.placed.node_blocks v l in
         let q = place w v in
         let lq = is.laid.placed.places v l in
         let number : first b + q ≡ v = omega (arith, is.laid.placed.firsts v l) in
         let here : excess_in (block_at w b) q ≡ excess_of s v =
         excess_read w (blocks_in w) b (block_at w b) v q (record { laid = is.laid; view = refl; block = lb; is = refl })
-        (record { node = l; home = refl; place = refl; block = lb })
+        (record { node = l; node_block = refl; place = refl; block = lb })
         ∙ ap (λ (t : State). excess_of t v) is.shown in
         let high = all b lb q lq (omega (arith, some, here)) in
         high_ends v l (omega (arith, high, is.laid.placed.tops b lb, ap (slice_index labels) number));

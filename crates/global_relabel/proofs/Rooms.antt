@@ -7,7 +7,7 @@ use Rattle.sink_distances.proofs.Order.{grows_falls}
 use Rattle.block_events.specs.States.{State, room_of}
 use Rattle.block_net.specs.declared.parts.Parts.{Parts}
 use Rattle.block_net.specs.Views.{CellsView, count, room_in}
-use Rattle.block_net.specs.Whole.{Whole, LiesAt, block_at, home, place, whole_of}
+use Rattle.block_net.specs.Whole.{Whole, LiesAt, block_at, node_block, place, whole_of}
 use Rattle.laid_blocks.specs.Views.{blocks_in}
 use Rattle.block_core.specs.Parts.{IsIn}
 use Rattle.laid_blocks.proofs.Steps.{room_read}
@@ -24,11 +24,11 @@ module _ (s : State) (p : Parts) (is : IsIn s p) where
   room_there : (b q v : ℕ) → b < length p.blocks.items → LiesAt w b q v → room_in (block_at w b) q ≡ room_of s v
   room_there b q v lb lies =
       room_read w (blocks_in w) b (block_at w b) v q (record { laid = is.laid; view = refl; block = lb; is = refl })
-      (record { node = lies.node; home = lies.home; place = lies.place; block = lb })
+      (record { node = lies.node; node_block = lies.node_block; place = lies.place; block = lb })
       ∙ ap (λ (t : State). room_of t v) is.shown
 
   number_of : (b q v : ℕ) → LiesAt w b q v → first b + q ≡ v
-  number_of b q v lies = omega (arith, ap first lies.home, lies.place, is.laid.placed.firsts v lies.node)
+  number_of b q v lies = omega (arith, ap first lies.node_block, lies.place, is.laid.placed.firsts v lies.node)
 
   pub place_below : (b q : ℕ) → b < length p.blocks.items → q < count (block_at w b) → first b + q < nodes s.net
   place_below b q lb lq =
@@ -37,9 +37,9 @@ module _ (s : State) (p : Parts) (is : IsIn s p) where
 
   -- one more block is seen
   pub starts_more : (b f : ℕ) (B : CellsView) (old new : Search) → b < length p.blocks.items → f ≡ first b → block_at w b ≡ B → AreStarts s.net s.rooms 0 old
-      → ((v : ℕ) → v < nodes s.net → home w v < b → 0 < room_of s v → search_label old v ≤ 1)
+      → ((v : ℕ) → v < nodes s.net → node_block w v < b → 0 < room_of s v → search_label old v ≤ 1)
       → Grows 1 (GivesIn B f) old new → ((v : ℕ) → GivesIn B f v → search_label new v ≤ 1)
-      → AreStarts s.net s.rooms 0 new × ((v : ℕ) → v < nodes s.net → home w v < b + 1 → 0 < room_of s v → search_label new v ≤ 1)
+      → AreStarts s.net s.rooms 0 new × ((v : ℕ) → v < nodes s.net → node_block w v < b + 1 → 0 < room_of s v → search_label new v ≤ 1)
   starts_more b f B old new lb from at starts before g marked =
       let size = ap (λ (q : CellsView). count q) at in (
         record {
@@ -60,12 +60,12 @@ module _ (s : State) (p : Parts) (is : IsIn s p) where
           ];
           sinks = λ u l. absurd (omega (arith, l));
         },
-        λ v l low some. elim (cases_lt (home w v) b) [
+        λ v l low some. elim (cases_lt (node_block w v) b) [
           | inl less ↦ omega (arith, before v l less some, grows_falls 1 (GivesIn B f) old new g (omega arith) v)
           | inr high ↦
-              let here : home w v ≡ b = omega (arith, high, low) in
+              let here : node_block w v ≡ b = omega (arith, high, low) in
               let q = place w v in
-              let lies : LiesAt w b q v = record { node = l; home = here; place = refl } in
+              let lies : LiesAt w b q v = record { node = l; node_block = here; place = refl } in
               let lq : q < count B = omega (arith, is.laid.placed.places v l, ap (λ c. count (block_at w c)) here, size) in
               let room = ap (λ (r : CellsView). room_in r q) at in
               marked v (q, lq, omega (arith, number_of b q v lies, from), omega (arith, some, room, room_there b q v lb lies))

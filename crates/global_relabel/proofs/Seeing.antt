@@ -8,7 +8,7 @@ use Rattle.block_events.specs.declared.direction.Direction.{Direction}
 use Rattle.block_events.specs.Directions.{IsDirection, near, far, opposite}
 use Rattle.block_events.specs.States.{lane_at}
 use Rattle.block_events.proofs.Lanes.{near_opposite, far_opposite, opposite_twice, border_opposite}
-use Rattle.block_net.specs.Whole.{Whole, home, slot, is_outer, state_shown, StandsAt, IsPlaced}
+use Rattle.block_net.specs.Whole.{Whole, node_block, slot, is_outer, state_shown, StandsAt, IsPlaced}
 use Rattle.global_relabel.specs.Search.{HasResidualLane, AreNeighboursLabelled}
 
 -- what grew for one reason grew for each that follows from it
@@ -65,7 +65,7 @@ seen_more w leaves u label j v r s t t' x placed before fits stands end can g ma
       marked = λ y l at out low some. elim (cases_lt (slot w y) j) [
         | inl less ↦ omega (arith, before.marked y l at out less some, grows_falls label P t t' g fits (far w.net y))
         | inr last ↦
-            let same : y ≡ x = placed.apart y x l stands.direction (out ∙ sym stands.outer) (ap (home w) (at ∙ sym stands.near)) (omega (arith, last, low, stands.slot)) in
+            let same : y ≡ x = placed.apart y x l stands.direction (out ∙ sym stands.outer) (ap (node_block w) (at ∙ sym stands.near)) (omega (arith, last, low, stands.slot)) in
             let some' : 0 < r = omega (arith, some, can, ap (λ (z : Direction). (lane_at (state_shown w).lanes (opposite z)).residual) same) in
             let here : far w.net y ≡ v = ap (far w.net) same ∙ sym end in
             omega (arith, marked some', ap (search_label t') here)

@@ -2,6 +2,6 @@ pub mod Rest
 pub mod Laws
 pub mod Search
 pub mod Workspaces
-pub mod Homes
+pub mod NodeBlocks
 pub mod Local
 pub mod Lowering

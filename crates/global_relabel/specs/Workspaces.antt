@@ -12,4 +12,4 @@ IsLabelOrder labels order = (count : ℕ) × IsOrder (found_of labels order coun
 pub record Serves (net : Network) (workspace : Workspace) : Type 0 where
   pub labels : length workspace.labels.items ≡ nodes net
   pub order : length workspace.order.items ≡ nodes net
-  pub homes : length workspace.homes.items ≡ nodes net
+  pub node_blocks : length workspace.node_blocks.items ≡ nodes net

@@ -1,14 +1,21 @@
 //! Labels that a block finds by itself, and then by what other blocks tell.
-ghost use Rattle.std.specs.Prelude.{◌≡◌, ◌+◌, ◌<◌, ◌≤◌, ℕ, IfOk, IsTrue, IsFalse, length};
-ghost use Rattle.std.specs.Prelude.{replicate, slice_index};
+ghost use Rattle.std.specs.Prelude.{◌≡◌, ◌↔◌, ◌+◌, ◌<◌, ◌≤◌, ℕ, [], length, replicate};
+ghost use Rattle.std.specs.Prelude.{IfNone, IfOk, IfSome, IsFalse, IsTrue};
+ghost use Rattle.std.specs.Prelude.{slice_index, slice_index_or};
+ghost use Rattle.std.specs.List.Sorted.{IsNonDecreasingBy};
 ghost use Rattle.flow_network.specs.Cut.{nodes};
 ghost use Rattle.block_net.specs.Views.{count, lane_in, room_in};
 ghost use Rattle.block_net.specs.Whole.{block_at, whole_of};
 ghost use Rattle.laid_blocks.specs.Views.{IsLaid};
-ghost use Rattle.global_relabel.specs.Lowering.{AreOffersMet, AreOffersTo, AreTight};
-ghost use Rattle.global_relabel.specs.Lowering.{AreTightBeyond, FallsTo, IsBorderOffered};
-ghost use Rattle.global_relabel.specs.Lowering.{IsOffered, IsQueue, IsTightBehind, IsTightUpTo};
-ghost use Rattle.global_relabel.specs.Lowering.{descent_of};
+ghost use Rattle.sink_distances.specs.Search.{found_of};
+ghost use Rattle.global_relabel.specs.Lowering.{whole_in};
+ghost use Rattle.global_relabel.specs.Lowering.{AreLengthsWithin, AreOffersBelow, AreOffersMet};
+ghost use Rattle.global_relabel.specs.Lowering.{AreOffersTo, IsLowerSomewhere};
+ghost use Rattle.global_relabel.specs.Lowering.{AreOffersTold, AreTight, AreTightBeyond};
+ghost use Rattle.global_relabel.specs.Lowering.{ComeDown, FallsTo, IsAboveTold, IsAllowedBy};
+ghost use Rattle.global_relabel.specs.Lowering.{IsBorderOffered, IsOfferAt, IsQueue};
+ghost use Rattle.global_relabel.specs.Lowering.{IsReadyFor, IsTightBehind, IsTightUpTo};
+ghost use Rattle.global_relabel.specs.Lowering.{StepsWithin};
 
 use crate::exactness::{NetBlocks, far_node};
 use block_net::{Cells, Parts};
@@ -31,7 +38,6 @@ pub struct BlockLabels {
     labels: Vec<u32>,
     queue: Vec<u32>,
     offers: Vec<Offer>,
-    has_news: bool,
 }
 
 impl Model for BlockLabels {
@@ -45,24 +51,19 @@ impl Model for BlockLabels {
 }
 
 /// A node gets a label, if it is below its own, and then goes to the end of the queue. Answers the
-/// end of the queue, one more than its room where that is too little.
+/// end of the queue.
 fn lower(labels: &mut [u32], queue: &mut [u32], end: usize, place: u32, label: u32) -> usize
-    requires queue { IsQueue labels.old queue.old end }
     requires node { place < length labels.old }
-    ensures queue { IsQueue labels.new queue.new result }
-    ensures falls { FallsTo (descent_of labels.old queue.old end)
-        (descent_of labels.new queue.new result) }
+    requires ready { IsReadyFor label (found_of labels.old queue.old end) }
+    ensures falls { FallsTo label (λ v. v ≡ place) (found_of labels.old queue.old end)
+        (found_of labels.new queue.new result) }
+    ensures few { result ≤ end + 1 }
     ensures low { slice_index labels.new place ≤ label }
-    ensures kept { (v : ℕ) → slice_index labels.old v ≤ label
-        → slice_index labels.new v ≡ slice_index labels.old v }
 {
     if labels[place as usize] <= label {
         return end;
     }
     labels[place as usize] = label;
-    if end >= queue.len() {
-        return queue.len() + 1;
-    }
     queue[end] = place;
     end + 1
 }
@@ -72,9 +73,9 @@ fn lower(labels: &mut [u32], queue: &mut [u32], end: usize, place: u32, label: u
 fn lower_rooms(cells: &Cells, labels: &mut [u32], queue: &mut [u32]) -> usize
     requires labels { length labels.old ≡ count cells.now }
     requires queue { length queue.old ≡ count cells.now }
-    ensures queue { IsQueue labels.new queue.new result }
-    ensures falls { FallsTo (descent_of (replicate (count cells.now) cells.now.top) queue.old 0)
-        (descent_of labels.new queue.new result) }
+    ensures falls { FallsTo 1 (λ p. 0 < room_in cells.now p)
+        (found_of (replicate (count cells.now) cells.now.top) queue.old 0)
+        (found_of labels.new queue.new result) }
     ensures sink { (p : ℕ) → p < count cells.now → 0 < room_in cells.now p
         → slice_index labels.new p ≤ 1 }
 {
@@ -101,14 +102,13 @@ fn lower_far(
     requires place { j < length cells.now.lanes }
     requires opposite { (lane_in cells.now j).opposite < length cells.now.lanes }
     requires node { (lane_in cells.now j).far < length labels.old }
-    requires queue { IsQueue labels.old queue.old end }
-    ensures queue { IsQueue labels.new queue.new result }
-    ensures falls { FallsTo (descent_of labels.old queue.old end)
-        (descent_of labels.new queue.new result) }
+    requires ready { IsReadyFor label (found_of labels.old queue.old end) }
+    ensures falls { FallsTo label
+        (λ v. (v ≡ (lane_in cells.now j).far)
+        × (0 < (lane_in cells.now (lane_in cells.now j).opposite).residual))
+        (found_of labels.old queue.old end) (found_of labels.new queue.new result) }
     ensures low { 0 < (lane_in cells.now (lane_in cells.now j).opposite).residual
         → slice_index labels.new (lane_in cells.now j).far ≤ label }
-    ensures kept { (v : ℕ) → slice_index labels.old v ≤ label
-        → slice_index labels.new v ≡ slice_index labels.old v }
 {
     let lane = cells.lane(j);
     if labels[lane.far as usize] <= label || cells.lane(lane.opposite as usize).residual == 0 {
@@ -127,17 +127,16 @@ fn lower_behind(
     queue: &mut [u32],
     mut end: usize,
 ) -> usize
-    requires laid { IsLaid (whole_of split.now.net.now split.now.parts.now) }
+    requires laid { IsLaid (whole_in split.now) }
     requires block { block < length split.now.parts.now.blocks.items }
-    requires labels { length labels.old
-        ≡ count (block_at (whole_of split.now.net.now split.now.parts.now) block) }
+    requires labels { length labels.old ≡ count (block_at (whole_in split.now) block) }
     requires place { place < length labels.old }
-    requires queue { IsQueue labels.old queue.old end }
-    ensures queue { IsQueue labels.new queue.new result }
-    ensures falls { FallsTo (descent_of labels.old queue.old end)
-        (descent_of labels.new queue.new result) }
-    ensures tight { IsTightBehind (whole_of split.now.net.now split.now.parts.now) block labels.new
-        place }
+    requires ready { IsReadyFor (slice_index labels.old place + 1)
+        (found_of labels.old queue.old end) }
+    ensures falls { FallsTo (slice_index labels.old place + 1)
+        (λ v. StepsWithin (whole_in split.now) block v place)
+        (found_of labels.old queue.old end) (found_of labels.new queue.new result) }
+    ensures tight { IsTightBehind (whole_in split.now) block labels.new place }
 {
     let cells = &split.parts.blocks[block];
     let label = labels[place].saturating_add(1);
@@ -148,7 +147,8 @@ fn lower_behind(
     end
 }
 
-/// Whether an offer is next in the order of labels, and not a node of the queue.
+/// Whether an offer is next: its label is at most one above that of the next node of the queue, so
+/// that its node stands in the queue before those of higher labels.
 fn is_offer_next(
     offers: &[Offer],
     taken: usize,
@@ -157,190 +157,137 @@ fn is_offer_next(
     end: usize,
     next: usize,
 ) -> bool
-    requires queue { IsQueue labels.now queue.now end }
-    requires room { end ≤ length queue.now }
+    requires queue { IsQueue (found_of labels.now queue.now end) }
     ensures some { IsTrue result → taken < length offers.now }
+    ensures low { IsTrue result → next < end → (d : Offer) →
+        (slice_index_or offers.now taken d).label
+        ≤ slice_index labels.now (slice_index queue.now next) + 1 }
     ensures none { IsFalse result → end ≤ next → length offers.now ≤ taken }
+    ensures high { IsFalse result → next < end → taken < length offers.now → (d : Offer) →
+        slice_index labels.now (slice_index queue.now next) + 1
+        < (slice_index_or offers.now taken d).label }
 {
     if taken >= offers.len() {
         return false;
     }
-    next >= end || offers[taken].label <= labels[queue[next] as usize]
+    next >= end || offers[taken].label <= labels[queue[next] as usize].saturating_add(1)
 }
 
-/// A node gets the label that it is offered, if that is below its own, and then the nodes behind it
-/// get theirs. Answers the end of the queue.
-fn take_offer(
-    split: &NetBlocks<'_>,
-    block: usize,
-    offer: Offer,
-    labels: &mut [u32],
-    queue: &mut [u32],
-    end: usize,
-) -> usize
-    requires laid { IsLaid (whole_of split.now.net.now split.now.parts.now) }
-    requires block { block < length split.now.parts.now.blocks.items }
-    requires labels { length labels.old
-        ≡ count (block_at (whole_of split.now.net.now split.now.parts.now) block) }
-    requires place { offer.place < length labels.old }
-    requires queue { IsQueue labels.old queue.old end }
-    ensures queue { IsQueue labels.new queue.new result }
-    ensures len { length labels.new ≡ length labels.old }
-    ensures falls { (v : ℕ) → slice_index labels.new v ≤ slice_index labels.old v }
-    ensures met { slice_index labels.new offer.place ≤ offer.label }
-    ensures tight { let w = whole_of split.now.net.now split.now.parts.now in
-        (next : ℕ) → next ≤ end
-        → IsTightUpTo w block next (descent_of labels.old queue.old end)
-        → IsTightUpTo w block next (descent_of labels.new queue.new result) }
-    ensures more { end ≤ result }
-{
-    if labels[offer.place as usize] <= offer.label {
-        return end;
-    }
-    labels[offer.place as usize] = offer.label;
-    lower_behind(split, block, offer.place as usize, labels, queue, end)
-}
-
-/// Labels come down from nodes of the queue and from offers, both by rising labels: a node's label
-/// is final when the node is taken, as in a breadth-first search. So the queue has room for all
-/// nodes whose labels fall. Answers the end of the queue.
-fn spread_all(
-    split: &NetBlocks<'_>,
-    block: usize,
-    offers: &[Offer],
-    labels: &mut [u32],
-    queue: &mut [u32],
-    mut end: usize,
-) -> usize
-    requires laid { IsLaid (whole_of split.now.net.now split.now.parts.now) }
-    requires block { block < length split.now.parts.now.blocks.items }
-    requires labels { length labels.old
-        ≡ count (block_at (whole_of split.now.net.now split.now.parts.now) block) }
-    requires offers { AreOffersTo (length labels.old) offers.now }
-    requires queue { IsQueue labels.old queue.old end }
-    ensures len { length labels.new ≡ length labels.old }
-    ensures falls { (v : ℕ) → slice_index labels.new v ≤ slice_index labels.old v }
-    ensures room { length queue.new ≡ length labels.new }
-    ensures tight { let w = whole_of split.now.net.now split.now.parts.now in
-        IsTightUpTo w block 0 (descent_of labels.old queue.old end)
-        → result ≤ length queue.new → AreTight w block labels.new }
-    ensures met { result ≤ length queue.new → AreOffersMet offers.now labels.new }
-{
-    let mut next = 0;
-    let mut taken = 0;
-    'search: for turn in 0..queue.len() + offers.len() {
-        if end > queue.len() {
-            return end;
-        }
-        if is_offer_next(offers, taken, labels, queue, end, next) {
-            end = take_offer(split, block, offers[taken], labels, queue, end);
-            taken += 1;
-        } else if next < end {
-            let place = queue[next] as usize;
-            end = lower_behind(split, block, place, labels, queue, end);
-            next += 1;
-        } else {
-            return end;
-        }
-    }
-    end
-}
-
-/// Labels come down from nodes of the queue and from offers until they are tight. If the queue had
-/// too little room, which it never has while labels are taken in their order, all labels become 0.
+/// Labels come down from nodes of the queue and from offers until they are tight, both by rising
+/// labels: a label is final when it is given, as in a breadth-first search. So each node stands in
+/// the queue once at most.
 fn spread(
     split: &NetBlocks<'_>,
     block: usize,
     offers: &[Offer],
     labels: &mut [u32],
     queue: &mut [u32],
-    end: usize,
+    mut end: usize,
 )
-    requires laid { IsLaid (whole_of split.now.net.now split.now.parts.now) }
+    requires laid { IsLaid (whole_in split.now) }
     requires block { block < length split.now.parts.now.blocks.items }
-    requires labels { length labels.old
-        ≡ count (block_at (whole_of split.now.net.now split.now.parts.now) block) }
+    requires labels { length labels.old ≡ count (block_at (whole_in split.now) block) }
     requires offers { AreOffersTo (length labels.old) offers.now }
-    requires queue { IsQueue labels.old queue.old end }
-    ensures len { length labels.new ≡ length labels.old }
-    ensures falls { (v : ℕ) → slice_index labels.new v ≤ slice_index labels.old v }
-    ensures tight { let w = whole_of split.now.net.now split.now.parts.now in
-        IsTightUpTo w block 0 (descent_of labels.old queue.old end) → AreTight w block labels.new }
+    requires rising { IsNonDecreasingBy (λ offer. offer.label) offers.now }
+    requires ready { IsReadyFor 1 (found_of labels.old queue.old end) }
+    ensures room { length queue.new ≡ length labels.new }
+    ensures down { ComeDown (whole_in split.now) block
+        (IsAllowedBy offers.now) labels.old labels.new }
+    ensures tight { let w = whole_in split.now in
+        IsTightUpTo w block 0 (found_of labels.old queue.old end) → AreTight w block labels.new }
     ensures met { AreOffersMet offers.now labels.new }
 {
-    let end = spread_all(split, block, offers, labels, queue, end);
-    if end > queue.len() {
-        labels.fill(0);
+    let mut next = 0;
+    let mut taken = 0;
+    'search: for turn in 0..queue.len() + offers.len() {
+        if is_offer_next(offers, taken, labels, queue, end, next) {
+            let offer = offers[taken];
+            end = lower(labels, queue, end, offer.place, offer.label);
+            taken += 1;
+        } else if next < end {
+            let place = queue[next] as usize;
+            end = lower_behind(split, block, place, labels, queue, end);
+            next += 1;
+        } else {
+            return;
+        }
     }
 }
 
-/// A label is offered to a node, where it is below its own and there is room for the offer. Whether
-/// there was room, or none was needed.
-fn add_offer(labels: &[u32], offers: &mut Vec<Offer>, place: u32, label: u32) -> bool
-    requires node { place < length labels.now }
-    requires offers { AreOffersTo (length labels.now) offers.old.items }
-    ensures offers { AreOffersTo (length labels.now) offers.new.items }
-    ensures offered { IsTrue result → IsOffered offers.new.items labels.now place label }
-    ensures kept { (v l : ℕ) → IsOffered offers.old.items labels.now v l
-        → IsOffered offers.new.items labels.now v l }
+/// What the end of a residual direction to another block offers to the block's node, if that is
+/// below the node's label. `told` has the labels of all nodes that blocks told.
+fn offer_at(
+    split: &NetBlocks<'_>,
+    block: usize,
+    j: usize,
+    labels: &[u32],
+    told: &[u32],
+) -> Option<Offer>
+    requires laid { IsLaid (whole_in split.now) }
+    requires block { block < length split.now.parts.now.blocks.items }
+    requires place { let w = whole_in split.now in j < length (block_at w block).borders }
+    requires labels { length labels.now ≡ count (block_at (whole_in split.now) block) }
+    requires told { length told.now ≡ nodes split.now.net.now }
+    ensures some { IfSome result (λ offer. IsOfferAt (whole_in split.now) block told.now j offer
+        × (offer.label < slice_index labels.now offer.place)) }
+    ensures none { let w = whole_in split.now in
+        IfNone result (IsBorderOffered w block labels.now told.now [] j) }
 {
-    if labels[place as usize] <= label {
-        return true;
+    let border = split.parts.blocks[block].border(j);
+    if border.residual == 0 {
+        return None;
     }
-    if offers.len() >= offers.capacity() {
-        return false;
+    let label = told[far_node(split.parts, &border)].saturating_add(1);
+    if labels[border.near as usize] <= label {
+        return None;
     }
-    offers.push_reserved(Offer { label, place });
-    true
+    Some(Offer {
+        label,
+        place: border.near,
+    })
 }
 
 /// Lists what the ends of residual directions to other blocks offer to the block's nodes, below
-/// their own labels, as far as there is room; whether there was room for all. `told` has the labels
-/// of all nodes that blocks told.
+/// their own labels. An offer for which the list has no room is taken at once. Whether one was.
 fn list_offers(
     split: &NetBlocks<'_>,
     block: usize,
-    labels: &[u32],
     told: &[u32],
+    labels: &mut [u32],
+    queue: &mut [u32],
     offers: &mut Vec<Offer>,
 ) -> bool
-    requires laid { IsLaid (whole_of split.now.net.now split.now.parts.now) }
+    requires laid { IsLaid (whole_in split.now) }
     requires block { block < length split.now.parts.now.blocks.items }
-    requires labels { length labels.now
-        ≡ count (block_at (whole_of split.now.net.now split.now.parts.now) block) }
+    requires labels { length labels.old ≡ count (block_at (whole_in split.now) block) }
+    requires room { length queue.old ≡ length labels.old }
     requires told { length told.now ≡ nodes split.now.net.now }
-    ensures offers { AreOffersTo (length labels.now) offers.new.items }
-    ensures all { let w = whole_of split.now.net.now split.now.parts.now in
-        IsTrue result → (j : ℕ) → j < length (block_at w block).borders
-        → IsBorderOffered w block labels.now told.now offers.new.items j }
+    ensures room { length queue.new ≡ length labels.new }
+    ensures down { let w = whole_in split.now in
+        ComeDown w block (IsAboveTold w block told.now) labels.old labels.new }
+    ensures tight { let w = whole_in split.now in
+        AreTight w block labels.old → AreTight w block labels.new }
+    ensures offers { AreOffersTo (length labels.new) offers.new.items }
+    ensures told { AreOffersTold (whole_in split.now) block told.now offers.new.items }
+    ensures all { let w = whole_in split.now in (j : ℕ) → j < length (block_at w block).borders
+        → IsBorderOffered w block labels.new told.now offers.new.items j }
+    ensures below { AreOffersBelow labels.old offers.new.items }
+    ensures lower { IsTrue result → IsLowerSomewhere labels.old labels.new }
+    ensures same { IsFalse result → labels.new ≡ labels.old }
 {
     offers.clear();
-    let cells = &split.parts.blocks[block];
-    'borders: for j in 0..cells.borders() {
-        let border = cells.border(j);
-        if border.residual > 0 {
-            let label = told[far_node(split.parts, &border)].saturating_add(1);
-            if !add_offer(labels, offers, border.near, label) {
-                return false;
+    let mut has_taken = false;
+    'borders: for j in 0..split.parts.blocks[block].borders() {
+        if let Some(offer) = offer_at(split, block, j, labels, told) {
+            if offers.len() < offers.capacity() {
+                offers.push_reserved(offer);
+            } else {
+                spread(split, block, &[offer], labels, queue, 0);
+                has_taken = true;
             }
         }
     }
-    true
-}
-
-/// Writes the labels of a block to their places in a list of those of all nodes.
-fn copy_to(told: &[u32], first: usize, labels: &mut [u32])
-    requires { (p : ℕ) → p < length told.now → first + p < length labels.old }
-    ensures len { length labels.new ≡ length labels.old }
-    ensures told { (p : ℕ) → p < length told.now
-        → slice_index labels.new (first + p) ≡ slice_index told.now p }
-    ensures below { (v : ℕ) → v < first → slice_index labels.new v ≡ slice_index labels.old v }
-    ensures above { (v : ℕ) → first + length told.now ≤ v
-        → slice_index labels.new v ≡ slice_index labels.old v }
-{
-    'nodes: for place in 0..told.len() {
-        labels[first + place] = told[place];
-    }
+    has_taken
 }
 
 impl BlockLabels {
@@ -353,7 +300,6 @@ impl BlockLabels {
             labels: vec![in alloc; 0; cells.len()]?,
             queue: vec![in alloc; 0; cells.len()]?,
             offers: Vec::with_capacity(alloc, cells.borders())?,
-            has_news: false,
         })
     }
 
@@ -373,18 +319,18 @@ impl BlockLabels {
         ensures sink { let cells = block_at (whole_of net.now parts.now) block in
             (p : ℕ) → p < count cells → 0 < room_in cells p → slice_index self.new p ≤ 1 }
         ensures tight { AreTight (whole_of net.now parts.now) block self.new }
+        ensures lengths { AreLengthsWithin (whole_of net.now parts.now) block self.new }
     {
         let split = NetBlocks { net, parts };
         let labels = self.labels.as_mut_slice();
         let queue = self.queue.as_mut_slice();
         let end = lower_rooms(&parts.blocks[block], labels, queue);
         spread(&split, block, &[], labels, queue, end);
-        self.has_news = true;
     }
 
     /// Brings the labels down by paths that begin with a direction to another block, whose far end
-    /// has the label that was told. Takes no memory.
-    pub fn search_on(&mut self, net: &Net, parts: &Parts, block: usize, told: &[u32])
+    /// has the label that was told. Whether a label fell. Takes no memory.
+    pub fn search_on(&mut self, net: &Net, parts: &Parts, block: usize, told: &[u32]) -> bool
         requires laid { IsLaid (whole_of net.now parts.now) }
         requires block { block < length parts.now.blocks.items }
         requires len { length self.old ≡ count (block_at (whole_of net.now parts.now) block) }
@@ -394,46 +340,37 @@ impl BlockLabels {
         ensures tight { let w = whole_of net.now parts.now in
             AreTight w block self.old → AreTight w block self.new }
         ensures beyond { AreTightBeyond (whole_of net.now parts.now) block told.now self.new }
+        ensures down { let w = whole_of net.now parts.now in
+            ComeDown w block (IsAboveTold w block told.now) self.old self.new }
+        ensures lower { IsTrue result ↔ IsLowerSomewhere self.old self.new }
     {
         let split = NetBlocks { net, parts };
-        if !list_offers(
-            &split,
-            block,
-            self.labels.as_slice(),
-            told,
-            &mut self.offers,
-        ) {
-            self.labels.as_mut_slice().fill(0);
-            self.has_news = true;
-            return;
-        }
-        if self.offers.is_empty() {
-            return;
-        }
-        self.offers.sort_unstable_by_key(|offer| offer.label);
         let labels = self.labels.as_mut_slice();
         let queue = self.queue.as_mut_slice();
-        spread(&split, block, self.offers.as_slice(), labels, queue, 0);
-        self.has_news = true;
-    }
-
-    /// Writes the labels to their places in a list of those of all nodes, where they changed since
-    /// that was last done; whether they had. `first` is the block's first node.
-    pub fn tell(&mut self, first: usize, labels: &mut [u32]) -> bool
-        requires { (p : ℕ) → p < length self.old → first + p < length labels.old }
-        ensures same { self.new ≡ self.old }
-        ensures len { length labels.new ≡ length labels.old }
-        ensures told { IsTrue result → (p : ℕ) → p < length self.new
-            → slice_index labels.new (first + p) ≡ slice_index self.new p }
-        ensures below { (v : ℕ) → v < first → slice_index labels.new v ≡ slice_index labels.old v }
-        ensures above { (v : ℕ) → first + length self.new ≤ v
-            → slice_index labels.new v ≡ slice_index labels.old v }
-    {
-        if !self.has_news {
+        let offers = &mut self.offers;
+        let has_taken = list_offers(&split, block, told, labels, queue, offers);
+        if offers.is_empty() && !has_taken {
             return false;
         }
-        copy_to(self.labels.as_slice(), first, labels);
-        self.has_news = false;
+        offers.sort_unstable_by_key(|offer| offer.label);
+        spread(&split, block, offers.as_slice(), labels, queue, 0);
         true
+    }
+
+    /// Writes the labels to their places in a list of those of all nodes. `first` is the block's
+    /// first node.
+    pub fn tell(&self, first: usize, labels: &mut [u32])
+        requires { (p : ℕ) → p < length self.now → first + p < length labels.old }
+        ensures len { length labels.new ≡ length labels.old }
+        ensures told { (p : ℕ) → p < length self.now
+            → slice_index labels.new (first + p) ≡ slice_index self.now p }
+        ensures below { (v : ℕ) → v < first → slice_index labels.new v ≡ slice_index labels.old v }
+        ensures above { (v : ℕ) → first + length self.now ≤ v
+            → slice_index labels.new v ≡ slice_index labels.old v }
+    {
+        let told = self.labels.as_slice();
+        'nodes: for place in 0..told.len() {
+            labels[first + place] = told[place];
+        }
     }
 }

@@ -3,8 +3,9 @@ ghost use Rattle.std.specs.Prelude.{◌≡◌, ◌≢◌, ◌↔◌, ◌⊎◌, 
 ghost use Rattle.std.specs.Prelude.{length, slice_index, slice_index_or};
 ghost use Rattle.flow_network.specs.Cut.{nodes};
 ghost use Rattle.block_net.specs.Views.{count, room_in, border_in};
-ghost use Rattle.block_net.specs.Whole.{no_block, state_shown, whole_of};
+ghost use Rattle.block_net.specs.Whole.{no_block, state_shown};
 ghost use Rattle.laid_blocks.specs.Views.{IsLaid, IsSpot};
+ghost use Rattle.global_relabel.specs.Lowering.{whole_in};
 ghost use Rattle.global_relabel.specs.Local.{AreLocallyExactIn, IsLeastStep, IsLocallyExact};
 
 use crate::search::Spot;
@@ -54,12 +55,10 @@ fn least_step(least: u32, residual: u64, label: u32) -> u32
 /// The least of a number and of one more than each label that a residual direction within the block
 /// leads to from the node.
 fn least_within(split: &NetBlocks<'_>, at: Spot, labels: &[u32], mut least: u32) -> u32
-    requires laid { IsLaid (whole_of split.now.net.now split.now.parts.now) }
-    requires spot { IsSpot (whole_of split.now.net.now split.now.parts.now)
-        at.node at.block at.place }
+    requires laid { IsLaid (whole_in split.now) }
+    requires spot { IsSpot (whole_in split.now) at.node at.block at.place }
     requires len { length labels.now ≡ nodes split.now.net.now }
-    ensures { IsLeastStep (state_shown (whole_of split.now.net.now split.now.parts.now))
-        false labels.now at.node least result }
+    ensures { IsLeastStep (state_shown (whole_in split.now)) false labels.now at.node least result }
 {
     let cells = &split.parts.blocks[at.block];
     let first = split.parts.firsts[at.block];
@@ -75,12 +74,10 @@ fn least_within(split: &NetBlocks<'_>, at: Spot, labels: &[u32], mut least: u32)
 /// The least of a number and of one more than each label that a residual direction to another block
 /// leads to from the node.
 fn least_beyond(split: &NetBlocks<'_>, at: Spot, labels: &[u32], mut least: u32) -> u32
-    requires laid { IsLaid (whole_of split.now.net.now split.now.parts.now) }
-    requires spot { IsSpot (whole_of split.now.net.now split.now.parts.now)
-        at.node at.block at.place }
+    requires laid { IsLaid (whole_in split.now) }
+    requires spot { IsSpot (whole_in split.now) at.node at.block at.place }
     requires len { length labels.now ≡ nodes split.now.net.now }
-    ensures { IsLeastStep (state_shown (whole_of split.now.net.now split.now.parts.now))
-        true labels.now at.node least result }
+    ensures { IsLeastStep (state_shown (whole_in split.now)) true labels.now at.node least result }
 {
     let cells = &split.parts.blocks[at.block];
     let range = cells.border_range(at.place);
@@ -117,12 +114,10 @@ fn is_label(label: u32, least: u32, top: u32) -> bool
 /// of 1 where the node can give the sink, and of one more than each label that a residual direction
 /// leads to.
 fn is_node_exact(split: &NetBlocks<'_>, at: Spot, labels: &[u32]) -> bool
-    requires laid { IsLaid (whole_of split.now.net.now split.now.parts.now) }
-    requires spot { IsSpot (whole_of split.now.net.now split.now.parts.now)
-        at.node at.block at.place }
+    requires laid { IsLaid (whole_in split.now) }
+    requires spot { IsSpot (whole_in split.now) at.node at.block at.place }
     requires len { length labels.now ≡ nodes split.now.net.now }
-    ensures { IsTrue result ↔ IsLocallyExact
-        (state_shown (whole_of split.now.net.now split.now.parts.now)) labels.now at.node }
+    ensures { IsTrue result ↔ IsLocallyExact (state_shown (whole_in split.now)) labels.now at.node }
 {
     let cells = &split.parts.blocks[at.block];
     let start = sink_label(cells, at.place);

@@ -24,7 +24,7 @@ mod workspace;
 pub use block_labels::BlockLabels;
 pub use exact::{distances, raise_all, sink_side};
 pub use exactness::is_block_exact;
-pub use node_blocks::write_homes;
+pub use node_blocks::write_node_blocks;
 pub use rest_test::is_at_rest;
 pub use workspace::Workspace;
 

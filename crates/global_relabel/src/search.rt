@@ -9,7 +9,7 @@ ghost use Rattle.block_net.specs.Whole.{state_shown, whole_of};
 ghost use Rattle.laid_blocks.specs.Views.{IsLaid, IsSpot};
 ghost use Rattle.global_relabel.specs.Search.{AreNodesWithin, GivesIn, HasResidualLane};
 ghost use Rattle.global_relabel.specs.Search.{AreNeighboursLabelled};
-ghost use Rattle.global_relabel.specs.Homes.{AreHomes};
+ghost use Rattle.global_relabel.specs.NodeBlocks.{AreNodeBlocks};
 ghost use Rattle.global_relabel.specs.Workspaces.{IsLabelOrder};
 
 use block_core::State;
@@ -22,7 +22,7 @@ use sink_distances::{mark, top_label};
 struct Split<'a> {
     net: &'a Net,
     parts: &'a Parts,
-    homes: &'a [u8],
+    node_blocks: &'a [u8],
 }
 
 /// A node, its block and its place there.
@@ -36,12 +36,12 @@ pub(crate) struct Spot {
 /// A node's block and its place there, by the table of blocks.
 fn spot_of(split: &Split<'_>, w: usize) -> (usize, usize)
     requires laid { IsLaid (whole_of split.now.net.now split.now.parts.now) }
-    requires homes { AreHomes split.now.net.now (length split.now.parts.now.blocks.items)
-        split.now.homes.now }
+    requires node_blocks { AreNodeBlocks split.now.net.now (length split.now.parts.now.blocks.items)
+        split.now.node_blocks.now }
     requires node { w < nodes split.now.net.now }
     ensures { IsSpot (whole_of split.now.net.now split.now.parts.now) w result.0 result.1 }
 {
-    let block = split.homes[w] as usize;
+    let block = split.node_blocks[w] as usize;
     (block, w - split.parts.firsts[block])
 }
 
@@ -269,8 +269,8 @@ fn mark_into(
     w: usize,
 ) -> usize
     requires laid { IsLaid (whole_of split.now.net.now split.now.parts.now) }
-    requires homes { AreHomes split.now.net.now (length split.now.parts.now.blocks.items)
-        split.now.homes.now }
+    requires node_blocks { AreNodeBlocks split.now.net.now (length split.now.parts.now.blocks.items)
+        split.now.node_blocks.now }
     requires node { w < nodes split.now.net.now }
     requires len { length labels.old ≡ nodes split.now.net.now }
     requires ready { IsNextLabel (slice_index labels.old w + 1)
@@ -296,11 +296,11 @@ fn mark_into(
 }
 
 /// Writes the exact label of each node: a breadth-first search backwards from the sink over what
-/// the blocks hold (Goldberg, Tarjan 1988, section 3). `homes` tells the block of each node, and
-/// `order` is room for the search: the nodes that reach the sink come first in it, the nearest
+/// the blocks hold (Goldberg, Tarjan 1988, section 3). `node_blocks` tells the block of each node,
+/// and `order` is room for the search: the nodes that reach the sink come first in it, the nearest
 /// first. Takes no memory.
-pub(crate) fn write_exact(state: &State, homes: &[u8], labels: &mut [u32], order: &mut [u32])
-    requires homes { AreHomes state.now.net state.now.blocks homes.now }
+pub(crate) fn write_exact(state: &State, node_blocks: &[u8], labels: &mut [u32], order: &mut [u32])
+    requires node_blocks { AreNodeBlocks state.now.net state.now.blocks node_blocks.now }
     requires len { length labels.old ≡ nodes state.now.net }
     requires order_len { length order.old ≡ nodes state.now.net }
     ensures exact { AreExact state.now labels.new }
@@ -309,7 +309,7 @@ pub(crate) fn write_exact(state: &State, homes: &[u8], labels: &mut [u32], order
     let split = Split {
         net: state.net(),
         parts: state.parts(),
-        homes,
+        node_blocks,
     };
     let mut count = mark_rooms(state, labels, order);
     let mut next = 0;

@@ -3,10 +3,10 @@ ghost use Rattle.std.specs.Prelude.{IfOk};
 ghost use Rattle.block_events.specs.declared.event.Event.TheVariants.{RaiseAll};
 ghost use Rattle.block_events.specs.Reach.{AreExact};
 ghost use Rattle.block_events.specs.Events.{IsQuiet, Happens};
-ghost use Rattle.global_relabel.specs.Homes.{AreHomes};
+ghost use Rattle.global_relabel.specs.NodeBlocks.{AreNodeBlocks};
 ghost use Rattle.global_relabel.specs.Workspaces.{IsLabelOrder, Serves};
 
-use crate::node_blocks::write_homes;
+use crate::node_blocks::write_node_blocks;
 use crate::search::write_exact;
 use block_core::State;
 use flow_network::Net;
@@ -22,7 +22,7 @@ pub struct Workspace {
     /// first.
     pub order: Vec<u32>,
     /// The block of each node in that state.
-    pub homes: Vec<u8>,
+    pub node_blocks: Vec<u8>,
 }
 
 impl Workspace {
@@ -34,7 +34,7 @@ impl Workspace {
         Ok(Workspace {
             labels: vec![in alloc; 0; nodes]?,
             order: vec![in alloc; 0; nodes]?,
-            homes: vec![in alloc; 0; nodes]?,
+            node_blocks: vec![in alloc; 0; nodes]?,
         })
     }
 
@@ -45,13 +45,14 @@ impl Workspace {
         ensures serves { Serves state.now.net self.new }
         ensures exact { AreExact state.now self.new.labels.items }
         ensures order { IsLabelOrder self.new.labels.items self.new.order.items }
-        ensures homes { AreHomes state.now.net state.now.blocks self.new.homes.items }
+        ensures node_blocks { AreNodeBlocks state.now.net state.now.blocks
+            self.new.node_blocks.items }
     {
         self.order.as_mut_slice().fill(u32::MAX);
-        write_homes(state, self.homes.as_mut_slice());
+        write_node_blocks(state, self.node_blocks.as_mut_slice());
         write_exact(
             state,
-            self.homes.as_slice(),
+            self.node_blocks.as_slice(),
             self.labels.as_mut_slice(),
             self.order.as_mut_slice(),
         );
@@ -67,7 +68,8 @@ impl Workspace {
         ensures raised { Happens state.old RaiseAll state.new }
         ensures exact { AreExact state.old self.new.labels.items }
         ensures order { IsLabelOrder self.new.labels.items self.new.order.items }
-        ensures homes { AreHomes state.old.net state.old.blocks self.new.homes.items }
+        ensures node_blocks { AreNodeBlocks state.old.net state.old.blocks
+            self.new.node_blocks.items }
     {
         self.find(state);
         state.raise_to(self.labels.as_slice());

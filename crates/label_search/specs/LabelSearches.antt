@@ -1,5 +1,5 @@
 -- The lists of blocks whose labels are searched side by side.
-use Rattle.std.specs.Prelude.{◌≡◌, ◌↔◌, ℕ, ◌<◌, IsTrue, List, length, slice_index_or}
+use Rattle.std.specs.Prelude.{◌≡◌, ◌↔◌, ℕ, ◌<◌, IsFalse, IsTrue, List, length, slice_index_or}
 use Rattle.block_events.specs.States.{State}
 use Rattle.block_net.specs.Views.{CellsView, count}
 use Rattle.block_net.specs.Whole.{no_block}
@@ -11,6 +11,11 @@ pub record AreSharesOf (blocks : List CellsView) (shares : List Share) : Type 0 
   pub len : length shares ≡ length blocks
   pub each : (b : ℕ) (d : Share) → b < length blocks
       → length (slice_index_or shares b d).labels ≡ count (slice_index_or blocks b no_block)
+
+-- no block's labels changed since they were told
+abbrev pub AreQuiet : List Share → Type 0
+AreQuiet shares = (b : ℕ) (d : Share) → b < length shares
+    → IsFalse (slice_index_or shares b d).has_news
 
 -- each block was found exact exactly if its labels are, by what lies next to its nodes
 abbrev pub AreTested : State → List ℕ → List Share → Type 0

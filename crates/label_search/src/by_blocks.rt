@@ -1,10 +1,11 @@
 //! Exact labels, which the blocks of a state find side by side.
-ghost use Rattle.std.specs.Prelude.{◌≡◌, ◌↔◌, ◌<◌, ℕ, IfOk, IfSome, IsTrue, length, slice_index_or};
+ghost use Rattle.std.specs.Prelude.{◌≡◌, ◌↔◌, ◌<◌, ℕ, IfOk, IfSome, IsFalse, IsTrue, length};
+ghost use Rattle.std.specs.Prelude.{slice_index_or};
 ghost use Rattle.flow_network.specs.Cut.{nodes};
 ghost use Rattle.block_events.specs.Reach.{AreExact};
 ghost use Rattle.block_net.specs.Whole.{whole_of};
 ghost use Rattle.laid_blocks.specs.Views.{IsLaid};
-ghost use Rattle.label_search.specs.LabelSearches.{AreSharesOf, AreTested};
+ghost use Rattle.label_search.specs.LabelSearches.{AreQuiet, AreSharesOf, AreTested};
 
 use block_core::State;
 use block_net::Parts;
@@ -18,12 +19,20 @@ use std::thread::Threads;
 /// block to block more often leaves the search to one thread.
 const STEP_LIMIT: usize = 100;
 
-/// A block's share in a search: the labels that its nodes have so far, and whether they were found
-/// exact.
+/// A block's share in a search: the labels that its nodes have so far, whether they changed since
+/// they were told, and whether they were found exact.
 #[derive(Drop)]
 pub struct Share {
     pub labels: BlockLabels,
+    pub has_news: bool,
     pub is_exact: bool,
+}
+
+/// The threads that search, of which there are so many at most.
+#[derive(Drop)]
+pub(crate) struct Crew<'a, R> {
+    pub(crate) rt: &'a R,
+    pub(crate) threads: usize,
 }
 
 /// Whether each list has as many labels as its block has nodes.
@@ -42,60 +51,58 @@ fn fits(parts: &Parts, shares: &[Share]) -> bool
 }
 
 /// Each block finds labels by paths within it, side by side.
-fn search_all<R: Threads + Sync>(
-    rt: &R,
-    threads: usize,
-    net: &Net,
-    parts: &Parts,
-    shares: &mut [Share],
-)
-    requires threads { 0 < threads }
+fn search_all<R: Threads + Sync>(crew: &Crew<'_, R>, net: &Net, parts: &Parts, shares: &mut [Share])
+    requires threads { 0 < crew.now.threads }
     requires laid { IsLaid (whole_of net.now parts.now) }
     requires shares { AreSharesOf parts.now.blocks.items shares.old }
     ensures { AreSharesOf parts.now.blocks.items shares.new }
 {
     thread::for_each_mut(
-        rt,
+        crew.rt,
         shares,
-        threads,
-        &|block, share| share.labels.search(net, parts, block),
+        crew.threads,
+        &|block, share| {
+            share.labels.search(net, parts, block);
+            share.has_news = true;
+        },
     );
 }
 
 /// Each block brings its labels down by what others told, side by side.
 fn search_all_on<R: Threads + Sync>(
-    rt: &R,
-    threads: usize,
+    crew: &Crew<'_, R>,
     net: &Net,
     parts: &Parts,
     told: &[u32],
     shares: &mut [Share],
 )
-    requires threads { 0 < threads }
+    requires threads { 0 < crew.now.threads }
     requires laid { IsLaid (whole_of net.now parts.now) }
     requires told { length told.now ≡ nodes net.now }
     requires shares { AreSharesOf parts.now.blocks.items shares.old }
     ensures { AreSharesOf parts.now.blocks.items shares.new }
 {
     thread::for_each_mut(
-        rt,
+        crew.rt,
         shares,
-        threads,
-        &|block, share| share.labels.search_on(net, parts, block, told),
+        crew.threads,
+        &|block, share| share.has_news = share.labels.search_on(net, parts, block, told),
     );
 }
 
 /// Each block tells its labels, where they changed; whether any did.
-fn tell_all(net: &Net, parts: &Parts, shares: &mut [Share], labels: &mut [u32]) -> bool
+fn tell_all(net: &Net, parts: &Parts, shares: &[Share], labels: &mut [u32]) -> bool
     requires laid { IsLaid (whole_of net.now parts.now) }
-    requires shares { AreSharesOf parts.now.blocks.items shares.old }
+    requires shares { AreSharesOf parts.now.blocks.items shares.now }
     requires labels { length labels.old ≡ nodes net.now }
-    ensures shares { AreSharesOf parts.now.blocks.items shares.new }
     ensures labels { length labels.new ≡ length labels.old }
+    ensures quiet { IsFalse result → AreQuiet shares.now }
+    ensures same { IsFalse result → labels.new ≡ labels.old }
 {
     let mut has_news = false;
     'each: for b in 0..shares.len() {
-        if shares[b].labels.tell(parts.firsts[b], labels) {
+        if shares[b].has_news {
+            shares[b].labels.tell(parts.firsts[b], labels);
             has_news = true;
         }
     }
@@ -104,21 +111,20 @@ fn tell_all(net: &Net, parts: &Parts, shares: &mut [Share], labels: &mut [u32]) 
 
 /// Each block tests whether the labels of its nodes are exact, side by side.
 fn test_all<R: Threads + Sync>(
-    rt: &R,
-    threads: usize,
+    crew: &Crew<'_, R>,
     state: &State,
     labels: &[u32],
     shares: &mut [Share],
 )
-    requires threads { 0 < threads }
+    requires threads { 0 < crew.now.threads }
     requires labels { length labels.now ≡ nodes state.now.net }
     requires shares { length shares.old ≡ state.now.blocks }
     ensures { AreTested state.now labels.now shares.new }
 {
     thread::for_each_mut(
-        rt,
+        crew.rt,
         shares,
-        threads,
+        crew.threads,
         &|block, share| share.is_exact = is_block_exact(state, block, labels),
     );
 }
@@ -138,32 +144,30 @@ fn all_exact(shares: &[Share]) -> bool
 
 /// Whether the labels are exact, which each block tests for its nodes, side by side.
 fn are_exact<R: Threads + Sync>(
-    rt: &R,
-    threads: usize,
+    crew: &Crew<'_, R>,
     state: &State,
-    labels: &[u32],
     shares: &mut [Share],
+    labels: &[u32],
 ) -> bool
-    requires threads { 0 < threads }
+    requires threads { 0 < crew.now.threads }
     requires labels { length labels.now ≡ nodes state.now.net }
     requires shares { length shares.old ≡ state.now.blocks }
     ensures { IsTrue result → AreExact state.now labels.now }
 {
     let _sound = state.blocks();
-    test_all(rt, threads, state, labels, shares);
+    test_all(crew, state, labels, shares);
     all_exact(shares)
 }
 
 /// Finds labels by blocks, side by side: each searches within itself, and then again from what
 /// others told, until no label changes. Whether the labels were then found to be exact.
 pub(crate) fn search_by_blocks<R: Threads + Sync>(
-    rt: &R,
-    threads: usize,
+    crew: &Crew<'_, R>,
     state: &State,
     shares: &mut [Share],
     labels: &mut [u32],
 ) -> bool
-    requires threads { 0 < threads }
+    requires threads { 0 < crew.now.threads }
     requires labels { length labels.old ≡ nodes state.now.net }
     ensures labels { length labels.new ≡ length labels.old }
     ensures exact { IsTrue result → AreExact state.now labels.new }
@@ -173,12 +177,12 @@ pub(crate) fn search_by_blocks<R: Threads + Sync>(
     if !fits(parts, shares) {
         return false;
     }
-    search_all(rt, threads, net, parts, shares);
+    search_all(crew, net, parts, shares);
     'steps: for _step in 0..STEP_LIMIT {
         if !tell_all(net, parts, shares, labels) {
-            return are_exact(rt, threads, state, labels, shares);
+            return are_exact(crew, state, shares, labels);
         }
-        search_all_on(rt, threads, net, parts, labels, shares);
+        search_all_on(crew, net, parts, labels, shares);
     }
     false
 }
@@ -190,6 +194,7 @@ pub(crate) fn reserve_shares(alloc: Global, parts: &Parts) -> Result<Vec<Share>,
         let labels = BlockLabels::reserve(alloc, cells)?;
         shares.push(Share {
             labels,
+            has_news: false,
             is_exact: false,
         })?;
     }
@@ -214,8 +219,7 @@ pub fn distances_by_blocks<R: Threads + Sync>(
     let mut shares = reserve_shares(alloc, state.parts())?;
     let mut labels = vec![in alloc; 0; state.nodes()]?;
     if search_by_blocks(
-        rt,
-        threads,
+        &Crew { rt, threads },
         state,
         shares.as_mut_slice(),
         labels.as_mut_slice(),

@@ -3,7 +3,7 @@ ghost use Rattle.std.specs.Prelude.{◌≡◌, ◌<◌, IfOk};
 ghost use Rattle.block_events.specs.Reach.{AreExact};
 ghost use Rattle.global_relabel.specs.Workspaces.{Serves};
 
-use crate::by_blocks::{Share, reserve_shares, search_by_blocks};
+use crate::by_blocks::{Crew, Share, reserve_shares, search_by_blocks};
 use block_core::State;
 use global_relabel::Workspace;
 use std::alloc::{AllocError, Global};
@@ -48,7 +48,8 @@ impl LabelSearch {
     {
         let labels = self.workspace.labels.as_mut_slice();
         let shares = self.shares.as_mut_slice();
-        if !shares.is_empty() && search_by_blocks(rt, threads, state, shares, labels) {
+        let crew = Crew { rt, threads };
+        if !shares.is_empty() && search_by_blocks(&crew, state, shares, labels) {
             return;
         }
         self.workspace.find(state);

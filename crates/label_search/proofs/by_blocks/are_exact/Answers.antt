@@ -1,11 +1,11 @@
-use Rattle.std.proofs.Common.{◌≡◌, ◌<◌, true, [], length, arith}
+use Rattle.std.proofs.Common.{◌<◌, true, [], length, arith}
 use Rattle.label_search.specs.declared.by_blocks.Share.{Share}
 use Rattle.label_search.proofs.ExactBlocks.{exact_by_blocks}
 use Rattle.label_search.proofs.by_blocks.are_exact.Goals as goal
 
 pub returns : goal.returns
 returns g c all =
-    let d : Share = record { labels = []; is_exact = true } in
+    let d : Share = record { labels = []; has_news = true; is_exact = true } in
     exact_by_blocks c.args.state.now c.args.labels.now c.blocks-sound.ensures.sound c.requires.labels
     (λ b lb.
     let there : b < length c.test_all.new.shares = omega (arith, lb, c.requires.shares, c.test_all.auto.shares) in

@@ -1,4 +1,4 @@
-use Rattle.std.proofs.Common.{◌≡◌, ℕ, ◌+◌, ◌<◌, length, slice_index, arith}
+use Rattle.std.proofs.Common.{◌≡◌, ◌<◌, length, slice_index, arith}
 use Rattle.std.proofs.lemmas.List.{get_or_read}
 use Rattle.block_net.specs.Views.{count}
 use Rattle.block_net.specs.Whole.{Whole, block_at, whole_of}
@@ -9,8 +9,8 @@ pub tell-requires : goal.tell-requires
 tell-requires c p lp =
     let w : Whole = whole_of c.args.net.now c.args.parts.now in
     let b = c.each.b in
-    let lb : b < length c.args.parts.now.blocks.items = omega (arith, c.each-test.true, c.each.invariant.0.len) in
+    let lb : b < length c.args.parts.now.blocks.items = omega (arith, c.each-test.true, c.requires.shares.len) in
     let first : c.index.result.now ≡ slice_index w.firsts b =
     get_or_read w.firsts b c.index.result.now (omega (arith, lb, c.requires.laid.placed.firsts_len)) c.index.ensures 0 in
-    let place : p < count (block_at w b) = omega (arith, lp, c.each.invariant.0.each b c.index-shares-b.result lb) in
-    omega (arith, first, number_below w c.requires.laid b lb p place, c.requires.labels, c.each.invariant.1)
+    let place : p < count (block_at w b) = omega (arith, lp, c.requires.shares.each b c.index-shares-b.result lb) in
+    omega (arith, first, number_below w c.requires.laid b lb p place, c.requires.labels, c.each.invariant.len)

@@ -1,6 +1,10 @@
-use Rattle.std.specs.Prelude.{◌≡◌, length}
-use Rattle.label_search.specs.LabelSearches.{AreSharesOf}
+use Rattle.std.specs.Prelude.{◌≡◌, ℕ, ◌<◌, IsFalse, length, slice_index_or}
+use Rattle.label_search.specs.declared.by_blocks.Share.{Share}
 use Rattle.label_search.proofs.by_blocks.tell_all.Given as goal
 
 abbrev pub invariant-each : goal.invariant-each
-invariant-each l = AreSharesOf l.parts.blocks.items l.shares × (length l.labels ≡ length l.fn.labels)
+invariant-each l = record {
+  len : length l.labels ≡ length l.fn.labels;
+  quiet : IsFalse l.has_news → (b : ℕ) (d : Share) → b < l.b → IsFalse (slice_index_or l.shares b d).has_news;
+  same : IsFalse l.has_news → l.labels ≡ l.fn.labels;
+}

@@ -6,8 +6,8 @@ use Rattle.block_net.specs.Views.{CellsView, count}
 use Rattle.block_net.specs.Whole.{block_at, whole_of}
 use Rattle.laid_blocks.specs.Views.{blocks_in}
 use Rattle.laid_blocks.proofs.Steps.{at_read}
-use Rattle.global_relabel.proofs.Homing.{number_below, homes_more}
-use Rattle.global_relabel.proofs.node_blocks.write_homes.Goals as goal
+use Rattle.global_relabel.proofs.Homing.{number_below, node_blocks_more}
+use Rattle.global_relabel.proofs.node_blocks.write_node_blocks.Goals as goal
 
 pub write_block-requires : goal.write_block-requires
 write_block-requires c =
@@ -35,10 +35,10 @@ each-preserved c =
     let size : c.len.result ≡ count (block_at w c.each.b) = omega (arith, c.len.ensures.value, ap (λ (B : CellsView). count B) at.is) in
     let blocks : length p.blocks.items ≡ s.blocks = ap (λ (t : State). t.blocks) c.parts-parts.ensures.shown in
     let is = c.write_block.ensures in
-    let was = subst (λ k. (v : ℕ) → v < nodes s.net → block_of s.net k v < c.each.b → slice_index c.each.homes v ≡ block_of s.net k v) (sym blocks) c.each.invariant.1 in (
+    let was = subst (λ k. (v : ℕ) → v < nodes s.net → block_of s.net k v < c.each.b → slice_index c.each.node_blocks v ≡ block_of s.net k v) (sym blocks) c.each.invariant.1 in (
       omega (arith, is.len, c.each.invariant.0),
-      subst (λ k. (v : ℕ) → v < nodes s.net → block_of s.net k v < c.each.b + 1 → slice_index c.write_block.new.homes v ≡ block_of s.net k v) blocks
-          (homes_more w laid c.each.b lb c.each.homes c.write_block.new.homes c.len.result size was
+      subst (λ k. (v : ℕ) → v < nodes s.net → block_of s.net k v < c.each.b + 1 → slice_index c.write_block.new.node_blocks v ≡ block_of s.net k v) blocks
+          (node_blocks_more w laid c.each.b lb c.each.node_blocks c.write_block.new.node_blocks c.len.result size was
           (λ v low high. is.inside v (omega (arith, low, first)) (omega (arith, high, first)))
           (λ v low. is.below v (omega (arith, low, first)))
           (λ v high. is.above v (omega (arith, high, first)))),

@@ -1,5 +1,5 @@
 use Rattle.std.proofs.Common.{◌≡◌, ℕ, ◌+◌, ◌<◌, ◌≤◌, length, slice_index}
-use Rattle.global_relabel.proofs.block_labels.copy_to.Given as goal
+use Rattle.global_relabel.proofs.block_labels.BlockLabels.tell.Given as goal
 
 abbrev pub invariant-nodes : goal.invariant-nodes
 invariant-nodes l =
