@@ -35,12 +35,14 @@ fn place_of(ports: &Vec<Port>, places: &Vec<u32>, other: u32) -> Option<usize>
     }
 }
 
-/// Of each port its place, by the number of the block that it leads to.
-fn places_of(alloc: Global, ports: &Vec<Port>, blocks: u32) -> Result<Vec<u32>, AllocError>
+/// Of each port its place, by the number of the block that it leads to. The list loses what it has.
+fn places_of(ports: &Vec<Port>, blocks: u32, room: Vec<u32>) -> Result<Vec<u32>, AllocError>
     requires { AreRising blocks ports.now.items }
     ensures { IfOk result (λ places. AreFound ports.now.items places.items) }
 {
-    let mut places = vec![in alloc; 0; blocks as usize]?;
+    let mut places = room;
+    places.clear();
+    places.resize(blocks as usize, 0)?;
     let mut next = 0;
     for k in 0..ports.len() {
         places[ports[k].other() as usize] = next;
@@ -75,7 +77,15 @@ impl Ends {
         requires { AreRising blocks ports.items }
         ensures { IfOk result (λ ends. ends.ports ≡ ports) }
     {
-        let places = places_of(alloc, &ports, blocks)?;
+        Ends::in_room(ports, blocks, Vec::new(alloc))
+    }
+
+    /// The same in the room of a list, which loses what it has.
+    pub fn in_room(ports: Vec<Port>, blocks: u32, room: Vec<u32>) -> Result<Ends, AllocError>
+        requires { AreRising blocks ports.items }
+        ensures { IfOk result (λ ends. ends.ports ≡ ports) }
+    {
+        let places = places_of(&ports, blocks, room)?;
         Ok(Ends { ports, places })
     }
 
@@ -84,6 +94,13 @@ impl Ends {
         ensures { result ≡ self.ports }
     {
         self.ports
+    }
+
+    /// The same, and a list for the next ends.
+    pub fn into_parts(self) -> (Vec<Port>, Vec<u32>)
+        ensures { result.0 ≡ self.ports }
+    {
+        (self.ports, self.places)
     }
 
     /// Takes the ends out, and leaves none.

@@ -44,9 +44,9 @@ impl<N: Start> Model for TurnEnds<N> {
 }
 
 impl<N: Start> Ways for TurnEnds<N> {
-    type Fixed = bool;
+    type Identity = bool;
 
-    ghost fixed = { λ ways. true };
+    ghost identity = { λ ways. true };
 
     ghost seen = { λ ways. ways_of_ports ways };
 

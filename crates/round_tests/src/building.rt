@@ -142,6 +142,16 @@ pub fn chain(rt: &(impl Abort + AllocGlobal)) -> Result<Net, AllocError> {
     Ok(net_of(rt, sources, sinks, arcs))
 }
 
+/// The same nodes and arcs, where a unit goes from the source to each node.
+pub fn full_chain(rt: &(impl Abort + AllocGlobal)) -> Result<Net, AllocError> {
+    let alloc = rt.alloc();
+    let sources = vec![in alloc; 1; 65_536]?;
+    let sinks = units_at(alloc, 65_536, &[65_535])?;
+    let mut arcs = Vec::new(alloc);
+    add_steps(&mut arcs, 0, 1, 65_535)?;
+    Ok(net_of(rt, sources, sinks, arcs))
+}
+
 /// The arcs of a way over the nodes 1 to 60, and of one over the nodes 64 to 103, each from node 0.
 fn both_ways(alloc: Global) -> Result<Vec<Arc>, AllocError> {
     let mut arcs = Vec::new(alloc);

@@ -1,7 +1,11 @@
-//! A second thread is started for parts of work, and for a search that blocks make side by side.
-use crate::building::{chain, state_raised};
+//! A second thread is started for parts of work, and for what blocks do side by side: a search,
+//! their opening and the first pushes.
+use crate::building::{chain, full_chain, state_raised};
 use crate::gates::Calls;
 use block_core::State;
+use block_cut::push_first;
+use block_net::ARC_LIMIT;
+use flow_network::Net;
 use label_search::LabelSearch;
 use rounds::ByThreads;
 use solvers::Fork;
@@ -92,19 +96,78 @@ fn finds_chain<R: Threads + Sync + Abort + AllocGlobal>(
     Ok(labels.len() == 65_536)
 }
 
+/// Whether so many threads open the full chain in two blocks: each node has its unit.
+fn opens_chain<R: Threads + Sync + Abort + AllocGlobal>(
+    rt: &R,
+    net: &Net,
+    threads: usize,
+) -> Result<bool, AllocError> {
+    assert!(*rt; threads > 0);
+    assert!(*rt; net.arcs().len() <= ARC_LIMIT);
+    let state = State::open_by(rt, rt.alloc(), net, 2, threads)?;
+    for node in 0..state.nodes() {
+        if state.excess(node) != 1 {
+            return Ok(false);
+        }
+    }
+    Ok(true)
+}
+
+/// How often the first pushes are made on a net that was opened.
+const PUSHES: u32 = 16;
+
+/// Whether so many threads make the first pushes on the full chain in two blocks: the last node
+/// gives the sink a unit. Where nothing is left to push they look for it all the same.
+fn pushes_chain<R: Threads + Sync + Abort + AllocGlobal>(
+    rt: &R,
+    net: &Net,
+    threads: usize,
+) -> Result<bool, AllocError> {
+    assert!(*rt; threads > 0);
+    assert!(*rt; net.arcs().len() <= ARC_LIMIT);
+    let state = State::open(rt.alloc(), net, 2)?;
+    let mut state = push_first(rt, state, threads);
+    for _ in 1..PUSHES {
+        state = push_first(rt, state, threads);
+    }
+    Ok(state.got() == 1)
+}
+
+/// What several threads do side by side.
+#[derive(Clone, Copy)]
+enum Work<'a> {
+    Search { state: &'a State },
+    Open { net: &'a Net },
+    Push { net: &'a Net },
+}
+
+/// Whether so many threads do the work right.
+fn does_work<R: Threads + Sync + Abort + AllocGlobal>(
+    rt: &R,
+    work: Work,
+    threads: usize,
+) -> Result<bool, AllocError> {
+    match work {
+        Work::Search { state } => finds_chain(rt, state, threads),
+        Work::Open { net } => opens_chain(rt, net, threads),
+        Work::Push { net } => pushes_chain(rt, net, threads),
+    }
+}
+
 /// How often the work is done until a further thread is seen.
 const TRIES: u32 = 1_000;
 
-/// Searches until a further thread was seen, at most so many times. Whether all labels were right.
-fn search_until<R: Threads + Sync + Abort + AllocGlobal>(
+/// Does the work until a further thread was seen, at most so many times. Whether it was right each
+/// time.
+fn work_until<R: Threads + Sync + Abort + AllocGlobal>(
     rt: &R,
-    state: &State,
+    work: Work,
     threads: usize,
-    searches: u32,
+    tries: u32,
     seen: &AtomicBool,
 ) -> Result<bool, AllocError> {
-    for _ in 0..searches {
-        if !finds_chain(rt, state, threads)? {
+    for _ in 0..tries {
+        if !does_work(rt, work, threads)? {
             return Ok(false);
         }
         if seen.load(Ordering::SeqCst) {
@@ -114,19 +177,19 @@ fn search_until<R: Threads + Sync + Abort + AllocGlobal>(
     Ok(true)
 }
 
-/// Whether so many threads find the labels of the chain, and whether a further one was seen.
-fn watch_search<R: Threads + Wait + Sync + Files + Abort + AllocGlobal>(
+/// Whether so many threads do the work right, and whether a further one was seen.
+fn watch_work<R: Threads + Wait + Sync + Files + Abort + AllocGlobal>(
     rt: &R,
-    state: &State,
+    work: Work,
     threads: usize,
-    searches: u32,
+    tries: u32,
 ) -> Result<(bool, bool), AllocError> {
     let done = AtomicBool::new(false);
     let seen = AtomicBool::new(false);
     let (is_right, _) = thread::join(
         rt,
         || {
-            let is_right = search_until(rt, state, threads, searches, &seen);
+            let is_right = work_until(rt, work, threads, tries, &seen);
             done.store(true, Ordering::SeqCst);
             is_right
         },
@@ -140,7 +203,28 @@ fn watch_search<R: Threads + Wait + Sync + Files + Abort + AllocGlobal>(
 fn blocks_search_side_by_side(rt: HostRuntime) -> Result<(), Fail> {
     let net = chain(&rt)?;
     let state = state_raised(&rt, &net, 2)?;
-    assert!(rt; watch_search(&rt, &state, 2, TRIES)? == (true, true));
-    assert!(rt; watch_search(&rt, &state, 1, 20)? == (true, false));
+    let work = Work::Search { state: &state };
+    assert!(rt; watch_work(&rt, work, 2, TRIES)? == (true, true));
+    assert!(rt; watch_work(&rt, work, 1, 20)? == (true, false));
+    Ok(())
+}
+
+/// Two threads open such a net in blocks, and one thread opens it alone.
+#[test]
+fn blocks_open_side_by_side(rt: HostRuntime) -> Result<(), Fail> {
+    let net = full_chain(&rt)?;
+    let work = Work::Open { net: &net };
+    assert!(rt; watch_work(&rt, work, 2, TRIES)? == (true, true));
+    assert!(rt; watch_work(&rt, work, 1, 20)? == (true, false));
+    Ok(())
+}
+
+/// Two threads make the first pushes within blocks, and one thread makes them alone.
+#[test]
+fn blocks_push_side_by_side(rt: HostRuntime) -> Result<(), Fail> {
+    let net = full_chain(&rt)?;
+    let work = Work::Push { net: &net };
+    assert!(rt; watch_work(&rt, work, 2, TRIES)? == (true, true));
+    assert!(rt; watch_work(&rt, work, 1, 20)? == (true, false));
     Ok(())
 }

@@ -6,7 +6,7 @@ use Rattle.std.proofs.lemmas.List.{get_or_default}
 use Rattle.block_events.specs.Directions.{far}
 use Rattle.block_events.proofs.Ends.{far_in}
 use Rattle.block_net.specs.Views.{CellsView, count, border_in}
-use Rattle.block_net.specs.Whole.{Whole, no_block, block_at, home, slot, state_shown}
+use Rattle.block_net.specs.Whole.{Whole, no_block, block_at, node_block, slot, state_shown}
 use Rattle.laid_blocks.specs.Views.{IsLaid}
 use Rattle.block_core.proofs.Effects.{border_apart}
 use Rattle.rounds.specs.Seated.{AreBlocksSmall}
@@ -22,10 +22,10 @@ leads_out w b j laid lb lj =
     let x = found.0 in
     let stands = found.2 in
     let at = laid.placed.borders x stands.direction stands.outer in
-    let to : (border_in (block_at w b) j).to ≡ home w (far w.net x) =
+    let to : (border_in (block_at w b) j).to ≡ node_block w (far w.net x) =
     sym (ap (λ i. (border_in (block_at w i) (slot w x)).to) found.1 ∙ ap (λ i. (border_in (block_at w b) i).to) stands.slot) ∙ at.to in
     record {
-      below = subst (λ i. i < length w.blocks) (sym to) (laid.placed.homes (far w.net x) (far_in w.net x laid.net stands.direction));
+      below = subst (λ i. i < length w.blocks) (sym to) (laid.placed.node_blocks (far w.net x) (far_in w.net x laid.net stands.direction));
       off = λ same. border_apart (state_shown w) x stands.outer (found.1 ∙ (sym same ∙ to));
     }
 
@@ -35,7 +35,7 @@ few_nodes w b laid lb = elim (cases_lt (nodes w.net) (count (block_at w b))) [
   | inr low ↦ low
   | inl high ↦
       let found = laid.filled.nodes b (nodes w.net) lb high in
-      let at : found.0 - slice_index w.firsts (home w found.0) ≡ nodes w.net = found.1.place in
+      let at : found.0 - slice_index w.firsts (node_block w found.0) ≡ nodes w.net = found.1.place in
       absurd (omega (arith, at, found.1.node))
 ]
 

@@ -7,7 +7,7 @@ use Rattle.sums.proofs.SumLemmas.{sum_below-le-longer, sum_by-sum_below}
 use Rattle.flow_network.specs.Cut.{nodes}
 use Rattle.block_events.specs.declared.event.Event.{Event}
 use Rattle.block_net.specs.Views.{count}
-use Rattle.block_net.specs.Whole.{Whole, block_at, home}
+use Rattle.block_net.specs.Whole.{Whole, block_at, node_block}
 use Rattle.laid_blocks.specs.Views.{IsLaid}
 use Rattle.block_cut.specs.Rounds.{quiet_state}
 use Rattle.rounds.specs.Short.{nodes_in, AreBlocksOf}
@@ -41,15 +41,15 @@ more_turns n a b low = omega (arith, low)
 
 -- the node at place p of block b
 found_at : (w : Whole) (b p : ℕ) → IsLaid w → b < length w.blocks → p < count (block_at w b)
-    → (p + slice_index w.firsts b < nodes w.net) × (home w (p + slice_index w.firsts b) ≡ b)
+    → (p + slice_index w.firsts b < nodes w.net) × (node_block w (p + slice_index w.firsts b) ≡ b)
 found_at w b p laid lb low =
     let found = laid.filled.nodes b p lb low in
     let v = found.0 in
-    let first : slice_index w.firsts (home w v) ≡ slice_index w.firsts b = ap (λ i. slice_index w.firsts i) found.1.home in
+    let first : slice_index w.firsts (node_block w v) ≡ slice_index w.firsts b = ap (λ i. slice_index w.firsts i) found.1.node_block in
     let after = laid.placed.firsts v found.1.node in
-    let at : v - slice_index w.firsts (home w v) ≡ p = found.1.place in
+    let at : v - slice_index w.firsts (node_block w v) ≡ p = found.1.place in
     let is : v ≡ p + slice_index w.firsts b = omega (arith, first, after, at) in
-    (subst (λ u. u < nodes w.net) is found.1.node, subst (λ u. home w u ≡ b) is found.1.home)
+    (subst (λ u. u < nodes w.net) is found.1.node, subst (λ u. node_block w u ≡ b) is found.1.node_block)
 
 -- each block has as many nodes as lie in it
 pub many_in : (w : Whole) (got b : ℕ) → IsLaid w → b < length w.blocks → count (block_at w b) ≤ nodes_in (quiet_state w got) b
@@ -58,10 +58,10 @@ many_in w got b laid lb = elim (cases_lt 0 (count (block_at w b))) [
   | inl some ↦
       let k = count (block_at w b) in
       let f = slice_index w.firsts b in
-      let g : ℕ → ℕ = λ v. count_if (home w v == b) 1 in
+      let g : ℕ → ℕ = λ v. count_if (node_block w v == b) 1 in
       let last = (found_at w b (k - 1) laid lb (omega (arith, some))).0 in
       let within : k + f ≤ nodes w.net = omega (arith, some, last) in
-      let all : k ≤ sum_below (k + f) g = ones g f k (λ p low. ap (λ (t : Bool). count_if t 1) (eq-eqb (home w (p + f)) b (found_at w b p laid lb low).1)) in
+      let all : k ≤ sum_below (k + f) g = ones g f k (λ p low. ap (λ (t : Bool). count_if t 1) (eq-eqb (node_block w (p + f)) b (found_at w b p laid lb low).1)) in
       let more = sum_below-le-longer (k + f) (nodes w.net) g within in
       omega (arith, all, more)
 ]

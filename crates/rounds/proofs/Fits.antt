@@ -6,7 +6,7 @@ use Rattle.block_events.specs.Soundness.{Belongs, direction_of}
 use Rattle.block_events.proofs.Local.{belongs_direction}
 use Rattle.block_net.specs.Views.{CellsView}
 use Rattle.block_net.specs.Whole.{Whole}
-use Rattle.block_core.specs.Mails.{HasRooms}
+use Rattle.block_core.specs.AllWays.{HasRooms}
 use Rattle.block_cut.specs.Rounds.{Ways, IsRoundOfTurns, state_after}
 use Rattle.block_cut.proofs.Quiet.{round_is_held}
 use Rattle.rounds.specs.Left.{AreFitting}

@@ -6,7 +6,7 @@ use Rattle.block_workers.specs.declared.port.Port.{Port}
 use Rattle.block_workers.specs.Ports.{other, letters_put, letters_taken, capacity as ring_of}
 use Rattle.block_workers.specs.Seeing.{read_at, messages}
 use Rattle.rounds.specs.Joined.{port_to, IsPaired}
-use Rattle.rounds.specs.declared.pair.Pair.{Pair}
+use Rattle.rounds.specs.declared.pair.PortPair.{PortPair}
 use Rattle.rounds.specs.Mated.{AreMated, ports_in, messages_sent, messages_taken, room_to}
 use Rattle.rounds.specs.Links.{Traffic, Link, traffic, traffic_of, link, links_of, link_in, is_link_of, AreLinks}
 use Rattle.rounds.specs.Pairing.{option_traffic, IsReadyToPair, IsTakenOut, ArePaired}
@@ -61,7 +61,7 @@ port_case P (Some t) none some = some t refl
 
 -- ---- what was taken out
 
-module _ (n b : ℕ) (old new : List (List Port)) (p : Pair) (out : IsTakenOut n b old new p) where
+module _ (n b : ℕ) (old new : List (List Port)) (p : PortPair) (out : IsTakenOut n b old new p) where
   abbrev c : ℕ
   c = other p.first
 
@@ -169,8 +169,8 @@ paired_none n lists = record {
   rest = λ x y none. refl;
 }
 
-pub paired_first : (n : ℕ) (lists : List (List Port)) (pairs : List Pair) → pairs ≡ [] → ArePaired n lists lists (links_of pairs)
-paired_first n lists pairs none = subst (λ (ps : List Pair). ArePaired n lists lists (links_of ps)) (sym none) (paired_none n lists)
+pub paired_first : (n : ℕ) (lists : List (List Port)) (pairs : List PortPair) → pairs ≡ [] → ArePaired n lists lists (links_of pairs)
+paired_first n lists pairs none = subst (λ (ps : List PortPair). ArePaired n lists lists (links_of ps)) (sym none) (paired_none n lists)
 
 pub ready_first : (n capacity : ℕ) (lists : List (List Port)) → AreMated n lists → ports_in lists ≤ 2 * capacity → IsReadyToPair n n lists 0 capacity
 ready_first n capacity lists mated room = record {

@@ -6,7 +6,7 @@ use Rattle.block_workers.specs.declared.port.Port.{Port}
 use Rattle.block_workers.specs.Ports.{other, LeadsTo}
 use Rattle.block_workers.specs.Seeing.{read_at}
 use Rattle.rounds.specs.Joined.{port_to}
-use Rattle.rounds.specs.declared.pair.Pair.{Pair}
+use Rattle.rounds.specs.declared.pair.PortPair.{PortPair}
 use Rattle.rounds.specs.Pairing.{IsReadyToPair, IsTakenOut}
 use Rattle.rounds.proofs.Taking.{IsLast, last_port, has_some, last_mate, taken_out}
 
@@ -53,7 +53,7 @@ module _ {R : Type 0} (items : R → List Port) (rows : List R) (n b c count cap
       pub leads_back : LeadsTo second first
       leads_back = subst (λ (q : Port). LeadsTo q first) (sym mated.0) last.mate.back
 
-      pub both_out : (p : Pair) → p.first ≡ first → p.second ≡ second → IsTakenOut n b lists (map items (set (set rows b row') c other_row')) p
+      pub both_out : (p : PortPair) → p.first ≡ first → p.second ≡ second → IsTakenOut n b lists (map items (set (set rows b row') c other_row')) p
       both_out p is_first is_second =
           taken_out n b c lists (map items (set (set rows b row') c other_row')) (items row') (items other_row') p ready.mated (omega (arith, low, long))
           (row_first ∙ ap (λ (q : Port). items row' ++ q ∷ []) (sym is_first)) (row_second ∙ ap (λ (q : Port). items other_row' ++ q ∷ []) (sym is_second))

@@ -7,7 +7,7 @@ use Rattle.block_net.specs.Views.{CellsView}
 use Rattle.block_net.specs.Whole.{Whole, with_blocks}
 use Rattle.block_events.specs.Effects.{state_of}
 use Rattle.laid_blocks.specs.Views.{IsLaid, blocks_in}
-use Rattle.block_core.specs.Mails.{IsHeld}
+use Rattle.block_core.specs.AllWays.{IsHeld}
 use Rattle.block_cut.specs.Rounds.{Ways, AreBack, IsRoundOfTurns, quiet_state, state_after}
 use Rattle.block_cut.proofs.Quiet.{quiet_is_start, round_is_held}
 use Rattle.block_cut.proofs.Rounds.{seats_make_round}

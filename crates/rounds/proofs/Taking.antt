@@ -9,7 +9,7 @@ use Rattle.block_workers.specs.Seeing.{others, read_at, AreRising}
 use Rattle.block_workers.proofs.Reading.{read_none}
 use Rattle.rounds.specs.Joined.{port_to, IsPaired}
 use Rattle.rounds.proofs.Pushing.{read_push}
-use Rattle.rounds.specs.declared.pair.Pair.{Pair}
+use Rattle.rounds.specs.declared.pair.PortPair.{PortPair}
 use Rattle.rounds.specs.Mated.{AreMated, ports_in}
 use Rattle.rounds.specs.Pairing.{IsReadyToPair, IsTakenOut}
 
@@ -115,7 +115,7 @@ last_mate n b c count capacity lists ports q mate ready at back =
 
 -- ---- both leave
 
-module _ (n b c : ℕ) (old new : List (List Port)) (first second : List Port) (p : Pair) (mated : AreMated n old) (low : b < n) (at_b : get_or old b [] ≡ first ++ p.first ∷ [])
+module _ (n b c : ℕ) (old new : List (List Port)) (first second : List Port) (p : PortPair) (mated : AreMated n old) (low : b < n) (at_b : get_or old b [] ≡ first ++ p.first ∷ [])
     (at_c : get_or old c [] ≡ second ++ p.second ∷ []) (to_c : other p.first ≡ c) (to_b : other p.second ≡ b) (less : c < b) (is : new ≡ set (set old b first) c second) where
   long_b : b < length old
   long_b = omega (arith, mated.len, low)

@@ -3,7 +3,7 @@ use Rattle.std.specs.Prelude.{◌≡◌, ◌≢◌, ℕ, ◌<◌, ◌≤◌, ◌
 use Rattle.block_events.specs.declared.message.Message.{Message}
 use Rattle.block_events.specs.States.{way_at}
 use Rattle.block_events.specs.Soundness.{direction_of}
-use Rattle.block_core.specs.Mails.{room_at}
+use Rattle.block_core.specs.AllWays.{room_at}
 pub use Rattle.block_cut.specs.Rounds.{AreLeft}
 
 -- what is left from one block to another has room there

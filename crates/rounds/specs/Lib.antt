@@ -15,6 +15,6 @@ pub mod Seated
 pub mod Sharing
 pub mod Together
 pub mod Short
-pub mod Ended
+pub mod FinalState
 pub mod Refusals
 pub mod SolveErrors

@@ -7,7 +7,7 @@ use Rattle.block_workers.specs.declared.port.Port.{Port}
 use Rattle.block_workers.specs.Ports.{other, letters_put, letters_taken, capacity}
 use Rattle.block_workers.specs.Seeing.{messages}
 use Rattle.rounds.specs.Left.{rest_of}
-use Rattle.rounds.specs.declared.pair.Pair.{Pair}
+use Rattle.rounds.specs.declared.pair.PortPair.{PortPair}
 
 -- what was put into a port and taken from it so far, and how many letters the ring that is put into
 -- has room for
@@ -36,7 +36,7 @@ pub record Link : Type 0 where
   pub of_second : Traffic
 
 -- each port leads to the other one's block
-abbrev pub link : Pair → Link
+abbrev pub link : PortPair → Link
 link p = record {
   first = other p.second;
   second = other p.first;
@@ -44,8 +44,8 @@ link p = record {
   of_second = traffic p.second;
 }
 
-abbrev pub links_of : List Pair → List Link
-links_of pairs = map (λ (p : Pair). link p) pairs
+abbrev pub links_of : List PortPair → List Link
+links_of pairs = map (λ (p : PortPair). link p) pairs
 
 abbrev pub is_link_of : Link → ℕ → ℕ → Bool
 is_link_of l b c = (b == l.first) && (c == l.second)

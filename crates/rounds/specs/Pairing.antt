@@ -5,7 +5,7 @@ use Rattle.block_workers.specs.declared.port.Port.{Port}
 use Rattle.block_workers.specs.Ports.{other}
 use Rattle.block_workers.specs.Seeing.{AreRising}
 use Rattle.rounds.specs.Joined.{port_to}
-use Rattle.rounds.specs.declared.pair.Pair.{Pair}
+use Rattle.rounds.specs.declared.pair.PortPair.{PortPair}
 use Rattle.rounds.specs.Mated.{AreMated, ports_in}
 use Rattle.rounds.specs.Links.{Link, Traffic, traffic, link_in, AreLinks}
 
@@ -22,7 +22,7 @@ pub record IsReadyToPair (blocks top : ℕ) (lists : List (List Port))
   pub room : ports_in lists + 2 * count ≤ 2 * capacity
 
 -- a port of block b, and the port that it leads to, were taken out
-pub record IsTakenOut (blocks b : ℕ) (old new : List (List Port)) (p : Pair) : Type 0 where
+pub record IsTakenOut (blocks b : ℕ) (old new : List (List Port)) (p : PortPair) : Type 0 where
   pub block : other p.second ≡ b
   pub lower : other p.first < b
   pub there : port_to old b (other p.first) ≡ Some p.first

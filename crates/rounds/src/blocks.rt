@@ -7,10 +7,11 @@ ghost use Rattle.rounds.specs.Links.{ring_room};
 ghost use Rattle.rounds.specs.Seated.{AreSeated, AreBlocksSmall, ends_of_seats, ports_of};
 ghost use Rattle.rounds.specs.Together.{HaveRun};
 
-use crate::join_all;
+use crate::join::join_by;
 use crate::round_space::{Came, Space, gather_seats};
-use crate::round_work::work_on;
+use crate::round_work::{Shares, work_on};
 use crate::seats::seats_of;
+use crate::stock::{Piles, Stock};
 use block_net::Cells;
 use block_workers::{Job, RoundError, Seat, TurnBook};
 use std::alloc::{AllocError, Global};
@@ -19,9 +20,21 @@ use std::sync::ledger::Blank;
 use std::thread::Threads;
 use worker_options::{Gate, Options};
 
-/// The blocks before their first turn, with rings between them. The only error is that memory runs
-/// out.
-fn seats_for(alloc: Global, blocks: Vec<Cells>, ring: usize) -> Result<Vec<Seat>, AllocError>
+/// What the two ledgers of a round's turns are made of.
+#[derive(Drop)]
+pub(crate) struct Blanks {
+    pub(crate) budget: Blank,
+    pub(crate) drawn: Blank,
+}
+
+/// The blocks before their first turn, with rings between them, and lists of these piles. The only
+/// error is that memory runs out.
+fn seats_for(
+    alloc: Global,
+    piles: &mut Piles,
+    blocks: Vec<Cells>,
+    ring: usize,
+) -> Result<Vec<Seat>, AllocError>
     requires few { vec_len blocks ≤ block_limit }
     requires small { AreBlocksSmall blocks.items }
     ensures seated { IfOk result
@@ -29,36 +42,40 @@ fn seats_for(alloc: Global, blocks: Vec<Cells>, ring: usize) -> Result<Vec<Seat>
     ensures joined { IfOk result
         (λ seats. AreJoined ring blocks.items (ports_of (ends_of_seats seats.items))) }
 {
-    let ends = join_all(alloc, blocks.as_slice(), ring)?;
-    seats_of(alloc, blocks, ends)
+    let ends = join_by(alloc, piles, blocks.as_slice(), ring)?;
+    seats_of(alloc, &mut piles.others, blocks, ends)
 }
 
 /// The blocks are moved to workers, which do their turns, and come back. All growths come before
-/// the first worker starts. Each blank becomes one of the ledgers of the turns.
+/// the first worker starts. Each blank becomes one of the ledgers of the turns. The lists of the
+/// stock serve.
 pub(crate) fn run_blocks<J: Job + Sync, R: Threads + Wait + Sync, G: Gate>(
     rt: &R,
     alloc: Global,
     blocks: Vec<Cells>,
     options: &Options,
     gate: &G,
-    budget: Blank,
-    drawn: Blank,
+    blanks: Blanks,
+    stock: Stock,
 ) -> Result<Came, RoundError>
     requires some { 0 < vec_len blocks }
     requires few { vec_len blocks ≤ block_limit }
     requires small { AreBlocksSmall blocks.items }
     requires options { AreInRange options.now }
-    requires budget { (budget.name ≡ J.Budget.name) × (budget.parts ≡ J.Budget.parts) }
-    requires parts { 0 < budget.parts }
-    requires drawn { (drawn.name ≡ J.Drawn.name) × (drawn.parts ≡ J.Drawn.parts) }
-    requires threads { drawn.parts ≡ options.now.threads }
+    requires budget { (blanks.budget.name ≡ J.Budget.name)
+        × (blanks.budget.parts ≡ J.Budget.parts) }
+    requires parts { 0 < blanks.budget.parts }
+    requires drawn { (blanks.drawn.name ≡ J.Drawn.name) × (blanks.drawn.parts ≡ J.Drawn.parts) }
+    requires threads { blanks.drawn.parts ≡ options.now.threads }
     ensures run { IfOk result
         (λ came. HaveRun options.now.turns blocks.items came.blocks.items came.rings) }
     ensures room { IfOk result (λ came. (b c : ℕ) → ring_room came.rings b c ≤ options.now.ring) }
 {
+    let Blanks { budget, drawn } = blanks;
+    let mut stock = stock;
     let count = blocks.len();
-    let space = Space::new(alloc, count)?;
-    let seats = seats_for(alloc, blocks, options.ring as usize)?;
+    let seats = seats_for(alloc, &mut stock.piles, blocks, options.ring as usize)?;
+    let space = Space::new(alloc, count, stock)?;
     let (book, whole, share) = TurnBook::<J>::new(
         alloc,
         budget,
@@ -72,8 +89,10 @@ pub(crate) fn run_blocks<J: Job + Sync, R: Threads + Wait + Sync, G: Gate>(
         seats,
         options.threads as usize,
         book,
-        whole,
-        share,
+        Shares {
+            whole,
+            drawn: share,
+        },
         gate,
     )?;
     Ok(gather_seats(back, space))

@@ -13,24 +13,24 @@ use std::alloc::{AllocError, Global};
 /// A state after its rounds, and lists for its net: where it is known to be finished, they hold its
 /// exact labels.
 #[derive(Drop)]
-pub(crate) struct Ended {
+pub(crate) struct FinalState {
     pub(crate) state: State,
     pub(crate) workspace: Workspace,
     pub(crate) is_finished: bool,
 }
 
-impl Ended {
-    ghost use Rattle.rounds.specs.Ended.{IsEnded};
+impl FinalState {
+    ghost use Rattle.rounds.specs.FinalState.{IsFinalState};
 
     /// The least cut that the state comes to, on one thread. The only error is that memory runs
     /// out.
     pub(crate) fn into_solved(self, alloc: Global) -> Result<Solved, AllocError>
-        requires { IsEnded self }
+        requires { IsFinalState self }
         ensures certified { IfOk result (λ s. IsRightCut self.state.net s) }
         ensures smallest { IfOk result (λ s. IsSmallestLeastCut self.state.net (side_of s)) }
         ensures bound { IfOk result (λ s. s.value ≤ capacity_limit) }
     {
-        let Ended {
+        let FinalState {
             state,
             workspace,
             is_finished,
@@ -44,12 +44,12 @@ impl Ended {
 
     /// Its sink side alone. The only error is that memory runs out.
     pub(crate) fn side(self, alloc: Global) -> Result<Vec<bool>, AllocError>
-        requires { IsEnded self }
+        requires { IsFinalState self }
         ensures bits { IfOk result (λ side. length side.items ≡ nodes self.state.net) }
         ensures smallest { IfOk result
             (λ side. IsSmallestLeastCut self.state.net (set_of side.items)) }
     {
-        let Ended {
+        let FinalState {
             state,
             workspace,
             is_finished,

@@ -7,6 +7,8 @@ ghost use Rattle.rounds.specs.Joined.{AreJoined};
 ghost use Rattle.rounds.specs.Joining.{AreBegun, AreSquare, HasPair};
 
 use crate::linked_blocks::{all_scanned, are_linked};
+use crate::pile::Pile;
+use crate::stock::Piles;
 use block_net::Cells;
 use block_workers::{Ends, Port, join_blocks};
 use std::alloc::{AllocError, Global};
@@ -55,13 +57,17 @@ fn join_row(
     Ok(())
 }
 
-/// So many blocks with no port.
-fn empty_lists(alloc: Global, blocks: usize) -> Result<Vec<Vec<Port>>, AllocError>
+/// So many blocks with no port. The lists are of the pile.
+fn empty_lists(
+    alloc: Global,
+    pile: &mut Pile<Port>,
+    blocks: usize,
+) -> Result<Vec<Vec<Port>>, AllocError>
     ensures { IfOk result (λ lists. map (λ l. l.items) lists.items ≡ replicate blocks []) }
 {
     let mut lists = Vec::with_capacity(alloc, blocks)?;
     for _block in 0..blocks {
-        lists.push(Vec::new(alloc))?;
+        lists.push(pile.take(alloc, 0)?)?;
     }
     Ok(lists)
 }
@@ -69,6 +75,7 @@ fn empty_lists(alloc: Global, blocks: usize) -> Result<Vec<Vec<Port>>, AllocErro
 /// The ports of all blocks: two rings for each two between which a direction leads.
 fn join_rows(
     alloc: Global,
+    pile: &mut Pile<Port>,
     rows: &Vec<Vec<bool>>,
     ring: usize,
 ) -> Result<Vec<Vec<Port>>, AllocError>
@@ -78,21 +85,27 @@ fn join_rows(
         AreBegun ring blocks blocks (blocks + 1) (map (λ row. row.items) rows.now.items)
         (map (λ l. l.items) lists.items)) }
 {
-    let mut lists = empty_lists(alloc, rows.len())?;
+    let mut lists = empty_lists(alloc, pile, rows.len())?;
     for b in 0..rows.len() as u32 {
         join_row(alloc, rows, &mut lists, b, ring)?;
     }
     Ok(lists)
 }
 
-/// Ends with these ports, of each block.
-fn ends_of(alloc: Global, lists: Vec<Vec<Port>>, blocks: u32) -> Result<Vec<Ends>, AllocError>
+/// Ends with these ports, of each block. The lists of places are of the pile.
+fn ends_of(
+    alloc: Global,
+    pile: &mut Pile<u32>,
+    lists: Vec<Vec<Port>>,
+    blocks: u32,
+) -> Result<Vec<Ends>, AllocError>
     requires { (b : _) → AreRising blocks (slice_index_or (map (λ l. l.items) lists.items) b []) }
     ensures { IfOk result (λ ends. map (λ e. ports e) ends.items ≡ map (λ l. l.items) lists.items) }
 {
     let mut all = Vec::with_capacity(alloc, lists.len())?;
     for list in lists {
-        all.push(Ends::new(alloc, list, blocks)?)?;
+        let room = pile.take(alloc, 0)?;
+        all.push(Ends::in_room(list, blocks, room)?)?;
     }
     Ok(all)
 }
@@ -107,8 +120,29 @@ pub fn join_all(alloc: Global, cells: &[Cells], ring: usize) -> Result<Vec<Ends>
     requires { length cells.now < 2 ^ 32 }
     ensures { IfOk result (λ ends. AreJoined ring cells.now (map (λ e. ports e) ends.items)) }
 {
-    let rows = all_scanned(alloc, cells)?;
-    let lists = join_rows(alloc, &rows, ring)?;
-    let ends = ends_of(alloc, lists, cells.len() as u32)?;
+    join_by(alloc, &mut Piles::none(alloc), cells, ring)
+}
+
+/// The lists of flags go to their pile. Takes no memory.
+fn keep_flags(pile: &mut Pile<bool>, rows: Vec<Vec<bool>>) {
+    for row in rows {
+        pile.keep(row);
+    }
+}
+
+/// The same by lists of these piles.
+pub(crate) fn join_by(
+    alloc: Global,
+    piles: &mut Piles,
+    cells: &[Cells],
+    ring: usize,
+) -> Result<Vec<Ends>, AllocError>
+    requires { length cells.now < 2 ^ 32 }
+    ensures { IfOk result (λ ends. AreJoined ring cells.now (map (λ e. ports e) ends.items)) }
+{
+    let rows = all_scanned(alloc, &mut piles.flags, cells)?;
+    let lists = join_rows(alloc, &mut piles.ports, &rows, ring)?;
+    let ends = ends_of(alloc, &mut piles.places, lists, cells.len() as u32)?;
+    keep_flags(&mut piles.flags, rows);
     Ok(ends)
 }

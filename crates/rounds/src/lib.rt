@@ -21,6 +21,7 @@ pub mod laws;
 mod linked_blocks;
 mod pair;
 mod parallel_error;
+mod pile;
 mod ring_ends;
 mod rings;
 mod round;
@@ -30,6 +31,7 @@ mod round_work;
 mod seat_work;
 mod seats;
 mod solver;
+mod stock;
 mod workers;
 
 pub use block_workers::{Job, Ledgers, RoundError, TurnBook};

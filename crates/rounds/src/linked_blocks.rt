@@ -1,16 +1,31 @@
 //! Between which blocks a direction leads.
-ghost use Rattle.std.specs.Prelude.{◌≡◌, ◌<◌, ◌||◌, IfOk, length, map};
+ghost use Rattle.std.specs.Prelude.{◌≡◌, ◌<◌, ◌||◌, IfOk, false, length, map, replicate};
 ghost use Rattle.rounds.specs.Joining.{AreScanned, AreSquare, IsScanned, flag};
 
+use crate::pile::Pile;
 use block_net::Cells;
 use std::alloc::{AllocError, Global};
 
+/// So many flags, none of them set, in a list of the pile.
+fn blank_flags(alloc: Global, pile: &mut Pile<bool>, blocks: usize) -> Result<Vec<bool>, AllocError>
+    ensures { IfOk result (λ flags. flags.items ≡ replicate blocks false) }
+{
+    let mut flags = pile.take(alloc, blocks)?;
+    flags.resize(blocks, false)?;
+    Ok(flags)
+}
+
 /// For each block below `blocks` whether a direction of this block leads there. Directions that
-/// lead to no block below `blocks` are passed over.
-fn scan_cells(alloc: Global, cells: &Cells, blocks: usize) -> Result<Vec<bool>, AllocError>
+/// lead to no block below `blocks` are passed over. The list is of the pile.
+fn scan_cells(
+    alloc: Global,
+    pile: &mut Pile<bool>,
+    cells: &Cells,
+    blocks: usize,
+) -> Result<Vec<bool>, AllocError>
     ensures { IfOk result (λ flags. IsScanned blocks cells.now flags.items) }
 {
-    let mut flags = vec![in alloc; false; blocks]?;
+    let mut flags = blank_flags(alloc, pile, blocks)?;
     for j in 0..cells.borders() {
         let to = cells.border(j).to as usize;
         if to < blocks {
@@ -21,12 +36,16 @@ fn scan_cells(alloc: Global, cells: &Cells, blocks: usize) -> Result<Vec<bool>, 
 }
 
 /// Of each block the flags of the blocks that its directions lead to. Reads each direction once.
-pub(crate) fn all_scanned(alloc: Global, cells: &[Cells]) -> Result<Vec<Vec<bool>>, AllocError>
+pub(crate) fn all_scanned(
+    alloc: Global,
+    pile: &mut Pile<bool>,
+    cells: &[Cells],
+) -> Result<Vec<Vec<bool>>, AllocError>
     ensures { IfOk result (λ rows. AreScanned cells.now (map (λ row. row.items) rows.items)) }
 {
     let mut rows = Vec::with_capacity(alloc, cells.len())?;
     for b in 0..cells.len() {
-        rows.push(scan_cells(alloc, &cells[b], cells.len())?)?;
+        rows.push(scan_cells(alloc, pile, &cells[b], cells.len())?)?;
     }
     Ok(rows)
 }

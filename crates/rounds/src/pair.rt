@@ -2,17 +2,17 @@
 ghost use Rattle.std.specs.Prelude.{◌≡◌, ◌+◌, ◌<◌, ◌≤◌, ◌++◌, length};
 ghost use Rattle.block_events.specs.States.{way_at, put_way};
 ghost use Rattle.block_events.specs.Soundness.{IsSquare};
-ghost use Rattle.block_core.specs.Mails.{room_at};
+ghost use Rattle.block_core.specs.AllWays.{room_at};
 ghost use Rattle.block_workers.specs.Ports.{IsSamePort, LeadsTo, Looks, letters_put, letters_taken};
 ghost use Rattle.block_workers.specs.Seeing.{messages};
 ghost use Rattle.rounds.specs.Left.{AreKeptByWays, rest_of};
 
-use block_core::Mail;
+use block_core::AllWays;
 use block_workers::{Port, see_left};
 
 /// Two blocks' ports to one another: what the one puts the other takes.
 #[derive(Drop)]
-pub(crate) struct Pair {
+pub(crate) struct PortPair {
     pub(crate) first: Port,
     pub(crate) second: Port,
     ghost there: { LeadsTo first second },
@@ -21,7 +21,7 @@ pub(crate) struct Pair {
 
 /// What is left in the ring from one port to another goes to the end of the way from block b to
 /// block c, which has room. Takes no memory.
-fn move_left(from: &mut Port, to: &mut Port, ways: &mut Mail, b: usize, c: usize)
+fn move_left(from: &mut Port, to: &mut Port, ways: &mut AllWays, b: usize, c: usize)
     requires joined { LeadsTo from.old to.old }
     requires square { IsSquare (length ways.old.messages) ways.old.messages }
     requires first { b < length ways.old.messages }
@@ -45,7 +45,7 @@ fn move_left(from: &mut Port, to: &mut Port, ways: &mut Mail, b: usize, c: usize
     }
 }
 
-impl Pair {
+impl PortPair {
     ghost use Rattle.rounds.specs.Links.{IsLinkSeen, link};
     ghost use Rattle.rounds.specs.Draining.{IsFitting, ways_after_drain};
 
@@ -60,19 +60,17 @@ impl Pair {
 
     /// What is left in both rings goes to the ends of the ways between the two blocks. Takes no
     /// memory.
-    pub(crate) fn drain(self, ways: &mut Mail)
+    pub(crate) fn drain(&mut self, ways: &mut AllWays)
         requires square { IsSquare (length ways.old.messages) ways.old.messages }
-        requires order { (link self).second < (link self).first }
-        requires blocks { (link self).first < length ways.old.messages }
-        requires room { IsFitting ways.old.rooms ways.old.messages (link self) }
-        ensures messages { ways.new.messages ≡ ways_after_drain (link self) ways.old.messages }
+        requires order { (link self.old).second < (link self.old).first }
+        requires blocks { (link self.old).first < length ways.old.messages }
+        requires room { IsFitting ways.old.rooms ways.old.messages (link self.old) }
+        ensures messages { ways.new.messages ≡ ways_after_drain (link self.old) ways.old.messages }
         ensures rooms { ways.new.rooms ≡ ways.old.rooms }
     {
-        let mut first = self.first;
-        let mut second = self.second;
-        let b = second.other() as usize;
-        let c = first.other() as usize;
-        move_left(&mut first, &mut second, ways, b, c);
-        move_left(&mut second, &mut first, ways, c, b);
+        let b = self.second.other() as usize;
+        let c = self.first.other() as usize;
+        move_left(&mut self.first, &mut self.second, ways, b, c);
+        move_left(&mut self.second, &mut self.first, ways, c, b);
     }
 }

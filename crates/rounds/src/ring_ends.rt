@@ -1,15 +1,15 @@
 //! The two ends of each ring, brought together again.
 ghost use Rattle.std.specs.Prelude.{◌≡◌, ◌+◌, ◌<◌, [], ◌∷◌, ◌++◌, length, map};
 ghost use Rattle.std.specs.Prelude.{slice_index_or, vec_len, vec_capacity};
-ghost use Rattle.rounds.specs.declared.pair.Pair.{Pair as PairFields};
+ghost use Rattle.rounds.specs.declared.pair.PortPair.{PortPair as PairFields};
 ghost use Rattle.rounds.specs.Links.{links_of};
 ghost use Rattle.rounds.specs.Pairing.{IsReadyToPair, IsTakenOut, Pairs};
 
-use crate::pair::Pair;
+use crate::pair::PortPair;
 use block_workers::Port;
 
 /// The last port of a block and the port that it leads to become a pair. Takes no memory.
-fn pair_last(lists: &mut Vec<Vec<Port>>, b: usize, pairs: &mut Vec<Pair>)
+fn pair_last(lists: &mut Vec<Vec<Port>>, b: usize, pairs: &mut Vec<PortPair>)
     requires block { b < length lists.old.items }
     requires ready { IsReadyToPair (length lists.old.items) (b + 1)
         (map (λ l. l.items) lists.old.items)
@@ -24,11 +24,11 @@ fn pair_last(lists: &mut Vec<Vec<Port>>, b: usize, pairs: &mut Vec<Pair>)
     let first = lists[b].pop().unwrap();
     let c = first.other() as usize;
     let second = lists[c].pop().unwrap();
-    pairs.push_reserved(Pair { first, second });
+    pairs.push_reserved(PortPair { first, second });
 }
 
 /// All ports of a block become pairs with those that they lead to. Takes no memory.
-fn pair_row(lists: &mut Vec<Vec<Port>>, b: usize, pairs: &mut Vec<Pair>)
+fn pair_row(lists: &mut Vec<Vec<Port>>, b: usize, pairs: &mut Vec<PortPair>)
     requires block { b < length lists.old.items }
     requires ready { IsReadyToPair (length lists.old.items) (b + 1)
         (map (λ l. l.items) lists.old.items)
@@ -47,7 +47,7 @@ fn pair_row(lists: &mut Vec<Vec<Port>>, b: usize, pairs: &mut Vec<Pair>)
 }
 
 /// All ports become pairs with those that they lead to, from the last block down. Takes no memory.
-pub(crate) fn pair_all(lists: &mut Vec<Vec<Port>>, pairs: &mut Vec<Pair>)
+pub(crate) fn pair_all(lists: &mut Vec<Vec<Port>>, pairs: &mut Vec<PortPair>)
     requires { IsReadyToPair (length lists.old.items) (length lists.old.items)
         (map (λ l. l.items) lists.old.items) (length pairs.old.items) (vec_capacity pairs.old) }
     ensures ready { IsReadyToPair (length lists.old.items) 0 (map (λ l. l.items) lists.new.items)

@@ -7,9 +7,10 @@ ghost use Rattle.rounds.specs.Links.{AreLinks, AreWithinRoom, IsLinkSeen, links_
 ghost use Rattle.rounds.specs.Links.{sent_in, taken_in};
 ghost use Rattle.rounds.specs.Draining.{AreDraining, HaveRoom};
 
-use crate::pair::Pair;
+use crate::pair::PortPair;
+use crate::pile::Pile;
 use crate::ring_ends::pair_all;
-use block_core::Mail;
+use block_core::AllWays;
 use block_workers::Port;
 use std::marker::Model;
 
@@ -17,7 +18,7 @@ use std::marker::Model;
 #[derive(Drop)]
 pub(crate) struct Rings {
     blocks: usize,
-    pairs: Vec<Pair>,
+    pairs: Vec<PortPair>,
 }
 
 impl Model for Rings {
@@ -31,7 +32,7 @@ impl Model for Rings {
 }
 
 /// Looks at what is left in the rings of all pairs. Takes no memory.
-fn see_all(pairs: &mut Vec<Pair>)
+fn see_all(pairs: &mut Vec<PortPair>)
     ensures same { links_of pairs.new.items ≡ links_of pairs.old.items }
     ensures seen { All IsLinkSeen (links_of pairs.old.items) }
 {
@@ -41,27 +42,35 @@ fn see_all(pairs: &mut Vec<Pair>)
 }
 
 /// What is left in the rings of all pairs goes to the ways, which are empty. Takes no memory.
-fn drain_all(pairs: Vec<Pair>, ways: &mut Mail)
-    requires links { AreLinks (length ways.old.messages) (links_of pairs.items) }
+fn drain_all(pairs: &mut Vec<PortPair>, ways: &mut AllWays)
+    requires links { AreLinks (length ways.old.messages) (links_of pairs.old.items) }
     requires square { IsSquare (length ways.old.messages) ways.old.messages }
     requires empty { AreWaysEmpty (length ways.old.messages) ways.old.messages }
-    requires room { HaveRoom (length ways.old.messages) ways.old.rooms (links_of pairs.items) }
-    ensures messages { AreDraining (length ways.old.messages) (links_of pairs.items) []
+    requires room { HaveRoom (length ways.old.messages) ways.old.rooms (links_of pairs.old.items) }
+    ensures messages { AreDraining (length ways.old.messages) (links_of pairs.old.items) []
         ways.new.messages }
     ensures rooms { ways.new.rooms ≡ ways.old.rooms }
 {
-    for pair in pairs {
-        pair.drain(ways);
+    let count = pairs.len();
+    for k in 0..count {
+        pairs[k].drain(ways);
+    }
+}
+
+/// The lists of ports go to their pile. Takes no memory.
+fn keep_lists(pile: &mut Pile<Port>, lists: Vec<Vec<Port>>) {
+    for list in lists {
+        pile.keep(list);
     }
 }
 
 impl Rings {
     /// The rings that these ports are the ends of: of each block its ports to others, by rising
     /// numbers of the others. `room` is an empty list with room for half as many pairs as there are
-    /// ports. Takes no memory.
+    /// ports, and the lists go to a pile. Takes no memory.
     ///
     /// Takes time linear in the numbers of blocks and of ports.
-    pub(crate) fn pair(lists: Vec<Vec<Port>>, room: Vec<Pair>) -> Rings
+    pub(crate) fn pair(lists: Vec<Vec<Port>>, room: Vec<PortPair>, pile: &mut Pile<Port>) -> Rings
         requires mated { AreMated (length lists.items) (map (λ l. l.items) lists.items) }
         requires empty { vec_len room ≡ 0 }
         requires room { ports_in (map (λ l. l.items) lists.items) ≤ 2 * vec_capacity room }
@@ -77,6 +86,7 @@ impl Rings {
         let mut lists = lists;
         let mut pairs = room;
         pair_all(&mut lists, &mut pairs);
+        keep_lists(pile, lists);
         Rings { blocks, pairs }
     }
 
@@ -92,8 +102,8 @@ impl Rings {
     }
 
     /// What is left in the rings goes to the ways, which are empty and have room for it: on each
-    /// way no more messages than the ring had room for. Takes no memory.
-    pub(crate) fn drain(mut self, ways: &mut Mail)
+    /// way no more messages than the ring had room for. Takes no memory, and answers the rings.
+    pub(crate) fn drain(mut self, ways: &mut AllWays) -> Vec<PortPair>
         requires square { IsSquare self.blocks ways.old.messages }
         requires empty { AreWaysEmpty self.blocks ways.old.messages }
         requires room { (left : _) → AreLeft self.blocks (sent_in self) (taken_in self) left
@@ -103,6 +113,8 @@ impl Rings {
         ensures rooms { ways.new.rooms ≡ ways.old.rooms }
     {
         self.see();
-        drain_all(self.pairs, ways);
+        let mut pairs = self.pairs;
+        drain_all(&mut pairs, ways);
+        pairs
     }
 }

@@ -2,14 +2,15 @@
 ghost use Rattle.std.specs.Prelude.{◌≡◌, ◌<◌, IfOk};
 ghost use Rattle.block_events.specs.Events.{IsQuiet};
 ghost use Rattle.laid_blocks.specs.Views.{IsLaid};
-ghost use Rattle.block_core.specs.Mails.{IsHeld};
+ghost use Rattle.block_core.specs.AllWays.{IsHeld};
 ghost use Rattle.block_net.specs.Whole.{whole_of};
 ghost use Rattle.block_core.specs.Pieces.{state_in};
 ghost use Rattle.worker_options.specs.Ranges.{AreInRange};
 ghost use Rattle.rounds.specs.Short.{HasFewOnTheWay, IsShortRound};
 
-use crate::blocks::run_blocks;
+use crate::blocks::{Blanks, run_blocks};
 use crate::round_state::put_together;
+use crate::stock::Stock;
 use block_core::{Pieces, State};
 use block_net::Parts;
 use block_workers::{Job, Ledgers, RoundError};
@@ -20,26 +21,29 @@ use std::sync::ledger::{Blank, Ledger};
 use std::thread::Threads;
 use worker_options::{Gate, Options};
 
-/// A round of the blocks of these pieces. Each blank becomes one of the ledgers of the turns.
+/// A round of the blocks of these pieces, and what it leaves for the next. Each blank becomes one
+/// of the ledgers of the turns.
 fn round_of<J: Job + Sync, R: Threads + Wait + Sync, G: Gate>(
     rt: &R,
     alloc: Global,
     pieces: Pieces,
     options: &Options,
     gate: &G,
-    budget: Blank,
-    drawn: Blank,
-) -> Result<State, RoundError>
+    blanks: Blanks,
+    stock: Stock,
+) -> Result<(State, Stock), RoundError>
     requires laid { IsLaid (whole_of pieces.net pieces.parts) }
     requires held { IsHeld pieces.ways.rooms (state_in pieces) }
     requires quiet { IsQuiet (state_in pieces) }
     requires options { AreInRange options.now }
-    requires budget { (budget.name ≡ J.Budget.name) × (budget.parts ≡ J.Budget.parts) }
-    requires parts { 0 < budget.parts }
-    requires drawn { (drawn.name ≡ J.Drawn.name) × (drawn.parts ≡ J.Drawn.parts) }
-    requires threads { drawn.parts ≡ options.now.threads }
-    ensures round { IfOk result (λ new. IsShortRound options.now.turns (state_in pieces) new) }
-    ensures left { IfOk result (λ new. HasFewOnTheWay options.now.ring new) }
+    requires budget { (blanks.budget.name ≡ J.Budget.name)
+        × (blanks.budget.parts ≡ J.Budget.parts) }
+    requires parts { 0 < blanks.budget.parts }
+    requires drawn { (blanks.drawn.name ≡ J.Drawn.name) × (blanks.drawn.parts ≡ J.Drawn.parts) }
+    requires threads { blanks.drawn.parts ≡ options.now.threads }
+    ensures round { IfOk result
+        (λ after. IsShortRound options.now.turns (state_in pieces) after.0) }
+    ensures left { IfOk result (λ after. HasFewOnTheWay options.now.ring after.0) }
 {
     let Pieces {
         net,
@@ -52,14 +56,15 @@ fn round_of<J: Job + Sync, R: Threads + Wait + Sync, G: Gate>(
         firsts,
         slots,
     } = parts;
-    let came = run_blocks::<J, R, G>(rt, alloc, blocks, options, gate, budget, drawn)?;
-    came.rings.drain(&mut ways);
+    let came = run_blocks::<J, R, G>(rt, alloc, blocks, options, gate, blanks, stock)?;
+    let pairs = came.rings.drain(&mut ways);
     let parts = Parts {
         blocks: came.blocks,
         firsts,
         slots,
     };
-    Ok(put_together(net, parts, ways))
+    let piles = came.piles;
+    Ok((put_together(net, parts, ways), Stock { pairs, piles }))
 }
 
 /// The same with a ledger for each of the two blanks.
@@ -69,21 +74,22 @@ fn round_with<B: Ledger + Send + Sync, D: Ledger + Send + Sync, R: Threads + Wai
     pieces: Pieces,
     options: &Options,
     gate: &G,
-    budget: Blank,
-    drawn: Blank,
-) -> Result<State, RoundError>
+    blanks: Blanks,
+    stock: Stock,
+) -> Result<(State, Stock), RoundError>
     requires laid { IsLaid (whole_of pieces.net pieces.parts) }
     requires held { IsHeld pieces.ways.rooms (state_in pieces) }
     requires quiet { IsQuiet (state_in pieces) }
     requires options { AreInRange options.now }
-    requires budget { (budget.name ≡ B.name) × (budget.parts ≡ B.parts) }
-    requires parts { 0 < budget.parts }
-    requires drawn { (drawn.name ≡ D.name) × (drawn.parts ≡ D.parts) }
-    requires threads { drawn.parts ≡ options.now.threads }
-    ensures round { IfOk result (λ new. IsShortRound options.now.turns (state_in pieces) new) }
-    ensures left { IfOk result (λ new. HasFewOnTheWay options.now.ring new) }
+    requires budget { (blanks.budget.name ≡ B.name) × (blanks.budget.parts ≡ B.parts) }
+    requires parts { 0 < blanks.budget.parts }
+    requires drawn { (blanks.drawn.name ≡ D.name) × (blanks.drawn.parts ≡ D.parts) }
+    requires threads { blanks.drawn.parts ≡ options.now.threads }
+    ensures round { IfOk result
+        (λ after. IsShortRound options.now.turns (state_in pieces) after.0) }
+    ensures left { IfOk result (λ after. HasFewOnTheWay options.now.ring after.0) }
 {
-    round_of::<Ledgers<B, D>, R, G>(rt, alloc, pieces, options, gate, budget, drawn)
+    round_of::<Ledgers<B, D>, R, G>(rt, alloc, pieces, options, gate, blanks, stock)
 }
 
 /// A round from a state with no message on the way: each block is moved to one of the workers, does
@@ -109,8 +115,28 @@ pub fn run_round<R: Threads + Wait + Sync, G: Gate>(
     ensures round { IfOk result (λ new. IsShortRound options.now.turns state new) }
     ensures left { IfOk result (λ new. HasFewOnTheWay options.now.ring new) }
 {
-    let budget = Blank::new(1);
-    let drawn = Blank::new(options.threads as u64);
+    let (state, _stock) = run_by(rt, alloc, state, options, gate, Stock::none(alloc))?;
+    Ok(state)
+}
+
+/// The same by what the round before left, and with what it leaves itself.
+pub(crate) fn run_by<R: Threads + Wait + Sync, G: Gate>(
+    rt: &R,
+    alloc: Global,
+    state: State,
+    options: &Options,
+    gate: &G,
+    stock: Stock,
+) -> Result<(State, Stock), RoundError>
+    requires quiet { IsQuiet state }
+    requires options { AreInRange options.now }
+    ensures round { IfOk result (λ after. IsShortRound options.now.turns state after.0) }
+    ensures left { IfOk result (λ after. HasFewOnTheWay options.now.ring after.0) }
+{
+    let blanks = Blanks {
+        budget: Blank::new(1),
+        drawn: Blank::new(options.threads as u64),
+    };
     let pieces = state.into_pieces();
-    round_with::<Brand, Brand, R, G>(rt, alloc, pieces, options, gate, budget, drawn)
+    round_with::<Brand, Brand, R, G>(rt, alloc, pieces, options, gate, blanks, stock)
 }

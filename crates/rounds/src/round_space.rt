@@ -5,9 +5,10 @@ ghost use Rattle.rounds.specs.Mated.{AreMated, room_to, messages_sent, messages_
 ghost use Rattle.rounds.specs.Links.{ring_room, sent_in, taken_in};
 ghost use Rattle.rounds.specs.Seated.{blocks_of, ends_of_seats, ports_of};
 
-use crate::pair::Pair;
+use crate::pair::PortPair;
 use crate::rings::Rings;
 use crate::seats::apart;
+use crate::stock::{Piles, Stock};
 use block_net::Cells;
 use block_workers::{Port, Seat};
 use std::alloc::{AllocError, Global};
@@ -18,7 +19,8 @@ pub(crate) struct Space {
     pub(crate) count: usize,
     blocks: Vec<Cells>,
     lists: Vec<Vec<Port>>,
-    pairs: Vec<Pair>,
+    pairs: Vec<PortPair>,
+    piles: Piles,
     ghost no_block: { vec_len blocks ≡ 0 },
     ghost no_list: { vec_len lists ≡ 0 },
     ghost no_pair: { vec_len pairs ≡ 0 },
@@ -27,26 +29,34 @@ pub(crate) struct Space {
     ghost for_pairs: { count * count ≤ 2 * vec_capacity pairs },
 }
 
-/// Blocks that came back from their workers, and the rings between them.
+/// Blocks that came back from their workers, the rings between them, and lists for the next round.
 #[derive(Drop)]
 pub(crate) struct Came {
     pub(crate) blocks: Vec<Cells>,
     pub(crate) rings: Rings,
+    pub(crate) piles: Piles,
 }
 
 impl Space {
-    /// Room for so many blocks, each joined with each other. The only error is that memory runs
-    /// out.
-    pub(crate) fn new(alloc: Global, count: usize) -> Result<Space, AllocError>
+    /// Room for so many blocks, each joined with each other, by the lists of a stock. The only
+    /// error is that memory runs out.
+    pub(crate) fn new(alloc: Global, count: usize, stock: Stock) -> Result<Space, AllocError>
         requires { count ≤ block_limit }
         ensures { IfOk result (λ space. space.count ≡ count) }
     {
-        let half = count * count / 2 + 1;
+        let Stock {
+            mut pairs,
+            mut piles,
+        } = stock;
+        piles.reserve(count)?;
+        pairs.clear();
+        pairs.reserve(count * count / 2 + 1)?;
         Ok(Space {
             count,
             blocks: Vec::with_capacity(alloc, count)?,
             lists: Vec::with_capacity(alloc, count)?,
-            pairs: Vec::with_capacity(alloc, half)?,
+            pairs,
+            piles,
         })
     }
 }
@@ -69,10 +79,12 @@ pub(crate) fn gather_seats(seats: Vec<Seat>, space: Space) -> Came
         mut blocks,
         mut lists,
         pairs,
+        mut piles,
     } = space;
-    apart(seats, &mut blocks, &mut lists);
+    apart(seats, &mut blocks, &mut lists, &mut piles);
     Came {
         blocks,
-        rings: Rings::pair(lists, pairs),
+        rings: Rings::pair(lists, pairs, &mut piles.ports),
+        piles,
     }
 }

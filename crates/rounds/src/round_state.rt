@@ -1,17 +1,17 @@
 //! The state of the blocks and messages after a round.
 ghost use Rattle.std.specs.Prelude.{◌≡◌};
 ghost use Rattle.laid_blocks.specs.Views.{IsLaid};
-ghost use Rattle.block_core.specs.Mails.{IsHeld};
+ghost use Rattle.block_core.specs.AllWays.{IsHeld};
 ghost use Rattle.block_net.specs.Whole.{whole_of};
 ghost use Rattle.rounds.specs.Together.{gathered_state};
 
-use block_core::{Mail, Pieces, State};
+use block_core::{AllWays, Pieces, State};
 use block_net::Parts;
 use flow_network::Net;
 
 /// The state that the blocks show with the messages on the way. What the sink got is what the rooms
 /// lack. Takes no memory.
-pub(crate) fn put_together(net: Net, parts: Parts, ways: Mail) -> State
+pub(crate) fn put_together(net: Net, parts: Parts, ways: AllWays) -> State
     requires laid { IsLaid (whole_of net parts) }
     requires held { IsHeld ways.rooms (gathered_state net parts ways.messages) }
     ensures { result ≡ gathered_state net parts ways.messages }

@@ -10,32 +10,43 @@ use std::sync::{Mutex, Wait};
 use std::thread::Threads;
 use worker_options::Gate;
 
+/// The shares of a book's ledgers with which a round begins.
+#[derive(Drop)]
+pub(crate) struct Shares<J: Job> {
+    /// Of the turns that the book began with: the whole.
+    pub whole: Share<J::Budget>,
+    /// Of the turns that are drawn: the workers', who have drawn none.
+    pub drawn: Share<J::Drawn>,
+}
+
 /// The seats are dealt to so many workers, which do their turns, and are collected again. No more
-/// turns are drawn than the book began with, of which `whole` is the share. All growths come before
-/// the first worker starts.
+/// turns are drawn than the book began with. All growths come before the first worker starts.
 pub(crate) fn work_on<J: Job + Sync, R: Threads + Wait + Sync, G: Gate>(
     rt: &R,
     alloc: Global,
     seats: Vec<Seat>,
     threads: usize,
     book: TurnBook<J>,
-    mut whole: Share<J::Budget>,
-    mut share: Share<J::Drawn>,
+    shares: Shares<J>,
     gate: &G,
 ) -> Result<Vec<Seat>, RoundError>
     requires new { AreNew seats.items }
     requires some { 0 < threads }
-    requires whole { whole.parts ≡ J.Budget.parts }
-    requires all { share.parts ≡ J.Drawn.parts }
-    requires parts { share.parts ≡ threads }
-    requires none { share.amount ≡ 0 }
+    requires whole { shares.whole.parts ≡ J.Budget.parts }
+    requires all { shares.drawn.parts ≡ J.Drawn.parts }
+    requires parts { shares.drawn.parts ≡ threads }
+    requires none { shares.drawn.amount ≡ 0 }
     ensures worked { IfOk result (λ back. AllWorked seats.items back.items) }
-    ensures few { IfOk result (λ back. turns_of back.items ≤ whole.amount) }
+    ensures few { IfOk result (λ back. turns_of back.items ≤ shares.whole.amount) }
 {
+    let Shares {
+        mut whole,
+        mut drawn,
+    } = shares;
     let book = Mutex::new(book);
-    let back = work_seats::<J, R, G>(rt, alloc, seats, threads, &mut share, &book, gate)?;
+    let back = work_seats::<J, R, G>(rt, alloc, seats, threads, &mut drawn, &book, gate)?;
     let mut book = book.into_inner();
-    book.audit_drawn(&mut share);
+    book.audit_drawn(&mut drawn);
     book.audit_budget(&mut whole);
     Ok(back)
 }

@@ -6,6 +6,8 @@ ghost use Rattle.block_workers.specs.Turns.{IsNewSeat};
 ghost use Rattle.rounds.specs.Seated.{AreSeated, AreBlocksSmall, blocks_of, ends_of_seats};
 ghost use Rattle.rounds.specs.Seated.{ports_of};
 
+use crate::pile::Pile;
+use crate::stock::Piles;
 use block_net::Cells;
 use block_turns::Block;
 use block_workers::{Ends, Port, Seat};
@@ -18,20 +20,28 @@ const NODES_A_RISE: usize = 4;
 
 /// A block before its first turn, with its ends. Its turns together make one new label for
 /// `NODES_A_RISE` of its nodes, the first of them as many as they can: then a turn takes its
-/// messages and does one event.
-fn seat_of(alloc: Global, number: u32, cells: Cells, ends: Ends) -> Result<Seat, AllocError>
+/// messages and does one event. The block gets a list for its room.
+fn seat_of(
+    alloc: Global,
+    number: u32,
+    cells: Cells,
+    ends: Ends,
+    room: Vec<u32>,
+) -> Result<Seat, AllocError>
     requires { count cells ≤ node_limit }
     ensures { IfOk result (λ seat. IsNewSeat number cells ends seat) }
 {
     let nodes = cells.len() as u32;
     let rises = cells.len() / NODES_A_RISE;
-    let block = Block::with_order(alloc, cells, Vec::new(alloc), usize::MAX, rises)?;
+    let block = Block::in_room(alloc, cells, Vec::new(alloc), usize::MAX, rises, room)?;
     Ok(Seat::new(number, block, nodes, ends))
 }
 
-/// The blocks before their first turn, each with its ends. The only error is that memory runs out.
+/// The blocks before their first turn, each with its ends and a list of the pile. The only error is
+/// that memory runs out.
 pub(crate) fn seats_of(
     alloc: Global,
+    pile: &mut Pile<u32>,
     blocks: Vec<Cells>,
     ends: Vec<Ends>,
 ) -> Result<Vec<Seat>, AllocError>
@@ -48,14 +58,21 @@ pub(crate) fn seats_of(
         let Some(ends) = rest.next() else {
             unreachable!()
         };
-        seats.push_reserved(seat_of(alloc, number, cells, ends)?);
+        let room = pile.take(alloc, 0)?;
+        seats.push_reserved(seat_of(alloc, number, cells, ends, room)?);
         number += 1;
     }
     Ok(seats)
 }
 
-/// The blocks of seats, and of each block the ports. Both go into room that was made before.
-pub(crate) fn apart(seats: Vec<Seat>, blocks: &mut Vec<Cells>, lists: &mut Vec<Vec<Port>>)
+/// The blocks of seats, and of each block the ports. Both go into room that was made before. The
+/// lists that are left go to their piles.
+pub(crate) fn apart(
+    seats: Vec<Seat>,
+    blocks: &mut Vec<Cells>,
+    lists: &mut Vec<Vec<Port>>,
+    piles: &mut Piles,
+)
     requires no_block { vec_len blocks.old ≡ 0 }
     requires no_list { vec_len lists.old ≡ 0 }
     requires blocks { vec_len seats ≤ vec_capacity blocks.old }
@@ -65,7 +82,11 @@ pub(crate) fn apart(seats: Vec<Seat>, blocks: &mut Vec<Cells>, lists: &mut Vec<V
 {
     for seat in seats {
         let (block, ends) = seat.into_parts();
-        blocks.push_reserved(block.into_cells());
-        lists.push_reserved(ends.into_ports());
+        let (cells, others) = block.into_parts();
+        let (ports, places) = ends.into_parts();
+        blocks.push_reserved(cells);
+        lists.push_reserved(ports);
+        piles.others.keep(others);
+        piles.places.keep(places);
     }
 }

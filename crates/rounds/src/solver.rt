@@ -6,11 +6,13 @@ ghost use Rattle.flow_network.specs.Answer.{side_of, IsRightCut};
 ghost use Rattle.block_events.specs.Events.{IsQuiet};
 ghost use Rattle.block_net.specs.Limits.{arc_limit};
 ghost use Rattle.worker_options.specs.Ranges.{AreInRange};
-ghost use Rattle.rounds.specs.Ended.{IsEnded};
+ghost use Rattle.rounds.specs.FinalState.{IsFinalState};
 ghost use Rattle.rounds.specs.Refusals.{IsParallelRefusal};
 
-use crate::final_state::Ended;
-use crate::{ParallelError, run_round};
+use crate::ParallelError;
+use crate::final_state::FinalState;
+use crate::round::run_by;
+use crate::stock::Stock;
 use block_core::State;
 use block_cut::{push_first, take_in};
 use block_net::ARC_LIMIT;
@@ -66,31 +68,34 @@ fn rounds<R: Threads + Wait + Sync, G: Gate>(
     state: State,
     options: &Options,
     gate: &G,
-) -> Result<Ended, ParallelError>
+) -> Result<FinalState, ParallelError>
     requires quiet { IsQuiet state }
     requires options { AreInRange options.now }
     requires arcs { length state.net.arcs ≤ arc_limit }
     ensures net { IfOk result (λ ended. ended.state.net ≡ state.net) }
-    ensures ended { IfOk result IsEnded }
+    ensures ended { IfOk result IsFinalState }
     ensures refused { IfErr result (IsParallelRefusal state.net options.now) }
 {
     let threads = options.threads as usize;
     let mut state = push_all(rt, state, threads);
     let mut search = LabelSearch::reserve(alloc, &state, threads)?;
+    let mut stock = Stock::none(alloc);
     'rounds: for _round in 0..options.rounds {
         search.find(rt, &state, threads);
         if is_at_rest(&state, search.workspace.labels.as_slice()) {
-            return Ok(Ended {
+            return Ok(FinalState {
                 state,
                 workspace: search.into_workspace(),
                 is_finished: true,
             });
         }
         state.raise_to(search.workspace.labels.as_slice());
-        state = run_round(rt, alloc, state, options, gate)?;
+        let (next, left) = run_by(rt, alloc, state, options, gate, stock)?;
+        state = next;
+        stock = left;
         take_in(&mut state);
     }
-    Ok(Ended {
+    Ok(FinalState {
         state,
         workspace: search.into_workspace(),
         is_finished: false,
@@ -127,7 +132,8 @@ pub fn solve_parallel<R: Threads + Wait + Sync, G: Gate>(
     ensures refused { IfErr result (IsParallelRefusal net.now options.now) }
 {
     check(net, options)?;
-    let state = State::open(alloc, net, options.blocks as usize)?;
+    let (blocks, threads) = (options.blocks as usize, options.threads as usize);
+    let state = State::open_by(rt, alloc, net, blocks, threads)?;
     let ended = rounds(rt, alloc, state, options, gate)?;
     Ok(ended.into_solved(alloc)?)
 }
@@ -148,7 +154,8 @@ pub fn side_parallel<R: Threads + Wait + Sync, G: Gate>(
     ensures refused { IfErr result (IsParallelRefusal net options.now) }
 {
     check(&net, options)?;
-    let state = State::of_net(alloc, net, options.blocks as usize)?;
+    let (blocks, threads) = (options.blocks as usize, options.threads as usize);
+    let state = State::of_net_by(rt, alloc, net, blocks, threads)?;
     let ended = rounds(rt, alloc, state, options, gate)?;
     Ok(ended.side(alloc)?)
 }

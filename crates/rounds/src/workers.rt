@@ -67,7 +67,7 @@ fn is_small(nodes: usize, blocks: usize) -> bool
 }
 
 /// The block of a node, where a net of so many nodes is split into so many blocks.
-fn home_of(nodes: usize, blocks: usize, node: u32) -> usize
+fn node_block_of(nodes: usize, blocks: usize, node: u32) -> usize
     requires node { node < nodes }
     requires blocks { blocks ≤ block_limit }
     ensures { result ≡ node * blocks / nodes }
@@ -82,7 +82,7 @@ fn is_between(nodes: usize, blocks: usize, arc: &Arc) -> bool
     ensures { result
         ≡ not (arc.now.from * blocks / nodes == arc.now.to * blocks / nodes) }
 {
-    home_of(nodes, blocks, arc.from) != home_of(nodes, blocks, arc.to)
+    node_block_of(nodes, blocks, arc.from) != node_block_of(nodes, blocks, arc.to)
 }
 
 /// How many arcs of a net lead from one block to another, where it is split into so many.

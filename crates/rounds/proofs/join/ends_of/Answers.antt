@@ -8,8 +8,8 @@ use Rattle.block_workers.specs.Seeing.{AreRising}
 use Rattle.rounds.proofs.Joining.{row_here}
 use Rattle.rounds.proofs.join.ends_of.Goals as goal
 
-pub new-requires : goal.new-requires
-new-requires c =
+pub in_room-requires : goal.in_room-requires
+in_room-requires c =
     let items = λ (l : Vec Port Global). l.items in
     let done = map (λ (e : Ends). ports e) c.loop-list.all.items in
     let step = c.in-Some.ensures.steps in

@@ -3,7 +3,7 @@ use Rattle.std.proofs.lemmas.Grind.{common_steps}
 use Rattle.std.proofs.lemmas.List.{length-map, length_push, map-append, nil_from_length}
 use Rattle.block_workers.specs.declared.port.Port.{Port}
 use Rattle.rounds.proofs.Joining.{row_at}
-use Rattle.rounds.specs.declared.pair.Pair.{Pair}
+use Rattle.rounds.specs.declared.pair.PortPair.{PortPair}
 use Rattle.rounds.specs.Links.{Link, link, links_of}
 use Rattle.rounds.specs.Pairing.{ArePaired, IsTakenOut}
 use Rattle.rounds.proofs.Pairing.{ready_left, ready_next, paired_left}
@@ -22,7 +22,7 @@ loop-preserved c =
     let out : IsTakenOut n c.args.b old new p = subst (λ (m : ℕ). IsTakenOut m c.args.b old new p) was.len c.pair_last.ensures.one.2 in
     let more : length c.pair_last.new.pairs.items ≡ length pairs + 1 = ap length pushed ∙ length_push pairs p in
     let links : links_of c.pair_last.new.pairs.items ≡ links_of pairs ++ link p ∷ [] =
-    ap (λ (ps : List Pair). links_of ps) pushed ∙ map-append (λ (x : Pair). link x) pairs (p ∷ []) in
+    ap (λ (ps : List PortPair). links_of ps) pushed ∙ map-append (λ (x : PortPair). link x) pairs (p ∷ []) in
     let long_old = length-map c.loop.lists.items (λ (l : Vec Port Global). l.items) in
     let long_new = length-map c.pair_last.new.lists.items (λ (l : Vec Port Global). l.items) in
     record {

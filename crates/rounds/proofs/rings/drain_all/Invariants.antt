@@ -1,11 +1,12 @@
-use Rattle.std.proofs.Common.{◌≡◌, length, map}
-use Rattle.std.specs.Vec.Iter.{into_iter_items}
+use Rattle.std.proofs.Common.{◌≡◌, length, map, drop}
 use Rattle.rounds.specs.Links.{link}
 use Rattle.rounds.specs.Draining.{AreDraining}
 use Rattle.rounds.proofs.rings.drain_all.Given as goal
 
-abbrev pub invariant-loop-pair : goal.invariant-loop-pair
-invariant-loop-pair l = record {
-  draining : AreDraining (length l.initial.ways.messages) (map (λ p. link p) (into_iter_items l.initial.pair-iterator)) (map (λ p. link p) (into_iter_items l.pair-iterator)) l.ways.messages;
+abbrev pub invariant-loop-k : goal.invariant-loop-k
+invariant-loop-k l = record {
+  rest : drop l.k (map (λ p. link p) l.pairs.items) ≡ drop l.k (map (λ p. link p) l.initial.pairs.items);
+  long : length l.pairs.items ≡ length l.initial.pairs.items;
+  draining : AreDraining (length l.initial.ways.messages) (map (λ p. link p) l.initial.pairs.items) (drop l.k (map (λ p. link p) l.pairs.items)) l.ways.messages;
   rooms : l.ways.rooms ≡ l.initial.ways.rooms;
 }

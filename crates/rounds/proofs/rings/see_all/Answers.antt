@@ -1,7 +1,7 @@
 use Rattle.std.proofs.Common.{refl, ◌<◌, length, ◌∙◌, ap, arith}
 use Rattle.std.proofs.lemmas.Grind.{common_steps}
 use Rattle.std.proofs.lemmas.List.{length-map}
-use Rattle.rounds.specs.declared.pair.Pair.{Pair}
+use Rattle.rounds.specs.declared.pair.PortPair.{PortPair}
 use Rattle.rounds.specs.Links.{link}
 use Rattle.rounds.proofs.Seeing.{links_kept, seen_more}
 use Rattle.rounds.proofs.rings.see_all.Goals as goal
@@ -24,5 +24,5 @@ returns-clause-same c = c.loop-k.invariant.same
 pub returns-clause-seen : goal.returns-clause-seen
 returns-clause-seen c = λ i d below.
     let same = ap length c.loop-k.invariant.same in
-    let long = length-map c.loop-k.pairs.items (λ (p : Pair). link p) in
+    let long = length-map c.loop-k.pairs.items (λ (p : PortPair). link p) in
     c.loop-k.invariant.seen i d (grind (arith, common_steps))

@@ -5,7 +5,7 @@ use Rattle.block_workers.specs.Seeing.{messages}
 use Rattle.rounds.specs.Left.{AreKeptByWays, rest_of}
 use Rattle.rounds.specs.Links.{link}
 use Rattle.rounds.proofs.Draining.{second_room, second_drained}
-use Rattle.rounds.proofs.pair.Pair.drain.Goals as goal
+use Rattle.rounds.proofs.pair.PortPair.drain.Goals as goal
 
 pub move_left-requires-clause-room : goal.move_left-requires-clause-room
 move_left-requires-clause-room c = rw (c.other-b.ensures, c.other-c.ensures) c.requires.room.room_down
@@ -17,18 +17,18 @@ pub move_left-requires-2-clause-room : goal.move_left-requires-2-clause-room
 move_left-requires-2-clause-room c =
     let was = c.requires in
     let one = c.move_left.ensures in
-    second_room (link c.args.self) c.args.ways.now.messages c.move_left.new.ways.messages c.other-b.result c.other-c.result _ _ was.square was.order was.blocks
+    second_room (link c.args.self.now) c.args.ways.now.messages c.move_left.new.ways.messages c.other-b.result c.other-c.result _ _ was.square was.order was.blocks
     c.other-b.ensures c.other-c.ensures (ap (λ ls. messages ls) one.put) (ap (λ ls. messages ls) one.from.taken) one.messages _ _ one.rooms was.room
 
 pub move_left-requires-2-clause-arcs : goal.move_left-requires-2-clause-arcs
 move_left-requires-2-clause-arcs c =
     let one = c.move_left.ensures in
     subst (λ (sent : List Letter). AreKeptByWays (rest_of (messages sent) (messages (letters_taken c.move_left.new.from)))) (sym one.put)
-    (subst (λ (took : List Letter). AreKeptByWays (rest_of (messages (letters_put c.args.self.second)) (messages took))) (sym one.from.taken) c.requires.room.arcs_up)
+    (subst (λ (took : List Letter). AreKeptByWays (rest_of (messages (letters_put c.args.self.now.second)) (messages took))) (sym one.from.taken) c.requires.room.arcs_up)
 
 pub returns-clause-messages : goal.returns-clause-messages
 returns-clause-messages c =
     let was = c.requires in
     let one = c.move_left.ensures in
-    second_drained (link c.args.self) c.args.ways.now.messages c.move_left.new.ways.messages c.other-b.result c.other-c.result _ _ was.square was.order was.blocks
+    second_drained (link c.args.self.now) c.args.ways.now.messages c.move_left.new.ways.messages c.other-b.result c.other-c.result _ _ was.square was.order was.blocks
     c.other-b.ensures c.other-c.ensures (ap (λ ls. messages ls) one.put) (ap (λ ls. messages ls) one.from.taken) one.messages _ c.move_left-2.ensures.messages

@@ -1,9 +1,9 @@
 use Rattle.std.proofs.Common.{IfOk, subst, sym}
-use Rattle.block_core.specs.Mails.{IsHeld}
+use Rattle.block_core.specs.AllWays.{IsHeld}
 use Rattle.block_events.specs.Events.{IsQuiet}
 use Rattle.block_events.specs.States.{State}
 use Rattle.rounds.specs.Short.{IsShortRound}
-use Rattle.rounds.proofs.round.run_round.Goals as goal
+use Rattle.rounds.proofs.round.run_by.Goals as goal
 
 pub round_with-requires-clause-laid : goal.round_with-requires-clause-laid
 round_with-requires-clause-laid g c κs within = c.into_pieces-pieces.ensures.laid
@@ -19,7 +19,7 @@ round_with-requires-clause-quiet g c κs within =
 
 pub returns-clause-round : goal.returns-clause-round
 returns-clause-round g c =
-    subst (λ (s : State). IfOk c.round_with.result (λ new. IsShortRound c.args.options.now.turns s new))
+    subst (λ (s : State). IfOk c.round_with.result (λ after. IsShortRound c.args.options.now.turns s after.0))
     c.into_pieces-pieces.ensures.state c.round_with.ensures.round
 
 pub returns-clause-left : goal.returns-clause-left

@@ -1,7 +1,7 @@
 use Rattle.std.proofs.Common.{◌≡◌, ◌≤◌, ◌++◌, length, sym, ◌∙◌, ap, arith}
 use Rattle.block_workers.specs.Ports.{letters_put, letters_taken, letters_waiting, capacity}
 use Rattle.rounds.proofs.Leaving.{letters_few, letters_split}
-use Rattle.rounds.proofs.pair.Pair.see.Goals as goal
+use Rattle.rounds.proofs.pair.PortPair.see.Goals as goal
 
 pub returns-clause-seen : goal.returns-clause-seen
 returns-clause-seen c =

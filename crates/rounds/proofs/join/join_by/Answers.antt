@@ -2,7 +2,7 @@ use Rattle.std.proofs.Common.{◌≡◌, Bool, ◌+◌, length, map, sym, ◌∙
 use Rattle.std.proofs.lemmas.List.{length-map}
 use Rattle.rounds.specs.Joined.{AreJoined}
 use Rattle.rounds.proofs.Joining.{all_joined}
-use Rattle.rounds.proofs.join.join_all.Goals as goal
+use Rattle.rounds.proofs.join.join_by.Goals as goal
 
 pub returns : goal.returns
 returns c =
