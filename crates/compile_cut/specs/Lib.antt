@@ -6,5 +6,6 @@ pub mod Limits
 pub mod Shown
 pub mod Weights
 pub mod Three
+pub mod Parts
 pub mod Quadratics
 pub mod Laws

@@ -1,11 +1,12 @@
-use Rattle.std.specs.Prelude.{◌≡◌, ℕ, ◌+◌, ◌*◌, ◌≤◌, Bool, [], All, replicate, ℤ, pos, ◌+ℤ◌, ◌≤ℤ◌}
+use Rattle.std.specs.Prelude.{◌≡◌, ℕ, ◌+◌, ◌*◌, ◌<◌, ◌≤◌, Bool, [], All, replicate, ℤ, pos, ◌+ℤ◌}
+use Rattle.std.specs.Prelude.{◌≤ℤ◌}
 use Rattle.std.specs.Prelude.{unsigned_abs, vec_len}
 use Rattle.pseudo_bool.specs.declared.term.Term.{Term}
 use Rattle.pseudo_bool.specs.Energies.{Energy, term_value, value_at}
-use Rattle.pseudo_bool.specs.Limits.{value_limit, constant_limit}
+use Rattle.pseudo_bool.specs.Limits.{term_limit, value_limit, constant_limit}
 use Rattle.flow_network.specs.Cut.{IsArc}
 use Rattle.compile_cut.specs.declared.quadratic.Quadratic.{Quadratic}
-use Rattle.compile_cut.specs.Limits.{term_size}
+use Rattle.compile_cut.specs.Limits.{term_size, form_nodes}
 use Rattle.compile_cut.specs.Shown.{Shows, three_digit}
 use Rattle.compile_cut.specs.Weights.{weights_value, weights_size, arcs_value, arcs_size, IsAbove}
 
@@ -21,6 +22,16 @@ pub record IsQuadraticBounded (terms : ℕ) (q : Quadratic) : Type 0 where
   pub arcs : All (IsArc (vec_len q.weights)) q.arcs.items
   pub above : All IsAbove q.arcs.items
 
+-- a term fits it: it is within the bounds of as many terms as an energy has at most, and a hidden
+-- node has room
+pub record HasRoomForTerm (q : Quadratic) : Type 0 where
+  pub bounded : IsQuadraticBounded term_limit q
+  pub room : vec_len q.weights < form_nodes
+
+-- with one term more it stays within the bounds of one term more
+abbrev pub StaysBounded : Quadratic → Quadratic → Type 0
+StaysBounded old new = (k : ℕ) → IsQuadraticBounded k old → IsQuadraticBounded (k + 1) new
+
 -- a constant over so many nodes: no weight but 0, and no arc
 pub record IsConstant (constant : ℤ) (nodes : ℕ) (q : Quadratic) : Type 0 where
   pub constant_is : q.constant ≡ constant
@@ -31,7 +42,7 @@ pub record IsConstant (constant : ℤ) (nodes : ℕ) (q : Quadratic) : Type 0 wh
 -- term's: a term of three variables brings a node
 pub record AddsTerm (old new : Quadratic) (term : Term) : Type 0 where
   pub nodes : vec_len new.weights ≡ vec_len old.weights + three_digit term
-  pub bounded : (k : ℕ) → IsQuadraticBounded k old → IsQuadraticBounded (k + 1) new
+  pub bounded : StaysBounded old new
   pub lower : (x : ℕ → Bool) → (quadratic_value old x +ℤ term_value x term) ≤ℤ quadratic_value new x
   pub reached : (x : ℕ → Bool)
       → (y : ℕ → Bool) × Shows (vec_len old.weights) x y

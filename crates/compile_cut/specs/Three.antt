@@ -1,4 +1,5 @@
-use Rattle.std.specs.Prelude.{◌≡◌, ℕ, suc, ◌+◌, ◌*◌, ◌<◌, ◌≤◌, Bool, not, ◌&&◌, List, [], ◌∷◌, ℤ}
+use Rattle.std.specs.Prelude.{◌≡◌, ℕ, suc, ◌+◌, ◌*◌, ◌<◌, ◌≤◌, Bool, not, ◌&&◌, List, [], ◌∷◌, All}
+use Rattle.std.specs.Prelude.{ℤ}
 use Rattle.std.specs.Prelude.{pos}
 use Rattle.std.specs.Prelude.{negsuc, ◌+ℤ◌, ◌-ℤ◌, ◌≤ℤ◌, unsigned_abs}
 use Rattle.sums.specs.Sums.{count_if}
@@ -8,6 +9,7 @@ use Rattle.pseudo_bool.specs.Energies.{entry, digit, IsValue}
 use Rattle.regular.specs.declared.fixed.Fixed.{Fixed}
 use Rattle.regular.specs.Regularity.{IsRegularTable, projection}
 use Rattle.compile_cut.specs.declared.adding.Nodes.{Nodes}
+use Rattle.compile_cut.specs.declared.three.ThreeArcs.{ThreeArcs}
 use Rattle.compile_cut.specs.declared.three.ThreePart.{ThreePart}
 
 -- the numbers of three variables are numbers of nodes
@@ -20,6 +22,18 @@ pub record AreNodesBelow (count : ℕ) (nodes : Nodes) : Type 0 where
 abbrev pub AreProjectionsRegular : List ℤ → Type 0
 AreProjectionsRegular table =
     (fixed : Fixed) → fixed.position < 3 → IsRegularTable (projection table fixed)
+
+-- a table of three variables of numbers in their range, each projection of which is regular
+pub record IsRegularOfThree (table : List ℤ) : Type 0 where
+  pub values : All IsValue table
+  pub regular : AreProjectionsRegular table
+
+-- four places of a list of this length
+pub record AreFourPlaces (count a b c d : ℕ) : Type 0 where
+  pub first : a < count
+  pub second : b < count
+  pub third : c < count
+  pub fourth : d < count
 
 -- what a table has at two places less what it has at two others
 abbrev pub balance_at : List ℤ → ℕ → ℕ → ℕ → ℕ → ℤ
@@ -64,15 +78,20 @@ pub record IsLeastOverHidden (table : List ℤ) (p : ThreePart) : Type 0 where
   pub lower : (w x y z : Bool) → entry_of_three table x y z ≤ℤ part_value p w x y z
   pub reached : (x y z : Bool) → (w : Bool) × (part_value p w x y z ≡ entry_of_three table x y z)
 
+-- what the arcs between the variables carry, by what a table has where one variable is 0
+pub record AreArcsAtZeros (table : List ℤ) (arcs : ThreeArcs) : Type 0 where
+  pub first_second : pos arcs.first_second ≡ balance_at table 2 4 0 6
+  pub first_third : pos arcs.first_third ≡ balance_at table 1 4 0 5
+  pub second_third : pos arcs.second_third ≡ balance_at table 1 2 0 3
+  pub small : arcs.first_second + arcs.first_third + arcs.second_third ≤ 12 * value_limit
+
 -- the parts of a table by what it has where one variable is 0, and a hidden node of this weight
 pub record IsSplitAtZeros (table : List ℤ) (weight : ℤ) (p : ThreePart) : Type 0 where
   pub constant : p.constant ≡ entry table 0
   pub first : p.first ≡ entry table 4 -ℤ entry table 0
   pub second : p.second ≡ entry table 6 -ℤ entry table 4
   pub third : p.third ≡ balance_at table 0 3 1 2 +ℤ (entry table 5 -ℤ entry table 4)
-  pub first_second : pos p.arcs.first_second ≡ balance_at table 2 4 0 6
-  pub first_third : pos p.arcs.first_third ≡ balance_at table 1 4 0 5
-  pub second_third : pos p.arcs.second_third ≡ balance_at table 1 2 0 3
+  pub arcs : AreArcsAtZeros table p.arcs
   pub hidden : p.hidden ≡ weight
 
 -- the parts are small

@@ -28,7 +28,7 @@ fn sink_capacity(weight: i64) -> u64
 }
 
 /// What the source sends each node.
-fn source_capacities(alloc: Global, weights: &[i64]) -> Result<Vec<u64>, AllocError>
+pub fn source_capacities(alloc: Global, weights: &[i64]) -> Result<Vec<u64>, AllocError>
     ensures { IfOk result (λ v. v.items ≡ map source_part weights.now) }
 {
     weights
@@ -38,7 +38,7 @@ fn source_capacities(alloc: Global, weights: &[i64]) -> Result<Vec<u64>, AllocEr
 }
 
 /// What each node sends the sink.
-fn sink_capacities(alloc: Global, weights: &[i64]) -> Result<Vec<u64>, AllocError>
+pub fn sink_capacities(alloc: Global, weights: &[i64]) -> Result<Vec<u64>, AllocError>
     ensures { IfOk result (λ v. v.items ≡ map sink_part weights.now) }
 {
     weights

@@ -11,7 +11,7 @@ mod quadratic;
 mod three;
 mod tied;
 
-pub use capacities::net_of;
+pub use capacities::{net_of, sink_capacities, source_capacities};
 pub use compiled::{Compiled, compile};
 pub use flow_network::{Arc, Net, Solved, check_cut};
 pub use laws::smallest_cut_is_smallest_assignment;

@@ -4,7 +4,8 @@ ghost use Rattle.std.specs.Prelude.{unsigned_abs};
 ghost use Rattle.pseudo_bool.specs.Limits.{value_limit};
 ghost use Rattle.pseudo_bool.specs.Energies.{entry, IsValue};
 ghost use Rattle.regular.specs.Regularity.{IsRegularTable};
-ghost use Rattle.compile_cut.specs.Three.{balance_at};
+ghost use Rattle.compile_cut.specs.Three.{balance_at, AreFourPlaces};
+ghost use Rattle.compile_cut.specs.Parts.{IsOnePart, IsPairPart};
 
 /// What a table has at a place less what it has at another.
 pub fn difference(table: &[i64], above: usize, below: usize) -> i64
@@ -19,8 +20,7 @@ pub fn difference(table: &[i64], above: usize, below: usize) -> i64
 /// What a table has at two places less what it has at two others.
 pub fn balance(table: &[i64], a: usize, b: usize, c: usize, d: usize) -> i64
     requires values { All IsValue table.now }
-    requires places { (a < length table.now) × (b < length table.now) × (c < length table.now)
-        × (d < length table.now) }
+    requires places { AreFourPlaces (length table.now) a b c d }
     ensures value { result ≡ balance_at table.now a b c d }
     ensures small { unsigned_abs result ≤ 4 * value_limit }
 {
@@ -42,8 +42,7 @@ fn balance_of(a: i64, b: i64, c: i64, d: i64) -> i64
 /// What a table has at two places less what it has at two others, where that is no more.
 pub fn gain(table: &[i64], a: usize, b: usize, c: usize, d: usize) -> u64
     requires values { All IsValue table.now }
-    requires places { (a < length table.now) × (b < length table.now) × (c < length table.now)
-        × (d < length table.now) }
+    requires places { AreFourPlaces (length table.now) a b c d }
     requires regular { (entry table.now c +ℤ entry table.now d)
         ≤ℤ (entry table.now a +ℤ entry table.now b) }
     ensures value { pos result ≡ balance_at table.now a b c d }
@@ -72,10 +71,7 @@ pub struct OnePart {
 /// The table's parts: its value is the constant, and the weight where the variable is 1.
 pub fn split_one(table: &[i64; 2]) -> OnePart
     requires { All IsValue table.now }
-    ensures constant { result.constant ≡ entry table.now 0 }
-    ensures weight { result.weight ≡ entry table.now 1 -ℤ entry table.now 0 }
-    ensures small_constant { IsValue result.constant }
-    ensures small_weight { unsigned_abs result.weight ≤ 2 * value_limit }
+    ensures { IsOnePart table.now result }
 {
     OnePart {
         constant: table[0],
@@ -98,14 +94,7 @@ pub struct PairPart {
 pub fn split_pair(table: &[i64; 4]) -> PairPart
     requires values { All IsValue table.now }
     requires regular { IsRegularTable table.now }
-    ensures constant { result.constant ≡ entry table.now 0 }
-    ensures first { result.first ≡ entry table.now 2 -ℤ entry table.now 0 }
-    ensures second { result.second ≡ entry table.now 3 -ℤ entry table.now 2 }
-    ensures arc { pos result.arc ≡ balance_at table.now 1 2 0 3 }
-    ensures small_constant { IsValue result.constant }
-    ensures small_first { unsigned_abs result.first ≤ 2 * value_limit }
-    ensures small_second { unsigned_abs result.second ≤ 2 * value_limit }
-    ensures small_arc { result.arc ≤ 4 * value_limit }
+    ensures { IsPairPart table.now result }
 {
     PairPart {
         constant: table[0],

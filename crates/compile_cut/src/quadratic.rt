@@ -6,9 +6,9 @@ ghost use Rattle.pseudo_bool.specs.Energies.{entry, digit, IsValue, IsTerm, IsEn
 ghost use Rattle.regular.specs.Regularity.{IsRegular, IsRegularTerm, IsRegularTable};
 ghost use Rattle.compile_cut.specs.Limits.{form_nodes};
 ghost use Rattle.compile_cut.specs.Quadratics.{quadratic_value, IsQuadraticBounded, IsConstant};
-ghost use Rattle.compile_cut.specs.Quadratics.{AddsTerm, SaysValues};
+ghost use Rattle.compile_cut.specs.Quadratics.{HasRoomForTerm, StaysBounded, AddsTerm, SaysValues};
 ghost use Rattle.compile_cut.specs.Shown.{three_count};
-ghost use Rattle.compile_cut.specs.Three.{AreNodesBelow, AreProjectionsRegular};
+ghost use Rattle.compile_cut.specs.Three.{AreNodesBelow, IsRegularOfThree};
 
 use crate::adding::{
     Nodes, add_arc, add_hidden_arcs, add_three_arcs, add_three_weights, add_weight,
@@ -67,8 +67,7 @@ impl Quadratic {
         requires first { first < vec_len self.old.weights }
         requires values { All IsValue table.now }
         ensures len { vec_len self.new.weights ≡ vec_len self.old.weights }
-        ensures bounded { (k : ℕ) → IsQuadraticBounded k self.old
-            → IsQuadraticBounded (k + 1) self.new }
+        ensures bounded { StaysBounded self.old self.new }
         ensures value { (x : ℕ → Bool) → quadratic_value self.new x ≡ quadratic_value self.old x
             +ℤ entry table.now (digit (x first)) }
     {
@@ -89,8 +88,7 @@ impl Quadratic {
         requires values { All IsValue table.now }
         requires regular { IsRegularTable table.now }
         ensures len { vec_len self.new.weights ≡ vec_len self.old.weights }
-        ensures bounded { OnOk result
-            ((k : ℕ) → IsQuadraticBounded k self.old → IsQuadraticBounded (k + 1) self.new) }
+        ensures bounded { OnOk result (StaysBounded self.old self.new) }
         ensures value { OnOk result ((x : ℕ → Bool) → quadratic_value self.new x
             ≡ quadratic_value self.old x
             +ℤ entry table.now (2 * digit (x first) + digit (x second))) }
@@ -105,11 +103,9 @@ impl Quadratic {
 
     /// Adds a regular table over three variables, with a hidden node.
     fn add_three(&mut self, nodes: Nodes, table: &[i64; 8]) -> Result<(), AllocError>
-        requires bounded { IsQuadraticBounded term_limit self.old }
-        requires room { vec_len self.old.weights < form_nodes }
+        requires form { HasRoomForTerm self.old }
         requires nodes { AreNodesBelow (vec_len self.old.weights) nodes }
-        requires values { All IsValue table.now }
-        requires regular { AreProjectionsRegular table.now }
+        requires table { IsRegularOfThree table.now }
         ensures { OnOk result (AddsTerm self.old self.new
             (Term.Three nodes.first nodes.second nodes.third table.now)) }
     {
@@ -125,10 +121,9 @@ impl Quadratic {
 
     /// Adds a regular term over variables that have their nodes.
     fn add_term(&mut self, term: &Term) -> Result<(), AllocError>
-        requires bounded { IsQuadraticBounded term_limit self.old }
+        requires form { HasRoomForTerm self.old }
         requires term { IsTerm (vec_len self.old.weights) term.now }
         requires regular { IsRegularTerm term.now }
-        requires room { vec_len self.old.weights < form_nodes }
         ensures { OnOk result (AddsTerm self.old self.new term.now) }
     {
         match term {

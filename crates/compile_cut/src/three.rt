@@ -4,7 +4,7 @@ ghost use Rattle.std.specs.Prelude.{unsigned_abs};
 ghost use Rattle.pseudo_bool.specs.Limits.{value_limit};
 ghost use Rattle.pseudo_bool.specs.Energies.{entry, IsValue};
 ghost use Rattle.compile_cut.specs.Three.{balance_at, cubic_weight, turned_table, part_value};
-ghost use Rattle.compile_cut.specs.Three.{AreProjectionsRegular, IsLeastOverHidden};
+ghost use Rattle.compile_cut.specs.Three.{IsRegularOfThree, IsLeastOverHidden, AreArcsAtZeros};
 ghost use Rattle.compile_cut.specs.Three.{IsSplitAtZeros, IsThreePartSmall};
 
 use crate::parts::{balance, difference, gain, sum};
@@ -34,8 +34,7 @@ pub struct ThreePart {
 /// where it is above 0, they come from those of the table over the complemented variables
 /// (Kolmogorov and Zabih 2004, section 4.2).
 pub fn split_three(table: &[i64; 8]) -> ThreePart
-    requires values { All IsValue table.now }
-    requires regular { AreProjectionsRegular table.now }
+    requires { IsRegularOfThree table.now }
     ensures value { IsLeastOverHidden table.now result }
     ensures small { IsThreePartSmall result }
 {
@@ -99,8 +98,7 @@ fn turned_part(part: &ThreePart, constant: i64) -> ThreePart
 /// The parts by what the table has where one variable is 0: the product's coefficient, the hidden
 /// weight, is at most 0.
 fn split_at_zeros(table: &[i64; 8], hidden: i64) -> ThreePart
-    requires values { All IsValue table.now }
-    requires regular { AreProjectionsRegular table.now }
+    requires table { IsRegularOfThree table.now }
     requires hidden { unsigned_abs hidden ≤ 8 * value_limit }
     ensures value { IsSplitAtZeros table.now hidden result }
     ensures small { IsThreePartSmall result }
@@ -117,13 +115,8 @@ fn split_at_zeros(table: &[i64; 8], hidden: i64) -> ThreePart
 
 /// What the arcs carry, by what the table has where one variable is 0.
 fn arcs_at_zeros(table: &[i64; 8]) -> ThreeArcs
-    requires values { All IsValue table.now }
-    requires regular { AreProjectionsRegular table.now }
-    ensures first_second { pos result.first_second ≡ balance_at table.now 2 4 0 6 }
-    ensures first_third { pos result.first_third ≡ balance_at table.now 1 4 0 5 }
-    ensures second_third { pos result.second_third ≡ balance_at table.now 1 2 0 3 }
-    ensures small { result.first_second + result.first_third + result.second_third
-        ≤ 12 * value_limit }
+    requires { IsRegularOfThree table.now }
+    ensures { AreArcsAtZeros table.now result }
 {
     ThreeArcs {
         first_second: gain(table, 2, 4, 0, 6),

@@ -3,10 +3,9 @@ ghost use Rattle.std.specs.Prelude.{ℕ, ◌+◌, ◌*◌, ◌<◌, ◌≤◌, n
 ghost use Rattle.std.specs.Prelude.{sum_by, vec_len, OnOk};
 ghost use Rattle.std.specs.List.{list_all, list_any};
 ghost use Rattle.sums.specs.Sums.{count_if};
-ghost use Rattle.pseudo_bool.specs.Limits.{value_limit, term_limit};
-ghost use Rattle.compile_cut.specs.Limits.{form_nodes};
+ghost use Rattle.pseudo_bool.specs.Limits.{value_limit};
 ghost use Rattle.compile_cut.specs.Weights.{AddsArcs};
-ghost use Rattle.compile_cut.specs.Quadratics.{IsQuadraticBounded, AddsLeast, IsTied};
+ghost use Rattle.compile_cut.specs.Quadratics.{HasRoomForTerm, AddsLeast, IsTied};
 
 use crate::adding::add_arc;
 use crate::quadratic::Quadratic;
@@ -48,8 +47,7 @@ impl Quadratic {
     /// the cost, or the old one where each is 1. Refuses only where memory runs out, and then
     /// nothing is said of the form.
     pub fn add_unless_all(&mut self, nodes: &[u32], cost: u64) -> Result<(), AllocError>
-        requires bounded { IsQuadraticBounded term_limit self.old }
-        requires room { vec_len self.old.weights < form_nodes }
+        requires form { HasRoomForTerm self.old }
         requires nodes { All (λ node. node < vec_len self.old.weights) nodes.now }
         requires cost { cost ≤ value_limit }
         ensures tied { OnOk result (IsTied (length nodes.now + 1) cost self.old self.new) }
@@ -66,8 +64,7 @@ impl Quadratic {
     /// Adds a cost that is paid if any of these nodes is 1, by a hidden node, as `add_unless_all`
     /// does.
     pub fn add_if_any(&mut self, nodes: &[u32], cost: u64) -> Result<(), AllocError>
-        requires bounded { IsQuadraticBounded term_limit self.old }
-        requires room { vec_len self.old.weights < form_nodes }
+        requires form { HasRoomForTerm self.old }
         requires nodes { All (λ node. node < vec_len self.old.weights) nodes.now }
         requires cost { cost ≤ value_limit }
         ensures tied { OnOk result (IsTied (length nodes.now + 1) cost self.old self.new) }

@@ -1,4 +1,4 @@
--- The queue over a turn of a node.
+-- The queue while a node is discharged.
 use Rattle.std.proofs.Common.{◌≡◌, ◌≢◌, ℕ, zero, suc, ◌<◌, inl, inr, List, [], ◌∷◌, slice_index, Contains, sym, ap, arith}
 use Rattle.std.proofs.lemmas.Bool.{cases_lt, cases_eq}
 use Rattle.plain_cut.specs.declared.work.Work.{Work}

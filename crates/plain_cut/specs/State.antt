@@ -128,9 +128,9 @@ pub record IsWave (net : Network) (old new : Work) : Type 0 where
   pub fall : work_measure net new ≤ work_measure net old
   pub counted : work_measure net new + new.relabels ≤ work_measure net old + old.relabels
 
--- the work at the start of a round: of the nodes whose label is below the limit none with excess is
+-- the work at the start of a phase: of the nodes whose label is below the limit none with excess is
 -- forgotten, and the others stand aside
-pub record IsRoundStart (net : Network) (limit : ℕ) (old new : Work) : Type 0 where
+pub record IsPhaseStart (net : Network) (limit : ℕ) (old new : Work) : Type 0 where
   pub work : IsWork net new
   pub counted : work_measure net new + new.relabels ≤ work_measure net old
   pub queued : IsQueuedBut net limit (nodes net) new

@@ -5,13 +5,15 @@ ghost use Rattle.std.specs.Simd.Lanes.{zip2};
 ghost use Rattle.flow_network.specs.Cut.{nodes, set_of, with_larger_sinks, AreExtras, IsNet};
 ghost use Rattle.flow_network.specs.Cut.{IsSmallestLeastCut, LiesWithin};
 ghost use Rattle.sink_distances.specs.Distances.{AreDistancesButZeros};
+ghost use Rattle.sink_distances.specs.Laid.{laid_net};
+ghost use Rattle.sink_distances.specs.Standing.{AreLaid};
 ghost use Rattle.plain_cut.specs.State.{work_flow, IsWork, HasNoActiveNode};
 
-use crate::solver::{finish, least_side, settle};
+use crate::solver::{finish, least_side, maximise};
 use crate::work::Work;
 use crate::workspace::Workspace;
 use flow_network::{Graph, Net};
-use sink_distances::{Outline, Spare, rows_of};
+use sink_distances::{Laid, Outline, Rows, Spare, rows_of};
 use std::alloc::{AllocError, Global};
 use std::mem::replace;
 
@@ -119,8 +121,42 @@ fn wider_side(
         return least_side(alloc, net, work);
     }
     add_room(net, wider, work, more);
-    settle(wider, work, order, found)?;
+    maximise(wider, work, order, found)?;
     least_side(alloc, wider, work)
+}
+
+/// The sink sides of the smallest least cuts of the net and of the wider one, of work that is
+/// finished in the net. The workspace takes over what it stood in.
+fn cut_again(
+    alloc: Global,
+    net: &Outline,
+    wider: &Outline,
+    mut work: Work,
+    more: &[u64],
+    space: &mut Workspace,
+) -> Result<BothSides, AllocError>
+    requires limits { IsNet net.now }
+    requires extras { AreExtras net.now more.now }
+    requires wider { wider.now ≡ with_larger_sinks net.now more.now }
+    requires work { IsWork net.now work }
+    requires finished { HasNoActiveNode net.now work }
+    requires exact { AreDistancesButZeros net.now (work_flow net.now work) work.labels.items }
+    requires order { length space.old.order.items ≡ nodes net.now }
+    requires found { length space.old.found.items ≡ nodes net.now }
+    ensures lower_bits { IfOk result (λ sides. length sides.lower.items ≡ nodes net.now) }
+    ensures upper_bits { IfOk result (λ sides. length sides.upper.items ≡ nodes net.now) }
+    ensures lower { IfOk result (λ sides. IsSmallestLeastCut net.now (set_of sides.lower.items)) }
+    ensures upper { IfOk result (λ sides. IsSmallestLeastCut
+        (with_larger_sinks net.now more.now) (set_of sides.upper.items)) }
+    ensures within { IfOk result (λ sides.
+        LiesWithin (nodes net.now) (set_of sides.lower.items) (set_of sides.upper.items)) }
+{
+    let lower = least_side(alloc, net, &work)?;
+    let order = space.order.as_mut_slice();
+    let found = space.found.as_mut_slice();
+    let upper = wider_side(alloc, net, wider, &mut work, more, order, found)?;
+    space.keep(alloc, work);
+    Ok(BothSides { lower, upper })
 }
 
 /// The sink sides of the smallest least cuts of the net, and of the net in which each node can send
@@ -152,11 +188,36 @@ pub fn both_sides_in(
     let wider = Outline::of(&graph);
     let spare = replace(&mut space.rows, Spare::new(alloc));
     let rows = rows_of(graph, spare)?;
-    let mut work = finish(alloc, &outline, rows, sources, sinks, space)?;
-    let lower = least_side(alloc, &outline, &work)?;
-    let order = space.order.as_mut_slice();
-    let found = space.found.as_mut_slice();
-    let upper = wider_side(alloc, &outline, &wider, &mut work, more, order, found)?;
-    space.keep(alloc, work);
-    Ok(BothSides { lower, upper })
+    let work = finish(alloc, &outline, rows, sources, sinks, space)?;
+    cut_again(alloc, &outline, &wider, work, more, space)
+}
+
+/// What `both_sides_in` answers, of a net that stands in rows.
+pub fn both_sides_of(
+    alloc: Global,
+    laid: Laid,
+    more: &Vec<u64>,
+    space: &mut Workspace,
+) -> Result<BothSides, AllocError>
+    requires laid { AreLaid laid }
+    requires extras { AreExtras (laid_net laid) more.now.items }
+    requires limits { IsNet (laid_net laid) }
+    ensures lower_bits { IfOk result (λ sides. length sides.lower.items ≡ nodes (laid_net laid)) }
+    ensures upper_bits { IfOk result (λ sides. length sides.upper.items ≡ nodes (laid_net laid)) }
+    ensures lower { IfOk result
+        (λ sides. IsSmallestLeastCut (laid_net laid) (set_of sides.lower.items)) }
+    ensures upper { IfOk result (λ sides. IsSmallestLeastCut
+        (with_larger_sinks (laid_net laid) more.now.items) (set_of sides.upper.items)) }
+    ensures within { IfOk result (λ sides. LiesWithin (nodes (laid_net laid))
+        (set_of sides.lower.items) (set_of sides.upper.items)) }
+{
+    let outline = Outline::of_laid(&laid);
+    let wider = Outline::of_wider(&laid, more);
+    let rows = Rows {
+        net: Outline::of_laid(&laid),
+        starts: laid.starts,
+        cells: laid.cells,
+    };
+    let work = finish(alloc, &outline, rows, laid.sources, laid.sinks, space)?;
+    cut_again(alloc, &outline, &wider, work, more, space)
 }

@@ -1,4 +1,4 @@
-//! The least cut of a net on one thread, round after round.
+//! The least cut of a net on one thread, phase after phase.
 ghost use Rattle.std.specs.Prelude.{◌≡◌, ◌-◌, ◌<◌, ◌≤◌, ℕ, IfOk, IsTrue, OnOk, length, slice_index};
 ghost use Rattle.std.specs.Simd.Lanes.{zip2};
 ghost use Rattle.flow_network.specs.Limits.{capacity_limit};
@@ -11,9 +11,9 @@ ghost use Rattle.sink_distances.specs.Rows.{carried_flow, firsts_of, first_at, s
 ghost use Rattle.sink_distances.specs.Rows.{places_of, IsRows, CarryNothing};
 ghost use Rattle.plain_cut.specs.State.{work_flow, IsWork, IsRaised, HasNoActiveNode};
 
+use crate::discharges::discharge_all;
 use crate::opening::open;
-use crate::rounds::begin_round;
-use crate::turns::take_turns;
+use crate::phases::begin_phase;
 use crate::work::{Work, raise_near};
 use crate::workspace::Workspace;
 use flow_network::{Net, Solved, cut_capacity};
@@ -51,7 +51,7 @@ pub fn finish(
     let mut order = zeros(replace(&mut space.order, Vec::new(alloc)), nodes)?;
     let mut found = zeros(replace(&mut space.found, Vec::new(alloc)), nodes)?;
     let mut work = open(net, rows, sources, sinks, labels, queue)?;
-    settle(net, &mut work, order.as_mut_slice(), found.as_mut_slice())?;
+    maximise(net, &mut work, order.as_mut_slice(), found.as_mut_slice())?;
     space.order = order;
     space.found = found;
     Ok(work)
@@ -59,7 +59,7 @@ pub fn finish(
 
 /// Whether the search that ended at this limit was a full one, and no node that reaches the sink
 /// has excess.
-fn is_settled(net: &Outline, work: &Work, limit: u32) -> bool
+fn is_maximum(net: &Outline, work: &Work, limit: u32) -> bool
     requires { IsWork net.now work.now }
     ensures full { IsTrue result → top net.now ≤ limit }
     ensures finished { IsTrue result → HasNoActiveNode net.now work.now }
@@ -76,8 +76,8 @@ fn is_settled(net: &Outline, work: &Work, limit: u32) -> bool
     true
 }
 
-/// How many times the room is looked for after a round: twice as many as before it, where its queue
-/// is empty. So only 64 rounds of a cut have few new labels.
+/// How many times the room is looked for after a phase: twice as many as before it, where its queue
+/// is empty. So only 64 phases of a cut have few new labels.
 fn times_after(work: &Work, times: u64) -> u64 {
     if work.queue.is_empty() {
         times.saturating_mul(2)
@@ -86,7 +86,7 @@ fn times_after(work: &Work, times: u64) -> u64 {
     }
 }
 
-/// A search after a round: one that ends early; or a full one where the round has given no new
+/// A search after a phase: one that ends early; or a full one where the phase has given no new
 /// label.
 fn search_again(
     net: &Outline,
@@ -114,13 +114,13 @@ fn search_again(
     }
 }
 
-/// Rounds until no node that reaches the sink has excess; at the end the labels are the exact
+/// Phases until no node that reaches the sink has excess; at the end the labels are the exact
 /// distances, but that nodes of label 0 keep it. Where none has excess at the start, all that is
 /// done is to find these.
 ///
-/// Each round begins with a search, and ends where no node that it found has excess, or there were
+/// Each phase begins with a search, and ends where no node that it found has excess, or there were
 /// many new labels.
-pub fn settle(
+pub fn maximise(
     net: &Outline,
     work: &mut Work,
     order: &mut [u32],
@@ -137,9 +137,9 @@ pub fn settle(
 {
     let mut times = 2;
     let mut extent = raise_near(net, work, times, order, found);
-    'rounds: while !is_settled(net, work, extent.limit) {
-        begin_round(net, work, &order[..extent.count], extent.limit)?;
-        take_turns(net, work, extent.limit)?;
+    'phases: while !is_maximum(net, work, extent.limit) {
+        begin_phase(net, work, &order[..extent.count], extent.limit)?;
+        discharge_all(net, work, extent.limit)?;
         let last = work.relabels == 0 && extent.limit == net.top_label();
         times = times_after(work, times);
         extent = search_again(net, work, times, order, found);
@@ -156,7 +156,7 @@ pub fn settle(
 ///
 /// The preflow method with one queue, first in and first out (Goldberg, Tarjan 1988, "A new
 /// approach to the maximum-flow problem", sections 2 to 4). First excess goes from each node to
-/// higher ones, back to lower ones, and up once more, with no labels yet; then come rounds. A round
+/// higher ones, back to lower ones, and up once more, with no labels yet; then come phases. A phase
 /// raises the labels to the exact distances (Cherkassky, Goldberg 1997, "On implementing the
 /// push-relabel method for the maximum flow problem"), by a search from the sink that ends at the
 /// level at which it has found more than twice as much excess as the sink can still take; later

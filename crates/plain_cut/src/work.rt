@@ -8,12 +8,12 @@ ghost use Rattle.sink_distances.specs.Distances.{AreDistancesButZeros};
 ghost use Rattle.sink_distances.specs.Rows.{IsRows, CarryNothing};
 ghost use Rattle.plain_cut.specs.State.{work_flow, IsWork, IsRaised, IsUnlabelled};
 
-use sink_distances::{Extent, Outline, Rows, raise_labels};
+use sink_distances::{Aim, Extent, Outline, Rows, raise_labels};
 use std::alloc::AllocError;
 use std::collections::VecDeque;
 
-/// What the solver changes: a preflow, its excess, the labels, and the nodes that wait for their
-/// turn.
+/// What the solver changes: a preflow, its excess, the labels, and the nodes that wait in
+/// its queue.
 #[derive(Drop)]
 pub struct Work {
     /// The directions of each node's arcs, and what each can still carry.
@@ -25,7 +25,7 @@ pub struct Work {
     /// Of each node at most the number of residual directions that lead to the sink, or
     /// `top_label`; 0 where the node counts as the sink itself.
     pub labels: Vec<u32>,
-    /// Nodes that had excess when they came, in the order of their turns.
+    /// Nodes that had excess when they came, the one that came first in front.
     pub queue: VecDeque<u32>,
     /// How many new labels there were since all labels were raised by a search.
     pub relabels: usize,
@@ -119,12 +119,15 @@ pub fn raise_near(
     ensures counted { work.new.relabels ≡ 0 }
 {
     work.relabels = 0;
+    let aim = Aim {
+        excess: work.excess.as_slice(),
+        times,
+    };
     raise_labels(
         net,
         &work.rows,
         work.rooms.as_slice(),
-        work.excess.as_slice(),
-        times,
+        &aim,
         work.labels.as_mut_slice(),
         found,
         order,

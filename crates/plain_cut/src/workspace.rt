@@ -3,6 +3,7 @@ use crate::work::Work;
 use sink_distances::Spare;
 use std::alloc::Global;
 use std::collections::VecDeque;
+use std::mem::replace;
 
 /// The lists of a solver between two nets: what they stood in serves the next. What they hold does
 /// not matter.
@@ -33,6 +34,11 @@ impl Workspace {
             order: Vec::new(alloc),
             found: Vec::new(alloc),
         }
+    }
+
+    /// Takes out what the rows of the last net stood in.
+    pub fn take_rows(&mut self, alloc: Global) -> Spare {
+        replace(&mut self.rows, Spare::new(alloc))
     }
 
     /// Takes the lists of work that is done, where they are kept.

@@ -5,5 +5,6 @@ pub mod Scanning
 pub mod Searching
 pub mod Showing
 pub mod Making
+pub mod Putting
 pub mod Seeing
 pub mod Nearing

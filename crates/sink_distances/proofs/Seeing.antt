@@ -39,6 +39,19 @@ seen_more net rows w label p s t u before fits g marked = record {
   ];
 }
 
+-- one more is seen that has nothing to label
+pub seen_none : (net : Network) (rows : Rows) (w label p : ℕ) (s t : Search) → IsSeen net rows w label p s t
+    → residual_at rows (opposite_at rows p) ≤ 0 → IsSeen net rows w label (p + 1) s t
+seen_none net rows w label p s t before none = record {
+  grows = before.grows;
+  marked = λ q low high some. elim (cases_lt q p) [
+    | inl less ↦ before.marked q low less some
+    | inr last ↦
+        let same : q ≡ p = omega (arith, high, last) in
+        absurd (omega (arith, none, rw same at some))
+  ];
+}
+
 -- all of the row were seen
 pub seen_all : (net : Network) (rows : Rows) (w label p : ℕ) (s t : Search) → IsRows net rows → IsSeen net rows w label p s t
     → start_at rows (w + 1) ≤ p → (v : ℕ) → IsBefore net (carried_flow rows) w v → search_label t v ≤ label

@@ -3,3 +3,7 @@ pub mod Distances
 pub mod Search
 pub mod Rows
 pub mod Laws
+pub mod Laid
+pub mod Shapes
+pub mod Standing
+pub mod Laying

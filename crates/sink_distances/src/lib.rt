@@ -11,6 +11,8 @@ ghost use Rattle.sink_distances.specs.Laws.{DistancesLabel, DistancesRise, Dista
 mod adjacency;
 mod filling;
 mod labels;
+mod laid;
+mod laying;
 mod near;
 mod outline;
 mod rooms;
@@ -21,11 +23,13 @@ mod side;
 pub use adjacency::{Adjacency, arcs_by_node};
 pub use filling::{rows_by_node, rows_of, zeros};
 pub use labels::top_label;
-pub use near::{Extent, raise_labels};
+pub use laid::Laid;
+pub use laying::Laying;
+pub use near::{Aim, Extent, raise_labels};
 pub use outline::Outline;
 pub use rooms::are_rooms;
 pub use rows::{Cell, Rows, Spare};
-pub use search::{mark, write_distances, write_row_distances};
+pub use search::{mark, write_distances};
 pub use side::{distances, side_below, sink_side};
 
 /// A law: distances are labels that fall by at most 1 along each residual direction.

@@ -24,6 +24,16 @@ pub struct Extent {
     pub count: usize,
 }
 
+/// What a search is to find before it ends: so many times as much excess of nodes as there is room
+/// to the sink. Where `times` is the greatest number there is, it is a full one.
+#[derive(Clone, Copy)]
+pub struct Aim<'a> {
+    /// What each node has got and not passed on.
+    pub excess: &'a [u64],
+    /// How many times the room is looked for.
+    pub times: u64,
+}
+
 /// When a search ends early: once the nodes that were found have more than enough excess. A whole
 /// search does not.
 #[derive(Clone, Copy)]
@@ -73,9 +83,9 @@ fn with_excess(seen: u64, excess: &[u64], order: &[u32]) -> u64 {
     sum
 }
 
-/// Searches as `write_row_distances` does, but passes over the nodes of label 0. It ends at the
-/// level by which the nodes that were found have more than enough excess: that level is the last
-/// that was found, and one above it the limit.
+/// Searches from the sink backwards, and passes over the nodes of label 0. It ends at the level by
+/// which the nodes that were found have more than enough excess: that level is the last that was
+/// found, and one above it the limit.
 fn search_near(
     net: &Outline,
     rows: &Rows,
@@ -137,10 +147,9 @@ fn raise_to(labels: &mut [u32], found: &[u32], limit: u32)
     }
 }
 
-/// Raises labels by a search that ends early: once the nearest nodes have more than `times` as much
-/// excess as there is room to the sink, none beyond their level is looked for. Labels below the
-/// limit that it answers are then exact distances, and where the limit is the top label all are.
-/// Where `times` is the greatest number there is, the search is a full one.
+/// Raises labels by a search that ends early: once the nearest nodes have more excess than the aim
+/// says, none beyond their level is looked for. Labels below the limit that it answers are then
+/// exact distances, and where the limit is the top label all are.
 ///
 /// Nodes of label 0 count as the sink itself: they keep that label, are passed over by the search,
 /// and their room is not counted. No residual direction may lead to them from other nodes.
@@ -150,8 +159,7 @@ pub fn raise_labels(
     net: &Outline,
     rows: &Rows,
     rooms: &[u64],
-    excess: &[u64],
-    times: u64,
+    aim: &Aim<'_>,
     labels: &mut [u32],
     found: &mut [u32],
     order: &mut [u32],
@@ -179,14 +187,14 @@ pub fn raise_labels(
     ensures full { result.limit ≡ top net.now →
         AreDistancesButZeros net.now (flow_by (carried_flow rows.now)
         (sink_flows net.now rooms.now)) labels.new }
-    ensures whole { times + 1 ≡ 2 ^ 64 → result.limit ≡ top net.now }
+    ensures whole { aim.now.times + 1 ≡ 2 ^ 64 → result.limit ≡ top net.now }
 {
     let _nodes = net.nodes();
-    let enough = room_times(labels, rooms, times);
+    let enough = room_times(labels, rooms, aim.times);
     let stop = Stop {
-        excess,
+        excess: aim.excess,
         enough,
-        whole: times == u64::MAX,
+        whole: aim.times == u64::MAX,
     };
     let extent = search_near(net, rows, rooms, labels, &stop, found, order);
     raise_to(labels, found, extent.limit);

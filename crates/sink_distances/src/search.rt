@@ -4,8 +4,7 @@ ghost use Rattle.flow_network.specs.Cut.{nodes, IsNet};
 ghost use Rattle.flow_network.specs.Preflow.{arc_at, flow_by, sink_flows, AreRooms};
 ghost use Rattle.sink_distances.specs.Adjacency.{IsAdjacency};
 ghost use Rattle.sink_distances.specs.Distances.{AreDistances};
-ghost use Rattle.sink_distances.specs.Rows.{carried_flow, head_at, opposite_at, residual_at};
-ghost use Rattle.sink_distances.specs.Rows.{IsPlace, IsRows};
+ghost use Rattle.sink_distances.specs.Rows.{carried_flow, IsRows};
 ghost use Rattle.sink_distances.specs.Search.{found_of, AreStartsButZeros, AreUnlabelledOrZero};
 ghost use Rattle.sink_distances.specs.Search.{IsBefore, IsNextLabel, Grows};
 
@@ -256,36 +255,8 @@ pub fn write_distances(
     }
 }
 
-/// Labels the node to which the direction leads, where what the way back can carry is not used up.
-fn mark_place(
-    net: &Outline,
-    rows: &Rows,
-    labels: &mut [u32],
-    order: &mut [u32],
-    count: usize,
-    w: usize,
-    p: usize,
-    label: u32,
-) -> usize
-    requires limits { IsNet net.now }
-    requires rows { IsRows net.now rows.now }
-    requires len { length labels.old ≡ nodes net.now }
-    requires node { w < nodes net.now }
-    requires place { IsPlace rows.now w p }
-    requires ready { IsNextLabel label (found_of labels.old order.old count) }
-    ensures grows { Grows label (IsBefore net.now (carried_flow rows.now) w)
-        (found_of labels.old order.old count) (found_of labels.new order.new result) }
-    ensures marked { 0 < residual_at rows.now (opposite_at rows.now p) →
-        slice_index labels.new (head_at rows.now p) ≤ label }
-{
-    if rows.back(p) > 0 {
-        mark(labels, order, count, rows.cell(p).head, label)
-    } else {
-        count
-    }
-}
-
-/// Labels the nodes that have a residual direction to the node.
+/// Labels the nodes that have a residual direction to the node: those to which its row leads, where
+/// what the way back can carry is not used up.
 fn mark_row(
     net: &Outline,
     rows: &Rows,
@@ -306,7 +277,9 @@ fn mark_row(
         → slice_index labels.new v ≤ label }
 {
     'row: for p in rows.starts[w]..rows.starts[w + 1] {
-        count = mark_place(net, rows, labels, order, count, w, p as usize, label);
+        if rows.back(p as usize) > 0 {
+            count = mark(labels, order, count, rows.cell(p as usize).head, label);
+        }
     }
     count
 }
@@ -334,29 +307,4 @@ pub(crate) fn mark_behind(
 {
     let label = labels[w] + 1;
     mark_row(net, rows, labels, order, count, w, label)
-}
-
-/// What `write_distances` writes, found over the rows of a net: `rows` tells what each arc carries.
-pub fn write_row_distances(
-    net: &Outline,
-    rows: &Rows,
-    rooms: &[u64],
-    labels: &mut [u32],
-    order: &mut [u32],
-)
-    requires rows { IsRows net.now rows.now }
-    requires rooms { AreRooms net.now rooms.now }
-    requires labels_len { length labels.old ≡ nodes net.now }
-    requires order_len { length order.old ≡ nodes net.now }
-    ensures { AreDistances net.now
-        (flow_by (carried_flow rows.now) (sink_flows net.now rooms.now)) labels.new }
-{
-    labels.fill(net.top_label());
-    let mut count = mark_starts(net, rooms, labels, order);
-    let mut next = 0;
-    'levels: while next < count {
-        let w = order[next] as usize;
-        count = mark_behind(net, rows, labels, order, count, w);
-        next += 1;
-    }
 }

@@ -4,17 +4,14 @@ use Rattle.std.specs.Prelude.{◌&&◌, ◌||◌, ◌==◌, not}
 use Rattle.std.proofs.lemmas.Bool.Decides.{nat_tests}
 use Rattle.sums.specs.Sums.{count_if}
 use Rattle.label_field.specs.declared.pair.Pair.{Pair}
-use Rattle.labellings.specs.declared.change.Move.{Move}
-use Rattle.labellings.specs.Energies.{Instance}
 use Rattle.compile_cut.specs.declared.quadratic.Quadratic.{Quadratic}
 use Rattle.move_energy.specs.declared.by_site.Neighbours.{Neighbours}
 use Rattle.move_energy.specs.declared.choice.Choice.{Choice}
 use Rattle.move_energy.specs.BySite.{neighbours_start, degree, neighbour_at, is_first, weight_at, pair_from, pair_beside, is_counted, met_below, met_at}
-use Rattle.move_energy.specs.Built.{AddsCost, IsLonger}
+use Rattle.move_energy.specs.Built.{AddsCost}
 use Rattle.move_energy.specs.Choices.{is_open}
-use Rattle.move_energy.specs.Weights.{are_open, unsaved_surplus, pair_surplus}
-use Rattle.move_energy.proofs.Steps.{longer_none, longer_still}
-use Rattle.move_energy.proofs.Adding.{cost_none, uncounted_longer, met_longer, met_adds}
+use Rattle.move_energy.specs.Weights.{are_open}
+use Rattle.move_energy.proofs.Adding.{cost_none, met_adds}
 
 both_are : (a b : Bool) → a ≡ true → b ≡ true → (a && b) ≡ true
 both_are true b h k = k
@@ -50,22 +47,6 @@ pub shut_beside : (choice : ℕ → Choice) (ends : Neighbours) (site place head
 shut_beside choice ends site place head at b =
     shut_from choice (is_first ends site place) site (neighbour_at ends place) (weight_at ends place) (ap (λ (p : ℕ). is_open (choice p)) (sym at) ∙ b)
 
--- then the pair adds nothing
-pub nothing_longer : (q : Quadratic) (b : Bool) → IsLonger (count_if b 1) q q
-nothing_longer q true = longer_still q
-nothing_longer q false = uncounted_longer q false refl
-
-counted_none : (a b : Bool) (z : ℕ) → a ≡ false → count_if b (count_if a z) ≡ 0
-counted_none true b z h = absurd (cc (h))
-counted_none false true z h = refl
-counted_none false false z h = refl
-
-pub nothing_adds : (m : Instance) (move : Move) (f : ℕ → ℕ) (choice : ℕ → Choice) (variable : ℕ → ℕ) (q : Quadratic) (pair : Pair) (b : Bool) → are_open choice pair ≡ false
-    → AddsCost q q (λ x. count_if b (unsaved_surplus m move f choice variable x pair))
-nothing_adds m move f choice variable q pair b shuts =
-    cost_none q (λ x. count_if b (unsaved_surplus m move f choice variable x pair))
-    (λ x. counted_none (are_open choice pair) b (count_if (not (x (variable pair.first) && x (variable pair.second))) (pair_surplus m move f pair)) shuts)
-
 -- ---- at which end it is added
 
 same_site : (a b : ℕ) → a ≡ b → (a == b) ≡ true
@@ -96,28 +77,11 @@ uncounted_second choice site pair h both =
 
 -- ---- the row of a site, neighbour by neighbour
 
-pub row_none : (ends : Neighbours) (chosen : ℕ → Bool) (site place : ℕ) (q : Quadratic) → place ≡ neighbours_start ends site
-    → IsLonger (met_below ends chosen (λ p. 1) site (place - neighbours_start ends site)) q q
-row_none ends chosen site place q at =
-    let P : ℕ → Type 0 = λ k. IsLonger (met_below ends chosen (λ p. 1) site k) q q in
-    subst P (let e : 0 ≡ place - neighbours_start ends site = omega (arith, at) in e) (longer_none q)
-
 pub nothing_adds_yet : (ends : Neighbours) (chosen : ℕ → Bool) (value : (ℕ → Bool) → Pair → ℕ) (site place : ℕ) (q : Quadratic) → place ≡ neighbours_start ends site
     → AddsCost q q (λ x. met_below ends chosen (value x) site (place - neighbours_start ends site))
 nothing_adds_yet ends chosen value site place q at =
     let P : ℕ → Type 0 = λ k. AddsCost q q (λ x. met_below ends chosen (value x) site k) in
     subst P (let e : 0 ≡ place - neighbours_start ends site = omega (arith, at) in e) (cost_none q (λ x. 0) (λ x. refl))
-
-pub row_longer : (ends : Neighbours) (chosen : ℕ → Bool) (site place : ℕ) (old now new : Quadratic) → neighbours_start ends site ≤ place
-    → IsLonger (met_below ends chosen (λ p. 1) site (place - neighbours_start ends site)) old now
-    → IsLonger (count_if (is_counted chosen site (pair_beside ends site place)) 1) now new
-    → IsLonger (met_below ends chosen (λ p. 1) site (place + 1 - neighbours_start ends site)) old new
-row_longer ends chosen site place old now new from so_far longer =
-    let k : ℕ = place - neighbours_start ends site in
-    let here : neighbours_start ends site + k ≡ place = omega (arith, from) in
-    let P : ℕ → Type 0 = λ n. IsLonger (met_below ends chosen (λ p. 1) site n) old new in
-    subst P (let e : k + 1 ≡ place + 1 - neighbours_start ends site = omega (arith, from) in e)
-    (met_longer ends chosen site k (pair_beside ends site place) old now new (ap (λ j. pair_beside ends site j) (sym here)) so_far longer)
 
 pub row_adds : (ends : Neighbours) (chosen : ℕ → Bool) (value : (ℕ → Bool) → Pair → ℕ) (site place : ℕ) (old now new : Quadratic) → neighbours_start ends site ≤ place
     → AddsCost old now (λ x. met_below ends chosen (value x) site (place - neighbours_start ends site))
@@ -129,12 +93,6 @@ row_adds ends chosen value site place old now new from so_far adds =
     let P : ℕ → Type 0 = λ n. AddsCost old new (λ x. met_below ends chosen (value x) site n) in
     subst P (let e : k + 1 ≡ place + 1 - neighbours_start ends site = omega (arith, from) in e)
     (met_adds ends chosen value site k (pair_beside ends site place) old now new (ap (λ j. pair_beside ends site j) (sym here)) so_far adds)
-
-pub row_longer_all : (ends : Neighbours) (chosen : ℕ → Bool) (site k : ℕ) (old new : Quadratic) → k ≡ degree ends site
-    → IsLonger (met_below ends chosen (λ p. 1) site k) old new → IsLonger (met_at ends chosen (λ p. 1) site) old new
-row_longer_all ends chosen site k old new all longer =
-    let P : ℕ → Type 0 = λ n. IsLonger (met_below ends chosen (λ p. 1) site n) old new in
-    subst P all longer
 
 pub row_adds_all : (ends : Neighbours) (chosen : ℕ → Bool) (value : (ℕ → Bool) → Pair → ℕ) (site k : ℕ) (old new : Quadratic) → k ≡ degree ends site
     → AddsCost old new (λ x. met_below ends chosen (value x) site k) → AddsCost old new (λ x. met_at ends chosen (value x) site)

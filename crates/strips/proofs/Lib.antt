@@ -3,6 +3,11 @@ pub mod Bounding
 pub mod Cuts
 pub mod Gathering
 pub mod Inside
+pub mod Meeting
+pub mod Saving
+pub mod RowForms
+pub mod RowSides
+pub mod Writing
 pub mod Laying
 pub mod Lessening
 pub mod Listing

@@ -20,7 +20,7 @@ use Rattle.closing_in.specs.Borders.{is_inside, range_of}
 use Rattle.closing_in.specs.Strips.{Strip, told_by}
 use Rattle.closing_in.specs.Telling.{IsStripListed}
 use Rattle.strips.specs.declared.material.StripSites.{StripSites}
-use Rattle.strips.specs.Building.{IsStripSized, IsStripForm}
+use Rattle.strips.specs.Building.{IsStripForm}
 use Rattle.strips.specs.Parts.{EndsWithStrip}
 use Rattle.strips.specs.Sides.{AreBounds, IsAsTold, IsLessBorder}
 use Rattle.strips.specs.Views.{KeepsChosen, strip_view}
@@ -109,14 +109,15 @@ ends_from m move f start known from to now count keeps ends = record {
 -- ---- the two cuts of a strip
 
 pub sides_bound : (m : Instance) (move : Move) (f : ℕ → ℕ) (known : List Choice) (sites : StripSites) (form : Quadratic) (borders : List ℕ) (sides : BothSides) → IsInstance m → IsAllowed m move f
-    → length known ≡ m.sites → AreOpenSites (strip_view known sites.from sites.to) sites.opened.now → IsStripSized sites form borders → IsStripForm m move f known sites form borders
+    → length known ≡ m.sites → AreOpenSites (strip_view known sites.from sites.to) sites.opened.now → length borders ≡ vec_len form.weights → vec_len form.weights ≡ length sites.opened.now
+    → IsStripForm m move f known sites form borders
     → IsSmallestLeast (vec_len form.weights) (quadratic_value form) (assignment sides.lower.items)
     → ((less : Quadratic) → IsLessBorder borders form less → IsSmallestLeast (vec_len form.weights) (quadratic_value less) (assignment sides.upper.items))
     → AreBounds m move f known sites.opened.now sides
-sides_bound m move f known sites form borders sides pairs allowed size listed sized built lower upper =
-    let less = less_exists borders form (sized.count ∙ sym sized.nodes) in (
+sides_bound m move f known sites form borders sides pairs allowed size listed count nodes built lower upper =
+    let less = less_exists borders form count in (
       strip_of known sites.from sites.to sides.lower.items sides.upper.items,
       strip_listed known sites.from sites.to sites.opened.now sides.lower.items sides.upper.items listed,
-      strip_bounded m move f known sites.from sites.to sites.opened.now borders form less.0 sides.lower.items sides.upper.items pairs allowed size listed built.stands sized.nodes built.each
+      strip_bounded m move f known sites.from sites.to sites.opened.now borders form less.0 sides.lower.items sides.upper.items pairs allowed size listed built.stands nodes built.each
           lower less.1 (upper less.0 less.1),
     )

@@ -1,22 +1,19 @@
 -- What a strip is built from: what its sites and pairs are, what is known of them, and a closure
 -- that answers what the two ends of a pair save together.
-use Rattle.std.specs.Prelude.{◌≡◌, ℕ, ◌<◌, ◌≤◌, ◌-◌, Bool, List, map, length, slice_index, sum}
-use Rattle.std.specs.Prelude.{ℤ, unsigned_abs, vec_len}
-use Rattle.label_field.specs.Limits.{site_limit}
+use Rattle.std.specs.Prelude.{◌≡◌, ℕ, ◌<◌, ◌≤◌, ◌-◌, Bool, List, map, length, slice_index}
+use Rattle.std.specs.Prelude.{ℤ, unsigned_abs}
 use Rattle.label_field.specs.declared.pair.Pair.{Pair}
 use Rattle.label_field.specs.PairLists.{IsPair, IsPairList, PairList}
 use Rattle.labellings.specs.declared.change.Move.{Move}
 use Rattle.labellings.specs.Energies.{Instance, IsInstance}
 use Rattle.labellings.specs.Moves.{IsAllowed}
-use Rattle.pseudo_bool.specs.Limits.{term_limit}
 use Rattle.compile_cut.specs.declared.quadratic.Quadratic.{Quadratic}
-use Rattle.compile_cut.specs.Quadratics.{IsQuadraticBounded}
 use Rattle.compile_cut.specs.Weights.{weights_size}
 use Rattle.move_energy.specs.declared.by_site.Neighbours.{Neighbours}
 use Rattle.move_energy.specs.declared.choice.Choice.{Choice}
 use Rattle.move_energy.specs.declared.choice.Choice.TheVariants.{Open}
 use Rattle.move_energy.specs.BySite.{AreBySite, is_counted, met_at, pair_beside}
-use Rattle.move_energy.specs.Choices.{choice_at, open_at, open_rank, open_count, AreOpenSites}
+use Rattle.move_energy.specs.Choices.{choice_at, open_at, open_rank, AreOpenSites}
 use Rattle.move_energy.specs.Choices.{StandsFor}
 use Rattle.move_energy.specs.Limits.{surplus_limit, weights_limit}
 use Rattle.move_energy.specs.Weights.{surplus_of, pair_table, unsaved_surplus}
@@ -24,7 +21,6 @@ use Rattle.deciding.specs.Parts.{site_weight}
 use Rattle.closing_in.specs.Borders.{border_at, range_of}
 use Rattle.strips.specs.declared.material.Material.{Material}
 use Rattle.strips.specs.declared.material.StripSites.{StripSites}
-use Rattle.strips.specs.Limits.{borders_limit}
 use Rattle.strips.specs.Views.{KeepsChosen, strip_view, weight_now}
 
 -- the closure takes each pair that the neighbours tell
@@ -95,20 +91,6 @@ pub record IsStripNumbering (known : List Choice) (sites : StripSites) (numbers 
   pub count : sites.to - sites.from ≤ length numbers
   pub each : (p : ℕ) → choice_at (strip_view known sites.from sites.to) p ≡ Open
       → slice_index numbers (p - sites.from) ≡ open_rank (strip_view known sites.from sites.to) p
-
--- the nodes of the form are the open sites of the strip, by these numbers
-pub record HasStripNodes (material : Material) (sites : StripSites) (numbers : List ℕ)
-    (form : Quadratic) : Type 0 where
-  pub numbering : IsStripNumbering material.known.now sites numbers
-  pub nodes : vec_len form.weights ≡ open_count (view_by sites material)
-
--- a form with a node for each listed site, and a border for each of them, in their limits
-pub record IsStripSized (sites : StripSites) (form : Quadratic) (borders : List ℕ) : Type 0 where
-  pub bounded : IsQuadraticBounded term_limit form
-  pub few : vec_len form.weights ≤ site_limit
-  pub nodes : vec_len form.weights ≡ length sites.opened.now
-  pub count : length borders ≡ length sites.opened.now
-  pub small : sum borders ≤ borders_limit
 
 -- the form stands for the move with the open sites outside the strip at 0, and these are the
 -- borders of the listed sites

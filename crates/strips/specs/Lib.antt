@@ -1,4 +1,7 @@
 pub mod Building
+pub mod Meeting
+pub mod RowForms
+pub mod Strips
 pub mod Closing
 pub mod Limits
 pub mod Parts

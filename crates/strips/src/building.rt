@@ -1,20 +1,21 @@
 //! The form of a strip and its border.
 ghost use Rattle.std.specs.Prelude.{◌≡◌, ◌<◌, ◌≤◌, ◌+◌, ◌+ℤ◌, ℕ, Bool, List, All, pos, length};
-ghost use Rattle.std.specs.Prelude.{vec_len, OnOk};
+ghost use Rattle.std.specs.Prelude.{vec_len, OnOk, replicate, []};
 ghost use Rattle.label_field.specs.Limits.{site_limit};
 ghost use Rattle.compile_cut.specs.Limits.{form_size};
-ghost use Rattle.compile_cut.specs.Quadratics.{IsConstant};
+ghost use Rattle.sink_distances.specs.Laying.{AreEndsCounted};
+ghost use Rattle.strips.specs.RowForms.{form_in};
 ghost use Rattle.compile_cut.specs.Weights.{weights_size, weights_value};
 ghost use Rattle.move_energy.specs.Choices.{AreOpenSites};
 ghost use Rattle.move_energy.specs.declared.choice.Choice.{Choice as AnyChoice};
 ghost use Rattle.strips.specs.Building.{CanAsk, CanBuild, WhereSaved, AreStartWeights};
 ghost use Rattle.strips.specs.Building.{AreWeighed, IsStripNumbering};
-ghost use Rattle.strips.specs.Building.{AreStripSites, IsStripSized, IsStripForm};
+ghost use Rattle.strips.specs.Building.{AreStripSites, IsStripForm};
+ghost use Rattle.strips.specs.Strips.{IsStripLaid};
 ghost use Rattle.strips.specs.Views.{strip_view};
 
-use crate::material::{Material, StripSites};
-use crate::rows::add_rows;
-use compile_cut::Quadratic;
+use crate::material::{Material, RowForm, StripSites};
+use crate::rows::{add_rows, count_rows};
 use label_field::Pair;
 use std::alloc::AllocError;
 
@@ -38,14 +39,16 @@ fn number_sites(numbers: &mut Vec<u32>, sites: &StripSites) -> Result<(), AllocE
     Ok(())
 }
 
-/// Makes a form the form 0 of so many nodes. Its lists keep their memory.
-fn clear_form(form: &mut Quadratic, nodes: usize) -> Result<(), AllocError>
-    ensures { OnOk result (IsConstant (pos 0) nodes form.new) }
+/// Begins the form of so many nodes, which weigh nothing and of which no pair is counted. Its lists
+/// keep their memory.
+fn begin_form(form: &mut RowForm, nodes: usize) -> Result<(), AllocError>
+    requires { nodes ≤ site_limit }
+    ensures weights { OnOk result (form.new.weights.items ≡ replicate nodes (pos 0)) }
+    ensures begun { OnOk result (AreEndsCounted nodes [] form.new.laying.nexts.items) }
 {
-    form.constant = 0;
-    form.arcs.clear();
     form.weights.clear();
     form.weights.resize(nodes, 0)?;
+    form.laying.begin(nodes)?;
     Ok(())
 }
 
@@ -78,7 +81,7 @@ pub(crate) fn build_strip<S: Fn(Pair) -> i64>(
     material: &Material,
     sites: &StripSites,
     numbers: &mut Vec<u32>,
-    form: &mut Quadratic,
+    form: &mut RowForm,
     list: &mut Vec<i64>,
     borders: &mut Vec<u64>,
 ) -> Result<(), AllocError>
@@ -86,13 +89,15 @@ pub(crate) fn build_strip<S: Fn(Pair) -> i64>(
     requires can { CanBuild material.now }
     requires opened { AreStripSites material.now sites.now }
     requires weighed { AreWeighed sites.now }
-    ensures sized { OnOk result (IsStripSized sites.now form.new borders.new.items) }
+    ensures sized { OnOk result (IsStripLaid sites.now form.new borders.new.items) }
     ensures built { WhereSaved (S.post savings.now) material.now (λ m move f.
         AreStartWeights material.now sites.now m move f → OnOk result (IsStripForm m move f
-        material.now.known.now sites.now form.new borders.new.items)) }
+        material.now.known.now sites.now (form_in form.new) borders.new.items)) }
 {
     number_sites(numbers, sites)?;
-    clear_form(form, sites.opened.len())?;
+    begin_form(form, sites.opened.len())?;
+    count_rows(material, sites, numbers, &mut form.laying);
+    form.laying.open()?;
     add_rows(savings, material, sites, form, numbers, list, borders)?;
     add_weights(&mut form.weights, list);
     Ok(())

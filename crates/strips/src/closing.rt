@@ -27,6 +27,7 @@ use crate::cutting::{build_asked, cut_asked, cut_strip, list_weights};
 use crate::material::{Basis, Material, Room, StripSites};
 use crate::opening::list_next;
 use crate::parting::read_weights;
+use crate::sides::write_form;
 use crate::telling::tell_strip;
 use deciding::{MoveToFind, RiseNumbers, told_surplus};
 use label_field::Pair;
@@ -215,9 +216,9 @@ impl Strips {
             basis,
             &built.variables.choices,
             &sites,
-            &mut built.form,
             &mut self.room,
         )?;
+        write_form(&self.room.form, &mut built.form)?;
         swap(&mut built.variables.of_sites, &mut self.room.numbers);
         Ok(())
     }

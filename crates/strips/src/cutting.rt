@@ -7,15 +7,16 @@ ghost use Rattle.move_energy.specs.Limits.{surplus_limit};
 ghost use Rattle.move_energy.specs.Weights.{weight_at, surplus_of, pair_table};
 ghost use Rattle.deciding.specs.Finding.{IsPosedMove, WhereFound};
 ghost use Rattle.strips.specs.Building.{CanAsk, CanBuild, WhereSaved, AreStartWeights};
-ghost use Rattle.strips.specs.Building.{AreStripSites, AreWeighed, IsStripSized, IsStripForm};
+ghost use Rattle.strips.specs.Building.{AreStripSites, AreWeighed, IsStripForm};
+ghost use Rattle.strips.specs.Strips.{IsStripLaid};
+ghost use Rattle.strips.specs.RowForms.{form_in};
 ghost use Rattle.strips.specs.Closing.{CanClose};
 ghost use Rattle.strips.specs.Sides.{AreBounds};
 ghost use Rattle.strips.specs.Views.{strip_view};
 
 use crate::building::build_strip;
 use crate::material::{Basis, Material, Room, StripSites};
-use crate::sides::least_sides;
-use compile_cut::Quadratic;
+use crate::sides::row_sides;
 use deciding::{MoveToFind, pair_surplus};
 use label_field::Pair;
 use move_energy::Choice;
@@ -41,17 +42,17 @@ pub(crate) fn cut_strip<S: Fn(Pair) -> i64>(
         IfOk result (AreBounds m move f material.now.known.now sites.now.opened.now)) }
 {
     let alloc = *room.more.allocator();
-    let mut form = Quadratic::new(alloc);
+    room.stand_again(alloc);
     build_strip(
         savings,
         material,
         sites,
         &mut room.numbers,
-        &mut form,
+        &mut room.form,
         &mut room.weights,
         &mut room.more,
     )?;
-    let sides = least_sides(alloc, form, &room.more, &mut room.space)?;
+    let sides = row_sides(alloc, &mut room.form, &room.more, &mut room.space)?;
     Ok(sides)
 }
 
@@ -78,7 +79,6 @@ pub(crate) fn build_asked<F: Fn(u32, u32) -> i64 + Sync, V: Fn(u32, u32) -> i64 
     basis: &Basis,
     known: &[Choice],
     sites: &StripSites,
-    form: &mut Quadratic,
     room: &mut Room,
 ) -> Result<(), AllocError>
     requires can { CanClose F.Fn V.Fn step.now basis.now known.now }
@@ -86,9 +86,9 @@ pub(crate) fn build_asked<F: Fn(u32, u32) -> i64 + Sync, V: Fn(u32, u32) -> i64 
         sites.now.opened.now }
     requires weights { sites.now.weights.now
         ≡ map (weight_at basis.now.weights.now) sites.now.opened.now }
-    ensures sized { OnOk result (IsStripSized sites.now form.new room.new.more.items) }
+    ensures sized { OnOk result (IsStripLaid sites.now room.new.form room.new.more.items) }
     ensures built { WhereFound F.Fn V.Fn step.now (λ m move f. OnOk result
-        (IsStripForm m move f known.now sites.now form.new room.new.more.items)) }
+        (IsStripForm m move f known.now sites.now (form_in room.new.form) room.new.more.items)) }
 {
     let savings = |pair: Pair| -> i64
         requires posed { IsPosedMove F.Fn V.Fn step.now }
@@ -108,7 +108,7 @@ pub(crate) fn build_asked<F: Fn(u32, u32) -> i64 + Sync, V: Fn(u32, u32) -> i64 
         &material,
         sites,
         &mut room.numbers,
-        form,
+        &mut room.form,
         &mut room.weights,
         &mut room.more,
     )
@@ -133,8 +133,8 @@ pub(crate) fn cut_asked<F: Fn(u32, u32) -> i64 + Sync, V: Fn(u32, u32) -> i64 + 
         IfOk result (AreBounds m move f known.now sites.now.opened.now)) }
 {
     let alloc = *room.more.allocator();
-    let mut form = Quadratic::new(alloc);
-    build_asked(step, basis, known, sites, &mut form, room)?;
-    let sides = least_sides(alloc, form, &room.more, &mut room.space)?;
+    room.stand_again(alloc);
+    build_asked(step, basis, known, sites, room)?;
+    let sides = row_sides(alloc, &mut room.form, &room.more, &mut room.space)?;
     Ok(sides)
 }

@@ -3,6 +3,7 @@
 use label_field::Pairs;
 use move_energy::{Choice, Neighbours};
 use plain_cut::Workspace;
+use sink_distances::Laying;
 use std::alloc::Global;
 
 /// What a move's strips begin with: what was known when all sites were decided, and the weights of
@@ -33,6 +34,13 @@ pub(crate) struct StripSites<'a> {
     pub weights: &'a [i64],
 }
 
+/// The form of a strip whose pairs stand in rows: what its nodes weigh, and what its pairs save.
+#[derive(Drop)]
+pub(crate) struct RowForm {
+    pub weights: Vec<i64>,
+    pub laying: Laying,
+}
+
 /// The lists that a strip is built and cut with. They keep their memory from strip to strip.
 #[derive(Drop)]
 pub(crate) struct Room {
@@ -40,6 +48,8 @@ pub(crate) struct Room {
     pub numbers: Vec<u32>,
     /// What the nodes weigh.
     pub weights: Vec<i64>,
+    /// The form in rows.
+    pub form: RowForm,
     /// What each node can send the sink more at the second cut.
     pub more: Vec<u64>,
     /// The lists of the solver.
@@ -52,8 +62,19 @@ impl Room {
         Room {
             numbers: Vec::new(alloc),
             weights: Vec::new(alloc),
+            form: RowForm {
+                weights: Vec::new(alloc),
+                laying: Laying::new(alloc),
+            },
             more: Vec::new(alloc),
             space: Workspace::new(alloc),
         }
+    }
+
+    /// The rows of the next strip stand in what those of the last one stood in.
+    pub(crate) fn stand_again(&mut self, alloc: Global) {
+        let rows = self.space.take_rows(alloc);
+        self.form.laying.nexts = rows.starts;
+        self.form.laying.cells = rows.cells;
     }
 }

@@ -2,7 +2,9 @@
 //! are found in one pass over the neighbours of each site.
 ghost use Rattle.std.specs.Prelude.{◌≡◌, ◌<◌, ◌≤◌, ◌+◌, ◌*◌, ◌-◌, ◌-ℤ◌, ◌<ℤ◌, ◌∷◌, [], ◌&&◌};
 ghost use Rattle.std.specs.Prelude.{true, not, pos, map, length, vec_len, sum, sum_by, All};
-ghost use Rattle.std.specs.Prelude.{unsigned_abs, IfOk, OnOk};
+ghost use Rattle.std.specs.Prelude.{unsigned_abs, IfOk, OnOk, MatchOption, false, ◌++◌, ℕ, List};
+ghost use Rattle.std.specs.Prelude.{◌≢◌};
+ghost use Rattle.std.specs.Prelude.{slice_set};
 ghost use Rattle.sums.specs.Sums.{count_if};
 ghost use Rattle.label_field.specs.Limits.{pair_limit};
 ghost use Rattle.pseudo_bool.specs.Energies.{IsValue};
@@ -19,15 +21,23 @@ ghost use Rattle.move_energy.specs.Weights.{pair_surplus as surplus_between};
 ghost use Rattle.closing_in.specs.Borders.{border_at, is_beyond as beyond_of, not_ones, range_of};
 ghost use Rattle.closing_in.specs.Borders.{is_inside as inside_of};
 ghost use Rattle.strips.specs.Building.{CanAsk, CanBuild, WhereSaved, AreStripSites, view_by};
-ghost use Rattle.strips.specs.Building.{AreStartWeights, AreWeighed, HasStripNodes};
+ghost use Rattle.strips.specs.Building.{AreStartWeights, AreWeighed};
+ghost use Rattle.strips.specs.Building.{IsStripNumbering};
+ghost use Rattle.sink_distances.specs.Laying.{AreEndsCounted};
+ghost use Rattle.sink_distances.specs.Rows.{arc_ends};
+ghost use Rattle.compile_cut.specs.Weights.{source_part};
+ghost use Rattle.pseudo_bool.specs.Energies.{entry};
+ghost use Rattle.strips.specs.RowForms.{arcs_in, form_in, IsFirstPart, IsLaidTo};
+ghost use Rattle.strips.specs.Meeting.{is_met, ends_at, ends_met, strip_ends, IsMet};
 ghost use Rattle.strips.specs.Building.{counts_in, met_inside, unsaved_in, unsaved_at};
 ghost use Rattle.strips.specs.Building.{border_of_site, weight_by_now};
 ghost use Rattle.strips.specs.Limits.{borders_limit};
 
-use crate::material::{Material, StripSites};
+use crate::material::{Material, RowForm, StripSites};
 use compile_cut::Quadratic;
 use label_field::Pair;
 use move_energy::{Choice, pair_beside};
+use sink_distances::Laying;
 use std::alloc::AllocError;
 
 /// Whether a site that was open at the start is at 1 by now.
@@ -87,75 +97,188 @@ fn counted_surplus<S: Fn(Pair) -> i64>(
     savings(pair)
 }
 
-/// A table of two variables that is 0 but where both are 1: there it is the surplus below 0.
-fn saving(surplus: i64) -> [i64; 4]
-    requires { (pos 0 <ℤ surplus) × (unsigned_abs surplus ≤ surplus_limit) }
-    ensures table { result ≡ pos 0 ∷ pos 0 ∷ pos 0 ∷ (pos 0 -ℤ surplus) ∷ [] }
-    ensures values { All IsValue result }
-    ensures regular { IsRegularTable result }
-{
-    [0, 0, 0, -surplus]
+/// A pair of the strip that is met at its first site, and the nodes of its two sites.
+#[derive(Clone, Copy)]
+struct Met {
+    pair: Pair,
+    first: u32,
+    second: u32,
 }
 
-/// Adds what two nodes save where both are 1.
+/// The pair of a site and a neighbour, where both are in the strip and the site is its first one.
+/// `numbers` has the node of each site of the strip.
 #[inline]
-fn add_saving(form: &mut Quadratic, first: u32, second: u32, surplus: i64) -> Result<(), AllocError>
-    requires first { first < vec_len form.old.weights }
-    requires second { second < vec_len form.old.weights }
-    requires surplus { (pos 0 <ℤ surplus) × (unsigned_abs surplus ≤ surplus_limit) }
-    requires bounded { IsQuadraticBounded term_limit form.old }
-    ensures longer { OnOk result (IsLonger 1 form.old form.new) }
-    ensures adds { OnOk result (AddsCost form.old form.new
-        (λ x. count_if (not (x first && x second)) (unsigned_abs surplus))) }
+fn met_beside(
+    material: &Material,
+    sites: &StripSites,
+    numbers: &[u32],
+    site: u32,
+    place: u32,
+) -> Option<Met>
+    requires can { CanBuild material.now }
+    requires opened { AreStripSites material.now sites.now }
+    requires numbering { IsStripNumbering material.now.known.now sites.now numbers.now }
+    requires site { (site < material.now.pairs.now.sites)
+        × (open_at (view_by sites.now material.now) site ≡ true) }
+    requires place { (neighbours_start material.now.ends.now site ≤ place)
+        × (place < neighbours_start material.now.ends.now (site + 1)) }
+    ensures { MatchOption result (is_met material.now sites.now site place ≡ false)
+        (λ met. IsMet material.now sites.now site place met) }
 {
-    let table = saving(surplus);
-    form.add_pair(first, second, &table)
+    let head = material.ends.heads[place as usize];
+    if !is_inside(material.known, sites.from, sites.to, head) {
+        return None;
+    }
+    let pair = pair_beside(material.pairs, material.ends, site, place);
+    if pair.first != site {
+        return None;
+    }
+    let first = numbers[(pair.first - sites.from) as usize];
+    let second = numbers[(pair.second - sites.from) as usize];
+    Some(Met {
+        pair,
+        first,
+        second,
+    })
 }
 
-/// Adds what the pair of a site and a neighbour saves where both are in the strip and at 1. It is
-/// added at its first end, and nothing at its second one. `numbers` has the node of each site of
-/// the strip.
+/// Counts the ends of the pairs that are met at a site.
+fn count_row(
+    material: &Material,
+    sites: &StripSites,
+    numbers: &[u32],
+    laying: &mut Laying,
+    site: u32,
+)
+    requires can { CanBuild material.now }
+    requires opened { AreStripSites material.now sites.now }
+    requires numbering { IsStripNumbering material.now.known.now sites.now numbers.now }
+    requires site { (site < material.now.pairs.now.sites)
+        × (open_at (view_by sites.now material.now) site ≡ true) }
+    requires counted { (ends : List ℕ) × (AreEndsCounted (length sites.now.opened.now) ends
+        laying.old.nexts.items) × (length ends ≤ 33554432) }
+    ensures { (ends : List ℕ) →
+        AreEndsCounted (length sites.now.opened.now) ends laying.old.nexts.items →
+        AreEndsCounted (length sites.now.opened.now) (ends ++ ends_at material.now sites.now site)
+        laying.new.nexts.items }
+{
+    for place in material.ends.starts[site as usize]..material.ends.starts[site as usize + 1] {
+        if let Some(met) = met_beside(material, sites, numbers, site, place) {
+            laying.count(met.first, met.second);
+        }
+    }
+}
+
+/// Counts the ends of all pairs of a strip.
+pub(crate) fn count_rows(
+    material: &Material,
+    sites: &StripSites,
+    numbers: &[u32],
+    laying: &mut Laying,
+)
+    requires can { CanBuild material.now }
+    requires opened { AreStripSites material.now sites.now }
+    requires numbering { IsStripNumbering material.now.known.now sites.now numbers.now }
+    requires begun { AreEndsCounted (length sites.now.opened.now) [] laying.old.nexts.items }
+    ensures { AreEndsCounted (length sites.now.opened.now) (strip_ends material.now sites.now)
+        laying.new.nexts.items }
+{
+    for index in 0..sites.opened.len() {
+        count_row(material, sites, numbers, laying, sites.opened[index]);
+    }
+}
+
+/// Takes an amount off a weight.
+#[inline]
+fn lessen(weights: &mut [i64], node: u32, amount: u64)
+    requires node { node < length weights.old }
+    requires small { weights_size weights.old ≤ 400000000000000000 }
+    requires amount { amount ≤ surplus_limit }
+    ensures { weights.new ≡ slice_set weights.old node (entry weights.old node -ℤ pos amount) }
+{
+    weights[node as usize] -= amount as i64;
+}
+
+/// A surplus above 0, and else 0.
+#[inline]
+fn amount_above(surplus: i64) -> u64
+    requires { unsigned_abs surplus ≤ surplus_limit }
+    ensures amount { result ≡ source_part surplus }
+    ensures small { result ≤ surplus_limit }
+{
+    if surplus > 0 {
+        surplus.unsigned_abs()
+    } else {
+        0
+    }
+}
+
+/// Puts what two nodes save where both are 1, the next of the pairs whose ends were counted.
+#[inline]
+fn put_saving(form: &mut RowForm, first: u32, second: u32, surplus: i64) -> Result<(), AllocError>
+    requires surplus { unsigned_abs surplus ≤ surplus_limit }
+    requires apart { first ≢ second }
+    requires laid { (n : ℕ) × (ends : List ℕ) × IsLaidTo n ends form.old
+        × IsFirstPart (arc_ends (arcs_in form.old) ++ first ∷ second ∷ []) ends
+        × (first < n) × (second < n) × (length ends ≤ 16777216) }
+    ensures laid { OnOk result ((n : ℕ) (ends : List ℕ) → IsLaidTo n ends form.old →
+        IsFirstPart (arc_ends (arcs_in form.old) ++ first ∷ second ∷ []) ends →
+        IsLaidTo n ends form.new) }
+    ensures ends { OnOk result ((n : ℕ) (ends : List ℕ) → IsLaidTo n ends form.old →
+        IsFirstPart (arc_ends (arcs_in form.old) ++ first ∷ second ∷ []) ends →
+        arc_ends (arcs_in form.new) ≡ arc_ends (arcs_in form.old) ++ first ∷ second ∷ []) }
+    ensures adds { OnOk result ((n : ℕ) (ends : List ℕ) → IsLaidTo n ends form.old →
+        IsFirstPart (arc_ends (arcs_in form.old) ++ first ∷ second ∷ []) ends →
+        AddsCost (form_in form.old) (form_in form.new)
+        (λ x. count_if (not (x first && x second)) (source_part surplus))) }
+{
+    let amount = amount_above(surplus);
+    form.laying.put(first, second, amount)?;
+    lessen(form.weights.as_mut_slice(), second, amount);
+    Ok(())
+}
+
+/// Puts what the pair of a site and a neighbour saves where both are in the strip and at 1. It is
+/// put at its first end, and nothing at its second one.
 #[inline]
 fn add_inside<S: Fn(Pair) -> i64>(
     savings: &S,
     material: &Material,
     sites: &StripSites,
-    form: &mut Quadratic,
+    form: &mut RowForm,
     numbers: &[u32],
     site: u32,
     place: u32,
 ) -> Result<(), AllocError>
     requires ask { CanAsk (S.pre savings.now) (S.post savings.now) material.now }
     requires can { CanBuild material.now }
-    requires nodes { HasStripNodes material.now sites.now numbers.now form.old }
+    requires opened { AreStripSites material.now sites.now }
+    requires numbering { IsStripNumbering material.now.known.now sites.now numbers.now }
+    requires laid { IsLaidTo (length sites.now.opened.now) (strip_ends material.now sites.now)
+        form.old }
+    requires begins { IsFirstPart (arc_ends (arcs_in form.old)
+        ++ ends_met material.now sites.now site place) (strip_ends material.now sites.now) }
     requires site { (site < material.now.pairs.now.sites)
         × (open_at (view_by sites.now material.now) site ≡ true) }
     requires place { (neighbours_start material.now.ends.now site ≤ place)
         × (place < neighbours_start material.now.ends.now (site + 1)) }
-    requires bounded { IsQuadraticBounded term_limit form.old }
-    ensures longer { OnOk result (IsLonger
-        (count_if (counts_in material.now sites.now site place) 1) form.old form.new) }
+    ensures laid { OnOk result (IsLaidTo (length sites.now.opened.now)
+        (strip_ends material.now sites.now) form.new) }
+    ensures ends { OnOk result (arc_ends (arcs_in form.new) ≡ arc_ends (arcs_in form.old)
+        ++ ends_met material.now sites.now site place) }
     ensures adds { WhereSaved (S.post savings.now) material.now (λ m move f.
-        OnOk result (AddsCost form.old form.new
+        OnOk result (AddsCost (form_in form.old) (form_in form.new)
         (λ x. count_if (counts_in material.now sites.now site place)
         (unsaved_in m move f (view_by sites.now material.now) x
         (beside_at material.now.ends.now site place))))) }
 {
-    let head = material.ends.heads[place as usize];
-    if !is_inside(material.known, sites.from, sites.to, head) {
-        return Ok(());
+    match met_beside(material, sites, numbers, site, place) {
+        None => Ok(()),
+        Some(met) => {
+            let surplus = savings(met.pair);
+            put_saving(form, met.first, met.second, surplus)
+        }
     }
-    let pair = pair_beside(material.pairs, material.ends, site, place);
-    if pair.first != site {
-        return Ok(());
-    }
-    let surplus = savings(pair);
-    if surplus <= 0 {
-        return Ok(());
-    }
-    let first = numbers[(pair.first - sites.from) as usize];
-    let second = numbers[(pair.second - sites.from) as usize];
-    add_saving(form, first, second, surplus)
 }
 
 /// What the pairs of a site come to that lead to sites outside the strip.
@@ -173,18 +296,20 @@ fn add_row<S: Fn(Pair) -> i64>(
     savings: &S,
     material: &Material,
     sites: &StripSites,
-    form: &mut Quadratic,
+    form: &mut RowForm,
     numbers: &[u32],
     site: u32,
 ) -> Result<SiteBorders, AllocError>
     requires ask { CanAsk (S.pre savings.now) (S.post savings.now) material.now }
     requires can { CanBuild material.now }
-    requires nodes { HasStripNodes material.now sites.now numbers.now form.old }
+    requires opened { AreStripSites material.now sites.now }
+    requires numbering { IsStripNumbering material.now.known.now sites.now numbers.now }
+    requires laid { IsLaidTo (length sites.now.opened.now) (strip_ends material.now sites.now)
+        form.old }
+    requires begins { IsFirstPart (arc_ends (arcs_in form.old)
+        ++ ends_at material.now sites.now site) (strip_ends material.now sites.now) }
     requires site { (site < material.now.pairs.now.sites)
         × (open_at (view_by sites.now material.now) site ≡ true) }
-    requires met { met_inside material.now sites.now site ≤ term_limit }
-    requires bounded { IsQuadraticBounded (term_limit - met_inside material.now sites.now site)
-        form.old }
     ensures ones { WhereSaved (S.post savings.now) material.now (λ m move f. IfOk result (λ found.
         found.ones ≡ pos (border_at m move f (choice_at material.now.start.now)
         (not_ones (choice_at material.now.known.now)) site))) }
@@ -193,10 +318,13 @@ fn add_row<S: Fn(Pair) -> i64>(
     ensures range { IfOk result (λ found.
         (unsigned_abs found.ones ≤ surplus_limit * degree material.now.ends.now site)
         × (unsigned_abs found.beyond ≤ surplus_limit * degree material.now.ends.now site)) }
-    ensures longer { OnOk result
-        (IsLonger (met_inside material.now sites.now site) form.old form.new) }
+    ensures laid { OnOk result (IsLaidTo (length sites.now.opened.now)
+        (strip_ends material.now sites.now) form.new) }
+    ensures ends { OnOk result (arc_ends (arcs_in form.new) ≡ arc_ends (arcs_in form.old)
+        ++ ends_at material.now sites.now site) }
     ensures adds { WhereSaved (S.post savings.now) material.now (λ m move f. OnOk result
-        (AddsCost form.old form.new (λ x. unsaved_at m move f material.now sites.now x site))) }
+        (AddsCost (form_in form.old) (form_in form.new)
+        (λ x. unsaved_at m move f material.now sites.now x site))) }
 {
     let mut ones = 0i64;
     let mut beyond = 0i64;
@@ -217,7 +345,7 @@ pub(crate) fn add_rows<S: Fn(Pair) -> i64>(
     savings: &S,
     material: &Material,
     sites: &StripSites,
-    form: &mut Quadratic,
+    form: &mut RowForm,
     numbers: &[u32],
     list: &mut Vec<i64>,
     borders: &mut Vec<u64>,
@@ -226,14 +354,18 @@ pub(crate) fn add_rows<S: Fn(Pair) -> i64>(
     requires can { CanBuild material.now }
     requires opened { AreStripSites material.now sites.now }
     requires weighed { AreWeighed sites.now }
-    requires nodes { HasStripNodes material.now sites.now numbers.now form.old }
-    requires bounded { IsQuadraticBounded 0 form.old }
+    requires numbering { IsStripNumbering material.now.known.now sites.now numbers.now }
+    requires laid { IsLaidTo (length sites.now.opened.now) (strip_ends material.now sites.now)
+        form.old }
+    requires none { arc_ends (arcs_in form.old) ≡ [] }
     ensures count { OnOk result ((length list.new.items ≡ length sites.now.opened.now)
         × (length borders.new.items ≡ length sites.now.opened.now)) }
     ensures size { OnOk result (weights_size list.new.items ≤ weights_limit + borders_limit) }
     ensures small { OnOk result (sum borders.new.items ≤ borders_limit) }
-    ensures nodes { OnOk result (vec_len form.new.weights ≡ vec_len form.old.weights) }
-    ensures bounded { OnOk result (IsQuadraticBounded pair_limit form.new) }
+    ensures laid { OnOk result (IsLaidTo (length sites.now.opened.now)
+        (strip_ends material.now sites.now) form.new) }
+    ensures ends { OnOk result (arc_ends (arcs_in form.new)
+        ≡ strip_ends material.now sites.now) }
     ensures weights { WhereSaved (S.post savings.now) material.now (λ m move f.
         AreStartWeights material.now sites.now m move f → OnOk result
         (list.new.items ≡ map (weight_by_now m move f material.now) sites.now.opened.now)) }
@@ -241,7 +373,7 @@ pub(crate) fn add_rows<S: Fn(Pair) -> i64>(
         (borders.new.items
         ≡ map (border_of_site m move f material.now sites.now) sites.now.opened.now)) }
     ensures adds { WhereSaved (S.post savings.now) material.now (λ m move f. OnOk result
-        (AddsCost form.old form.new (λ x.
+        (AddsCost (form_in form.old) (form_in form.new) (λ x.
         sum_by (unsaved_at m move f material.now sites.now x) sites.now.opened.now))) }
 {
     list.clear();

@@ -1,5 +1,5 @@
 //! The two cuts of a strip's form.
-ghost use Rattle.std.specs.Prelude.{◌≡◌, ◌+◌, ◌≤◌, IfOk, length, sum, vec_len};
+ghost use Rattle.std.specs.Prelude.{◌≡◌, ◌+◌, ◌≤◌, IfOk, OnOk, Bool, List, ℕ, length, sum, vec_len};
 ghost use Rattle.label_field.specs.Limits.{site_limit, label_limit};
 ghost use Rattle.pseudo_bool.specs.Energies.{assignment};
 ghost use Rattle.pseudo_bool.specs.Limits.{term_limit};
@@ -7,11 +7,16 @@ ghost use Rattle.compile_cut.specs.declared.quadratic.Quadratic.{Quadratic as Fo
 ghost use Rattle.compile_cut.specs.Quadratics.{quadratic_value, IsQuadraticBounded};
 ghost use Rattle.deciding.specs.Decisions.{IsSmallestLeast};
 ghost use Rattle.strips.specs.Limits.{borders_limit};
+ghost use Rattle.strips.specs.RowForms.{form_in};
 ghost use Rattle.strips.specs.Sides.{IsLessBorder};
+ghost use Rattle.strips.specs.Strips.{IsRowForm};
 
-use compile_cut::{Quadratic, net_of};
-use plain_cut::{BothSides, Workspace, both_sides_in};
+use crate::material::RowForm;
+use compile_cut::{Quadratic, net_of, sink_capacities, source_capacities};
+use plain_cut::{BothSides, Workspace, both_sides_in, both_sides_of};
+use sink_distances::Laid;
 use std::alloc::{AllocError, Global};
+use std::mem::replace;
 
 /// The least assignments with the fewest ones, a bit for each node: `lower` is that of the form,
 /// and `upper` that of the form in which each weight is less by its node's border. Both come of one
@@ -38,4 +43,59 @@ pub fn least_sides(
     let compiled = net_of(alloc, form)?;
     let sides = both_sides_in(alloc, compiled.net, borders, cutting)?;
     Ok(sides)
+}
+
+/// What `least_sides` tells, of a form in rows.
+pub(crate) fn row_sides(
+    alloc: Global,
+    form: &mut RowForm,
+    borders: &Vec<u64>,
+    cutting: &mut Workspace,
+) -> Result<BothSides, AllocError>
+    requires laid { (n : ℕ) × (ends : List ℕ) × IsRowForm n ends form.old }
+    requires count { length borders.now.items ≡ vec_len form.old.weights }
+    requires small { sum borders.now.items ≤ borders_limit }
+    ensures lower_bits { IfOk result
+        (λ sides. length sides.lower.items ≡ vec_len form.old.weights) }
+    ensures upper_bits { IfOk result
+        (λ sides. length sides.upper.items ≡ vec_len form.old.weights) }
+    ensures lower { IfOk result (λ sides. IsSmallestLeast (vec_len form.old.weights)
+        (quadratic_value (form_in form.old)) (assignment sides.lower.items)) }
+    ensures upper { IfOk result (λ sides. (less : Form) →
+        IsLessBorder borders.now.items (form_in form.old) less →
+        IsSmallestLeast (vec_len form.old.weights) (quadratic_value less)
+        (assignment sides.upper.items)) }
+{
+    let sources = source_capacities(alloc, form.weights.as_slice())?;
+    let sinks = sink_capacities(alloc, form.weights.as_slice())?;
+    let laid = Laid {
+        starts: replace(&mut form.laying.nexts, Vec::new(alloc)),
+        cells: replace(&mut form.laying.cells, Vec::new(alloc)),
+        firsts: replace(&mut form.laying.firsts, Vec::new(alloc)),
+        sources,
+        sinks,
+    };
+    let both = both_sides_of(alloc, laid, borders, cutting)?;
+    Ok(both)
+}
+
+/// Writes a form in rows as a sum of terms. A pair that saves nothing is left out.
+pub(crate) fn write_form(form: &RowForm, written: &mut Quadratic) -> Result<(), AllocError>
+    requires laid { (n : ℕ) × (ends : List ℕ) × IsRowForm n ends form.now }
+    ensures nodes { OnOk result (vec_len written.new.weights ≡ vec_len form.now.weights) }
+    ensures bounded { OnOk result (IsQuadraticBounded term_limit written.new) }
+    ensures value { OnOk result ((x : ℕ → Bool) →
+        quadratic_value written.new x ≡ quadratic_value (form_in form.now) x) }
+{
+    written.constant = 0;
+    written.weights.clear();
+    written.weights.extend_from_slice(form.weights.as_slice())?;
+    written.arcs.clear();
+    for index in 0..form.laying.firsts.len() {
+        let arc = form.laying.arc(index);
+        if arc.capacity > 0 {
+            written.arcs.push(arc)?;
+        }
+    }
+    Ok(())
 }

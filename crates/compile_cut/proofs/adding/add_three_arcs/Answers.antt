@@ -1,4 +1,4 @@
-use Rattle.std.proofs.Common.{arith, ◌<◌}
+use Rattle.std.proofs.Common.{arith}
 use Rattle.compile_cut.proofs.WeightLemmas.{both_below, adds_among, adds_three}
 use Rattle.compile_cut.proofs.adding.add_three_arcs.Goals as goal
 

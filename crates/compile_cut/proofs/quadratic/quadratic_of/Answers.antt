@@ -6,10 +6,16 @@ use Rattle.compile_cut.proofs.quadratic.quadratic_of.Goals as goal
 pub loop-index-init : goal.loop-index-init
 loop-index-init c = start c.args.energy.now c.in_ok-form.form c.in_ok-form.ensures.limits c.in_ok-form.ensures.start
 
-pub add_term-requires-clause-bounded : goal.add_term-requires-clause-bounded
-add_term-requires-clause-bounded c =
-    bounded-weaker c.loop-index.index 8388608 c.loop-index.form
-    (omega (arith, c.loop-index-test.true, c.term_count-index-end.ensures.value, c.term.ensures.limits.count)) c.loop-index.invariant.bounded
+pub add_term-requires-clause-form : goal.add_term-requires-clause-form
+add_term-requires-clause-form c =
+    let terms = three_taken-le c.loop-index.index c.args.energy.now.terms in
+    let count = c.term.ensures.limits.count in
+    let variables = c.term.ensures.limits.variables in
+    record {
+      bounded = bounded-weaker c.loop-index.index 8388608 c.loop-index.form
+          (omega (arith, c.loop-index-test.true, c.term_count-index-end.ensures.value, count)) c.loop-index.invariant.bounded;
+      room = omega (arith, terms, count, variables, c.loop-index.invariant.hidden, c.loop-index-test.true, c.term_count-index-end.ensures.value);
+    }
 
 pub add_term-requires-clause-term : goal.add_term-requires-clause-term
 add_term-requires-clause-term c = term-weaker _ _ c.term.result c.loop-index.invariant.variables c.term.ensures.within
@@ -28,10 +34,3 @@ loop-index-preserved c =
 pub returns-clause-values : goal.returns-clause-values
 returns-clause-values c =
     whole_values c.args.energy.now c.loop-index.index c.loop-index.form (omega (arith, c.loop-index-test.false, c.term_count-index-end.ensures.value)) c.loop-index.invariant.values
-
-pub add_term-requires-clause-room : goal.add_term-requires-clause-room
-add_term-requires-clause-room c =
-    let terms = three_taken-le c.loop-index.index c.args.energy.now.terms in
-    let count = c.term.ensures.limits.count in
-    let variables = c.term.ensures.limits.variables in
-    omega (arith, terms, count, variables, c.loop-index.invariant.hidden, c.loop-index-test.true, c.term_count-index-end.ensures.value)

@@ -5,7 +5,7 @@ use Rattle.compile_cut.proofs.three.split_at_zeros.Goals as goal
 
 pub returns-clause-value : goal.returns-clause-value
 returns-clause-value c =
-    let zero : unsigned_abs (entry c.args.table.now 0) ≤ 1000000000 = c.requires.values 0 (pos 0) (omega (arith, c.told-table)) in
+    let zero : unsigned_abs (entry c.args.table.now 0) ≤ 1000000000 = c.requires.table.values 0 (pos 0) (omega (arith, c.told-table)) in
     let one = passed_is c.balance.result (omega (arith, c.balance.ensures.small)) in
     let other = passed_is c.difference-3.result (omega (arith, c.difference-3.ensures.small)) in
     let both = passed_is c.sum.result (omega (arith, c.sum.ensures.small)) in
@@ -14,9 +14,7 @@ returns-clause-value c =
       first = passed_is c.difference.result (omega (arith, c.difference.ensures.small)) ∙ c.difference.ensures.value;
       second = passed_is c.difference-2.result (omega (arith, c.difference-2.ensures.small)) ∙ c.difference-2.ensures.value;
       third = cc (one, other, both, c.sum.ensures.value, c.balance.ensures.value, c.difference-3.ensures.value);
-      first_second = c.arcs_at_zeros.ensures.first_second;
-      first_third = c.arcs_at_zeros.ensures.first_third;
-      second_third = c.arcs_at_zeros.ensures.second_third;
+      arcs = c.arcs_at_zeros.ensures;
       hidden = passed_is c.args.hidden (omega (arith, c.requires.hidden));
     }
 
@@ -29,7 +27,7 @@ sum-requires-clause-b c =
 
 pub returns-clause-small : goal.returns-clause-small
 returns-clause-small c =
-    let zero : unsigned_abs (entry c.args.table.now 0) ≤ 1000000000 = c.requires.values 0 (pos 0) (omega (arith, c.told-table)) in
+    let zero : unsigned_abs (entry c.args.table.now 0) ≤ 1000000000 = c.requires.table.values 0 (pos 0) (omega (arith, c.told-table)) in
     let first = c.difference.ensures.small in
     let second = c.difference-2.ensures.small in
     let third = c.sum.ensures.small in

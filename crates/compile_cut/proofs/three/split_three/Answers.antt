@@ -19,16 +19,18 @@ returns-then-product-le0-clause-value c =
       first = part.ensures.value.first;
       second = part.ensures.value.second;
       third = part.ensures.value.third;
-      first_second = part.ensures.value.first_second;
-      first_third = part.ensures.value.first_third;
-      second_third = part.ensures.value.second_third;
+      first_second = part.ensures.value.arcs.first_second;
+      first_third = part.ensures.value.arcs.first_third;
+      second_third = part.ensures.value.arcs.second_third;
       hidden = hidden ∙ below_is h sign;
       cubic = hidden ∙ c.product_weight-product.ensures.value;
     })
 
-pub split_at_zeros-turned-requires-clause-regular : goal.split_at_zeros-turned-requires-clause-regular
-split_at_zeros-turned-requires-clause-regular c =
-    rw c.turned_table.ensures.value (regular-turned c.args.table.now c.requires.regular)
+pub split_at_zeros-turned-requires-clause-table : goal.split_at_zeros-turned-requires-clause-table
+split_at_zeros-turned-requires-clause-table c = record {
+  values = c.turned_table.ensures.values;
+  regular = rw c.turned_table.ensures.value (regular-turned c.args.table.now c.requires.regular);
+}
 
 pub turned_part-requires-clause-constant : goal.turned_part-requires-clause-constant
 turned_part-requires-clause-constant c =
@@ -46,9 +48,9 @@ turned_part-requires-clause-constant c =
       first = part.ensures.value.first;
       second = part.ensures.value.second;
       third = part.ensures.value.third;
-      first_second = part.ensures.value.first_second;
-      first_third = part.ensures.value.first_third;
-      second_third = part.ensures.value.second_third;
+      first_second = part.ensures.value.arcs.first_second;
+      first_third = part.ensures.value.arcs.first_third;
+      second_third = part.ensures.value.arcs.second_third;
       hidden = hidden ∙ above_is h sign;
       cubic = hidden ∙ cubic;
     } in
@@ -77,9 +79,9 @@ returns-else-product-le0-clause-value c =
       first = part.ensures.value.first;
       second = part.ensures.value.second;
       third = part.ensures.value.third;
-      first_second = part.ensures.value.first_second;
-      first_third = part.ensures.value.first_third;
-      second_third = part.ensures.value.second_third;
+      first_second = part.ensures.value.arcs.first_second;
+      first_third = part.ensures.value.arcs.first_third;
+      second_third = part.ensures.value.arcs.second_third;
       hidden = hidden ∙ above_is h sign;
       cubic = hidden ∙ cubic;
     } in

@@ -10,7 +10,7 @@ returns-clause-raised c =
     let long : length c.raise_labels.new.labels ≡ old.labels.len = omega (arith, c.raise_labels.auto.labels, c.as_mut_slice.ensures.len) in
     let labels = with_items_is old.labels c.raise_labels.new.labels long in
     raise_fit c.args.net.now old _ c.requires.limits c.requires.work refl refl refl refl
-    (rw labels (rw c.as_slice.ensures.value at made.labelling))
+    (rw labels (rw c.as_slice-2.ensures.value at made.labelling))
     (rw labels (rw c.as_mut_slice.ensures.value at made.rises))
     (rw labels made.low)
     (rw labels (rw c.as_mut_slice.ensures.value at made.zeros))

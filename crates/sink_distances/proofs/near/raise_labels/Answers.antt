@@ -27,5 +27,5 @@ returns c =
       count = c.search_near-extent.ensures.count;
       near = raised_near net flow limit found old new c.requires.labels near made told;
       full = raised_exact net flow limit found old new c.requires.labels c.requires.low near len told;
-      whole = λ most. c.search_near-extent.ensures.whole (eq-eqb c.args.times 18446744073709551615 (omega (arith, most)));
+      whole = λ most. c.search_near-extent.ensures.whole (eq-eqb c.args.aim.now.times 18446744073709551615 (omega (arith, most)));
     }

@@ -1,17 +1,23 @@
-use Rattle.std.proofs.Common.{◌≤◌, ◌+◌, ◌∙◌, ℕ, ℤ, ◌+ℤ◌, pos, List, length, ap, refl, sym, subst, arith}
-use Rattle.compile_cut.specs.declared.quadratic.Quadratic.{Quadratic}
+use Rattle.std.proofs.Common.{◌≤◌, ◌+◌, ◌∙◌, ℕ, ℤ, ◌+ℤ◌, List, length, ap, refl, sym, subst, arith}
 use Rattle.compile_cut.specs.Weights.{weights_value, weights_size}
 use Rattle.std.specs.Prelude.{slice_index}
 use Rattle.std.proofs.lemmas.List.{get_or-map}
 use Rattle.closing_in.specs.Borders.{border_at, range_of}
 use Rattle.move_energy.specs.Choices.{choice_at}
-use Rattle.move_energy.proofs.Opened.{opened_few, opened_count}
-use Rattle.compile_cut.proofs.TermLemmas.{constant_nodes}
+use Rattle.move_energy.proofs.Opened.{opened_few}
 use Rattle.strips.specs.Building.{IsStripNumbering}
 use Rattle.strips.specs.Views.{strip_view}
 use Rattle.strips.proofs.Views.{view_length}
-use Rattle.strips.proofs.Laying.{IsLaid, laid_bounded, rows_stand}
+use Rattle.strips.proofs.Laying.{IsLaid, rows_stand}
 use Rattle.strips.proofs.Numbering.{listed_from, listed_to}
+use Rattle.sink_distances.proofs.Putting.{counts_sum}
+use Rattle.strips.specs.declared.material.RowForm.{RowForm}
+use Rattle.strips.specs.Meeting.{strip_ends}
+use Rattle.strips.specs.RowForms.{form_in}
+use Rattle.strips.proofs.Meeting.{rows_few}
+use Rattle.strips.proofs.Saving.{few_firsts}
+use Rattle.strips.proofs.RowForms.{begun_laid, begun_ends, begun_constant, laid_rows}
+use Rattle.strips.proofs.Borders.{degrees_few}
 use Rattle.strips.proofs.building.build_strip.Goals as goal
 
 pub number_sites-requires-clause-few : goal.number_sites-requires-clause-few
@@ -35,45 +41,96 @@ number_sites-requires-clause-to g c =
     let a = c.args in
     listed_to a.material.now.known.now a.sites.now.from a.sites.now.to a.sites.now.opened.now c.requires.opened
 
-pub add_rows-requires-clause-nodes : goal.add_rows-requires-clause-nodes
-add_rows-requires-clause-nodes g c =
+pub begin_form-requires : goal.begin_form-requires
+begin_form-requires g c =
+    let a = c.args in
+    omega (
+      arith,
+      opened_few (strip_view a.material.now.known.now a.sites.now.from a.sites.now.to) a.sites.now.opened.now c.requires.opened,
+      view_length a.material.now.known.now a.sites.now.from a.sites.now.to,
+      c.requires.can.count,
+      c.requires.can.pairs_are.sites,
+    )
+
+pub count_rows-requires-clause-numbering : goal.count_rows-requires-clause-numbering
+count_rows-requires-clause-numbering g c =
     let a = c.args in
     let N : List ℕ → Type 0 = λ ns. IsStripNumbering a.material.now.known.now a.sites.now ns in
-    record {
-      numbering = subst N (sym c.deref.ensures.value) (c.in_ok-number_sites.ensures a.material.now.known.now c.requires.opened);
-      nodes = constant_nodes (pos 0) (length a.sites.now.opened.now) c.clear_form.new.form c.in_ok-clear_form.ensures
-          ∙ opened_count (strip_view a.material.now.known.now a.sites.now.from a.sites.now.to) a.sites.now.opened.now c.requires.opened;
-    }
+    subst N (sym c.deref.ensures.value) (c.in_ok-number_sites.ensures a.material.now.known.now c.requires.opened)
+
+pub open-requires-clause-small : goal.open-requires-clause-small
+open-requires-clause-small g c =
+    let a = c.args in
+    let v = strip_view a.material.now.known.now a.sites.now.from a.sites.now.to in
+    let counted = c.count_rows.ensures in
+    omega (
+      arith,
+      counts_sum (length a.sites.now.opened.now) (strip_ends a.material.now a.sites.now) c.count_rows.new.laying.nexts.items counted,
+      counted.all,
+      rows_few a.material.now a.sites.now a.sites.now.opened.now,
+      degrees_few a.material.now.pairs.now a.material.now.ends.now v a.sites.now.opened.now c.requires.can.by_site (view_length a.material.now.known.now a.sites.now.from a.sites.now.to ∙ c.requires.can.count) c.requires.opened,
+      c.requires.can.pairs_are.count,
+    )
+
+pub add_rows-requires-clause-laid : goal.add_rows-requires-clause-laid
+add_rows-requires-clause-laid g c =
+    let a = c.args in
+    let n = length a.sites.now.opened.now in
+    let ends = strip_ends a.material.now a.sites.now in
+    let form : RowForm = record { weights = c.begin_form.new.form.weights; laying = c.open.new.self } in
+    begun_laid n ends form c.in_ok-begin_form.ensures.weights (c.in_ok-open.ensures n ends c.count_rows.ensures)
+
+pub add_rows-requires-clause-none : goal.add_rows-requires-clause-none
+add_rows-requires-clause-none g c =
+    let a = c.args in
+    let n = length a.sites.now.opened.now in
+    let ends = strip_ends a.material.now a.sites.now in
+    let form : RowForm = record { weights = c.begin_form.new.form.weights; laying = c.open.new.self } in
+    begun_ends n ends form (c.in_ok-open.ensures n ends c.count_rows.ensures)
+
+pub add_weights-requires-clause-room : goal.add_weights-requires-clause-room
+add_weights-requires-clause-room g c =
+    let a = c.args in
+    let v = strip_view a.material.now.known.now a.sites.now.from a.sites.now.to in
+    let rows = c.in_ok-add_rows.ensures in
+    let form = c.add_rows.new.form in
+    omega (
+      arith,
+      ap (λ (ws : List ℤ). weights_size ws) c.deref-3.ensures.value,
+      rows.size,
+      rows.laid.weights,
+      few_firsts (length a.sites.now.opened.now) (strip_ends a.material.now a.sites.now) form rows.laid,
+      rows_few a.material.now a.sites.now a.sites.now.opened.now,
+      degrees_few a.material.now.pairs.now a.material.now.ends.now v a.sites.now.opened.now c.requires.can.by_site (view_length a.material.now.known.now a.sites.now.from a.sites.now.to ∙ c.requires.can.count) c.requires.opened,
+      c.requires.can.pairs_are.count,
+    )
 
 pub returns-clause-sized : goal.returns-clause-sized
 returns-clause-sized g c =
     let a = c.args in
+    let v = strip_view a.material.now.known.now a.sites.now.from a.sites.now.to in
     let rows = c.in_ok-add_rows.ensures in
     let old = c.add_rows.new.form in
-    let new : Quadratic = record old { weights = c.add_weights.new.weights } in
     let list = c.add_rows.new.list in
-    let S : List ℤ → Type 0 = λ ys. weights_size c.add_weights.new.weights.items ≤ weights_size old.weights.items + weights_size ys in
-    let laid : IsLaid list.items old new = (
-      refl,
-      refl,
-      c.add_weights.ensures.len,
-      (λ x. c.add_weights.ensures.value x ∙ ap (λ (ys : List ℤ). weights_value old.weights.items x +ℤ weights_value ys x) c.deref-2.ensures.value),
-      subst S c.deref-2.ensures.value c.add_weights.ensures.size,
+    let new : RowForm = record { weights = c.add_weights.new.weights; laying = old.laying } in
+    let S : List ℤ → Type 0 = λ ys. weights_size new.weights.items ≤ weights_size old.weights.items + weights_size ys in
+    let many : length (strip_ends a.material.now a.sites.now) ≤ 16777216 = omega (
+      arith,
+      rows_few a.material.now a.sites.now a.sites.now.opened.now,
+      degrees_few a.material.now.pairs.now a.material.now.ends.now v a.sites.now.opened.now c.requires.can.by_site (view_length a.material.now.known.now a.sites.now.from a.sites.now.to ∙ c.requires.can.count) c.requires.opened,
+      c.requires.can.pairs_are.count,
     ) in
-    let many = constant_nodes (pos 0) (length a.sites.now.opened.now) c.clear_form.new.form c.in_ok-clear_form.ensures in
+    let few : length a.sites.now.opened.now ≤ 1048576 = omega (
+      arith,
+      opened_few v a.sites.now.opened.now c.requires.opened,
+      view_length a.material.now.known.now a.sites.now.from a.sites.now.to,
+      c.requires.can.count,
+      c.requires.can.pairs_are.sites,
+    ) in
     record {
-      bounded = laid_bounded list.items old new (omega (arith, rows.size)) rows.bounded laid;
-      few = omega (
-        arith,
-        c.add_weights.ensures.len,
-        rows.nodes,
-        many,
-        opened_few (strip_view a.material.now.known.now a.sites.now.from a.sites.now.to) a.sites.now.opened.now c.requires.opened,
-        view_length a.material.now.known.now a.sites.now.from a.sites.now.to,
-        c.requires.can.count,
-        c.requires.can.pairs_are.sites,
-      );
-      nodes = c.add_weights.ensures.len ∙ rows.nodes ∙ many;
+      ends = strip_ends a.material.now a.sites.now;
+      rows = laid_rows (length a.sites.now.opened.now) (strip_ends a.material.now a.sites.now) old new list.items rows.laid refl c.add_weights.ensures.len
+          (subst S c.deref-3.ensures.value c.add_weights.ensures.size) (omega (arith, rows.size)) many few rows.ends;
       count = rows.count.1;
       small = rows.small;
     }
@@ -82,23 +139,31 @@ pub returns-clause-built : goal.returns-clause-built
 returns-clause-built g c = λ m move f gives over weighs.
     let a = c.args in
     let can = c.requires.can in
+    let n = length a.sites.now.opened.now in
+    let ends = strip_ends a.material.now a.sites.now in
     let rows = c.in_ok-add_rows.ensures in
-    let old = c.add_rows.new.form in
-    let new : Quadratic = record old { weights = c.add_weights.new.weights } in
+    let first : RowForm = record { weights = c.begin_form.new.form.weights; laying = c.open.new.self } in
+    let part = c.in_ok-open.ensures n ends c.count_rows.ensures in
+    let none = begun_constant n ends first c.in_ok-begin_form.ensures.weights part in
+    let begun = begun_laid n ends first c.in_ok-begin_form.ensures.weights part in
+    let old = form_in c.add_rows.new.form in
+    let laying = c.add_rows.new.form.laying in
+    let after : RowForm = record { weights = c.add_weights.new.weights; laying = laying } in
+    let new = form_in after in
     let list = c.add_rows.new.list in
     let S : List ℤ → Type 0 = λ ys. weights_size c.add_weights.new.weights.items ≤ weights_size old.weights.items + weights_size ys in
     let laid : IsLaid list.items old new = (
       refl,
       refl,
       c.add_weights.ensures.len,
-      (λ x. c.add_weights.ensures.value x ∙ ap (λ (ys : List ℤ). weights_value old.weights.items x +ℤ weights_value ys x) c.deref-2.ensures.value),
-      subst S c.deref-2.ensures.value c.add_weights.ensures.size,
+      (λ x. c.add_weights.ensures.value x ∙ ap (λ (ys : List ℤ). weights_value old.weights.items x +ℤ weights_value ys x) c.deref-3.ensures.value),
+      subst S c.deref-3.ensures.value c.add_weights.ensures.size,
     ) in
     record {
-      stands = rows_stand m move f a.material.now.start.now a.material.now.known.now a.sites.now.from a.sites.now.to a.sites.now.opened.now a.material.now.pairs.now a.material.now.ends.now (length a.sites.now.opened.now) c.clear_form.new.form old new list
+      stands = rows_stand m move f a.material.now.start.now a.material.now.known.now a.sites.now.from a.sites.now.to a.sites.now.opened.now a.material.now.pairs.now a.material.now.ends.now n (form_in first) old new list
           over.sites_are over.pairs_are over.instance over.allowed can.by_site
           (can.count ∙ sym over.sites_are) can.goes_on c.requires.opened
-          c.in_ok-clear_form.ensures refl rows.nodes laid
+          none refl (rows.laid.nodes ∙ sym begun.nodes) laid
           (rows.weights m move f gives over weighs)
           (rows.adds m move f gives over);
       each = λ k l.

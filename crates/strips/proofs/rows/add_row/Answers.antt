@@ -1,16 +1,19 @@
-use Rattle.std.proofs.Common.{◌≡◌, ◌<◌, ◌≤◌, ◌+◌, ◌-◌, ◌∙◌, ℕ, Bool, arith, w64, to_z}
+use Rattle.std.proofs.Common.{◌≡◌, ◌<◌, ◌≤◌, ◌+◌, ◌-◌, ◌∙◌, ◌++◌, ℕ, Bool, ap, arith, w64, to_z}
 use Rattle.label_field.specs.declared.pair.Pair.{Pair}
 use Rattle.move_energy.specs.BySite.{degree, neighbours_start}
 use Rattle.move_energy.specs.Choices.{choice_at, open_at, open_rank}
 use Rattle.move_energy.specs.Weights.{unsaved_surplus}
 use Rattle.move_energy.proofs.Parts.{start_read, starts_rise, head_read}
-use Rattle.move_energy.proofs.Adding.{met_room}
 use Rattle.deciding.proofs.Left.{degree_most}
 use Rattle.closing_in.specs.Borders.{not_ones, range_of}
 use Rattle.closing_in.proofs.Rooms.{total_is, total_all}
 use Rattle.strips.specs.Views.{strip_view}
 use Rattle.strips.proofs.Borders.{border_none, border_more, border_small, head_inside}
-use Rattle.strips.proofs.Inside.{row_longer, row_adds, row_none, row_longer_all, row_adds_all, nothing_adds_yet}
+use Rattle.strips.proofs.Inside.{row_adds, row_adds_all, nothing_adds_yet}
+use Rattle.sink_distances.specs.Rows.{arc_ends}
+use Rattle.strips.specs.Meeting.{ends_below, strip_ends}
+use Rattle.strips.specs.RowForms.{arcs_in, form_in}
+use Rattle.strips.proofs.Meeting.{next_begins, ends_on, row_unmet}
 use Rattle.strips.proofs.rows.add_row.Goals as goal
 
 pub is_one-one-requires : goal.is_one-one-requires
@@ -39,14 +42,14 @@ is_beyond-past-requires g c =
     let within = head_inside a.material.now.pairs.now a.material.now.ends.now a.site p c.requires.can.pairs_are.each c.requires.can.by_site inside from to in
     omega (arith, head, within, c.requires.can.count)
 
-pub add_inside-requires-clause-nodes : goal.add_inside-requires-clause-nodes
-add_inside-requires-clause-nodes g c = record { numbering = c.requires.nodes.numbering; nodes = c.loop-place.invariant.longer.nodes ∙ c.requires.nodes.nodes }
-
 pub add_inside-requires-clause-site : goal.add_inside-requires-clause-site
 add_inside-requires-clause-site g c = c.requires.site
 
-pub add_inside-requires-clause-bounded : goal.add_inside-requires-clause-bounded
-add_inside-requires-clause-bounded g c =
+pub add_inside-requires-clause-laid : goal.add_inside-requires-clause-laid
+add_inside-requires-clause-laid g c = c.loop-place.invariant.laid
+
+pub add_inside-requires-clause-begins : goal.add_inside-requires-clause-begins
+add_inside-requires-clause-begins g c =
     let a = c.args in
     let p = c.loop-place.place in
     let inside : a.site < a.material.now.pairs.now.sites = omega (arith, c.requires.site.0) in
@@ -54,8 +57,8 @@ add_inside-requires-clause-bounded g c =
     let end = start_read a.material.now.pairs.now a.material.now.ends.now (a.site + 1) _ c.requires.can.by_site (omega (arith, inside)) c.index-place-end.ensures in
     let from : neighbours_start a.material.now.ends.now a.site ≤ p = omega (arith, start, c.loop-place.auto.place) in
     let to : p < neighbours_start a.material.now.ends.now (a.site + 1) = omega (arith, end, c.loop-place-test.true) in
-    met_room a.material.now.ends.now (open_at (strip_view a.material.now.known.now a.sites.now.from a.sites.now.to)) a.site (p - neighbours_start a.material.now.ends.now a.site) a.form.now c.loop-place.form
-    (omega (arith, from, to)) c.requires.met c.requires.bounded c.loop-place.invariant.longer
+    next_begins a.material.now a.sites.now a.site p (arc_ends (arcs_in a.form.now)) (arc_ends (arcs_in c.loop-place.form)) (strip_ends a.material.now a.sites.now) from to
+    c.requires.begins c.loop-place.invariant.ends
 
 pub loop-place-init : goal.loop-place-init
 loop-place-init g c =
@@ -68,9 +71,10 @@ loop-place-init g c =
       beyond_small = omega arith;
       ones = λ m move f gives over. border_none m move f (choice_at a.material.now.start.now) (not_ones (choice_at a.material.now.known.now)) a.material.now.ends.now a.site _ start;
       beyond = λ m move f gives over. border_none m move f (choice_at a.material.now.known.now) (range_of a.sites.now.from a.sites.now.to) a.material.now.ends.now a.site _ start;
-      longer = row_none a.material.now.ends.now (open_at v) a.site _ a.form.now start;
+      laid = c.requires.laid;
+      ends = row_unmet a.material.now a.sites.now a.site _ (arc_ends (arcs_in a.form.now)) start;
       adds = λ m move f gives over.
-          nothing_adds_yet a.material.now.ends.now (open_at v) (unsaved_surplus m move f (choice_at v) (open_rank v)) a.site _ a.form.now start;
+          nothing_adds_yet a.material.now.ends.now (open_at v) (unsaved_surplus m move f (choice_at v) (open_rank v)) a.site _ (form_in a.form.now) start;
     }
 
 pub loop-place-preserved : goal.loop-place-preserved
@@ -102,10 +106,11 @@ loop-place-preserved g c =
           border_more m move f (choice_at a.material.now.known.now) (range_of a.sites.now.from a.sites.now.to)
           a.material.now.pairs.now a.material.now.ends.now a.site p _ c.is_beyond-past.result (to_z w64 c.loop-place.beyond-bits) past.result _
           c.requires.can.pairs_are.each c.requires.can.by_site inside from to head c.is_beyond-past.ensures past_is (i.beyond m move f gives over) (past.ensures.value m move f gives over);
-      longer = row_longer a.material.now.ends.now (open_at v) a.site p a.form.now c.loop-place.form c.add_inside.new.form from i.longer c.in_ok-add_inside.ensures.longer;
+      laid = c.in_ok-add_inside.ensures.laid;
+      ends = ends_on a.material.now a.sites.now a.site p (arc_ends (arcs_in a.form.now)) (arc_ends (arcs_in c.loop-place.form)) (arc_ends (arcs_in c.add_inside.new.form)) from i.ends c.in_ok-add_inside.ensures.ends;
       adds = λ m move f gives over.
           row_adds a.material.now.ends.now (open_at v) (λ (x : ℕ → Bool) (pair : Pair). unsaved_surplus m move f (choice_at v) (open_rank v) x pair) a.site p
-          a.form.now c.loop-place.form c.add_inside.new.form from (i.adds m move f gives over) (c.in_ok-add_inside.ensures.adds m move f gives over);
+          (form_in a.form.now) (form_in c.loop-place.form) (form_in c.add_inside.new.form) from (i.adds m move f gives over) (c.in_ok-add_inside.ensures.adds m move f gives over);
     }
 
 pub returns-clause-ones : goal.returns-clause-ones
@@ -142,16 +147,6 @@ returns-clause-range g c =
     omega (arith, start, end, starts_rise a.material.now.pairs.now a.material.now.ends.now a.site c.requires.can.by_site inside, c.loop-place.auto.place-end, c.loop-place-test.false) in
     (omega (arith, last, c.loop-place.invariant.ones_small), omega (arith, last, c.loop-place.invariant.beyond_small))
 
-pub returns-clause-longer : goal.returns-clause-longer
-returns-clause-longer g c =
-    let a = c.args in
-    let inside : a.site < a.material.now.pairs.now.sites = omega (arith, c.requires.site.0) in
-    let start = start_read a.material.now.pairs.now a.material.now.ends.now a.site _ c.requires.can.by_site (omega (arith, inside)) c.index-place.ensures in
-    let end = start_read a.material.now.pairs.now a.material.now.ends.now (a.site + 1) _ c.requires.can.by_site (omega (arith, inside)) c.index-place-end.ensures in
-    let last : c.loop-place.place - neighbours_start a.material.now.ends.now a.site ≡ degree a.material.now.ends.now a.site =
-    omega (arith, start, end, starts_rise a.material.now.pairs.now a.material.now.ends.now a.site c.requires.can.by_site inside, c.loop-place.auto.place-end, c.loop-place-test.false) in
-    row_longer_all a.material.now.ends.now (open_at (strip_view a.material.now.known.now a.sites.now.from a.sites.now.to)) a.site _ a.form.now c.loop-place.form last c.loop-place.invariant.longer
-
 pub returns-clause-adds : goal.returns-clause-adds
 returns-clause-adds g c =
     λ m move f gives over.
@@ -163,4 +158,17 @@ returns-clause-adds g c =
     omega (arith, start, end, starts_rise a.material.now.pairs.now a.material.now.ends.now a.site c.requires.can.by_site inside, c.loop-place.auto.place-end, c.loop-place-test.false) in
     let v = strip_view a.material.now.known.now a.sites.now.from a.sites.now.to in
     row_adds_all a.material.now.ends.now (open_at v) (λ (x : ℕ → Bool) (pair : Pair). unsaved_surplus m move f (choice_at v) (open_rank v) x pair) a.site _
-    a.form.now c.loop-place.form last (c.loop-place.invariant.adds m move f gives over)
+    (form_in a.form.now) (form_in c.loop-place.form) last (c.loop-place.invariant.adds m move f gives over)
+
+pub returns-clause-laid : goal.returns-clause-laid
+returns-clause-laid g c = c.loop-place.invariant.laid
+
+pub returns-clause-ends : goal.returns-clause-ends
+returns-clause-ends g c =
+    let a = c.args in
+    let inside : a.site < a.material.now.pairs.now.sites = omega (arith, c.requires.site.0) in
+    let start = start_read a.material.now.pairs.now a.material.now.ends.now a.site _ c.requires.can.by_site (omega (arith, inside)) c.index-place.ensures in
+    let end = start_read a.material.now.pairs.now a.material.now.ends.now (a.site + 1) _ c.requires.can.by_site (omega (arith, inside)) c.index-place-end.ensures in
+    let last : c.loop-place.place - neighbours_start a.material.now.ends.now a.site ≡ degree a.material.now.ends.now a.site =
+    omega (arith, start, end, starts_rise a.material.now.pairs.now a.material.now.ends.now a.site c.requires.can.by_site inside, c.loop-place.auto.place-end, c.loop-place-test.false) in
+    c.loop-place.invariant.ends ∙ ap (λ (k : ℕ). arc_ends (arcs_in a.form.now) ++ ends_below a.material.now a.sites.now a.site k) last

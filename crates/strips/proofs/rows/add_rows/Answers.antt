@@ -1,4 +1,4 @@
-use Rattle.std.proofs.Common.{◌≡◌, ◌<◌, ◌≤◌, ◌-ℤ◌, ◌∙◌, ℕ, ℤ, Bool, List, get_or, unsigned_abs, pos, ap, refl, length, sum, sum_by, arith}
+use Rattle.std.proofs.Common.{◌≡◌, ◌<◌, ◌≤◌, ◌-ℤ◌, ◌∙◌, ℕ, ℤ, Bool, List, ◌++◌, get_or, unsigned_abs, pos, ap, refl, sym, subst, length, sum, arith}
 use Rattle.std.proofs.lemmas.Grind.{common_steps}
 use Rattle.std.proofs.lemmas.List.{get_or-map}
 use Rattle.compile_cut.specs.Weights.{weights_size}
@@ -6,15 +6,18 @@ use Rattle.move_energy.specs.BySite.{degree, met_at}
 use Rattle.move_energy.specs.Choices.{choice_at, open_at, open_rank}
 use Rattle.move_energy.specs.Weights.{weight_at, unsaved_surplus}
 use Rattle.move_energy.proofs.Opened.{opened_has, open_true}
-use Rattle.move_energy.proofs.Steps.{longer_none}
-use Rattle.move_energy.proofs.Adding.{cost_none, site_more, site_all, met_few, sum_longer}
+use Rattle.move_energy.proofs.Adding.{cost_none, site_more, site_all}
 use Rattle.deciding.specs.Parts.{site_weight}
 use Rattle.deciding.proofs.Left.{degree_most}
 use Rattle.closing_in.specs.Borders.{border_at, range_of}
 use Rattle.strips.specs.Views.{strip_view, weight_now}
 use Rattle.strips.proofs.Views.{view_length}
 use Rattle.strips.proofs.Borders.{weight_fits, weight_is, weight_few, border_passed, size_more, borders_more, size_all, borders_all, list_more}
-use Rattle.strips.proofs.Laying.{rows_room, rows_bounded}
+use Rattle.std.specs.List.{flat_map}
+use Rattle.std.proofs.lemmas.List.{take_all}
+use Rattle.strips.specs.Meeting.{ends_at, strip_ends}
+use Rattle.strips.specs.RowForms.{form_in, IsFirstPart}
+use Rattle.strips.proofs.Meeting.{rows_more, row_begins}
 use Rattle.strips.proofs.rows.add_rows.Goals as goal
 
 pub loop-index-init : goal.loop-index-init
@@ -30,13 +33,10 @@ loop-index-init g c =
       small = omega (arith, ap (λ (xs : List ℕ). sum xs) borders);
       weights = λ m move f gives over starts. list;
       borders = λ m move f gives over. borders;
-      longer = longer_none c.args.form.now;
-      adds = λ m move f gives over. cost_none c.args.form.now (λ x. 0) (λ x. refl);
+      laid = c.requires.laid;
+      ends = c.requires.none;
+      adds = λ m move f gives over. cost_none (form_in c.args.form.now) (λ x. 0) (λ x. refl);
     }
-
-pub add_row-requires-clause-nodes : goal.add_row-requires-clause-nodes
-add_row-requires-clause-nodes g c =
-    record { numbering = c.requires.nodes.numbering; nodes = c.loop-index.invariant.longer.nodes ∙ c.requires.nodes.nodes }
 
 pub add_row-requires-clause-site : goal.add_row-requires-clause-site
 add_row-requires-clause-site g c =
@@ -48,33 +48,16 @@ add_row-requires-clause-site g c =
     let long = view_length a.material.now.known.now a.sites.now.from a.sites.now.to in
     (omega (arith, has.0, long, c.requires.can.count), open_true (choice_at v (get_or a.sites.now.opened.now i 0)) has.1)
 
-pub add_row-requires-clause-met : goal.add_row-requires-clause-met
-add_row-requires-clause-met g c =
-    let a = c.args in
-    let v = strip_view a.material.now.known.now a.sites.now.from a.sites.now.to in
-    let i = c.loop-index.index in
-    let l : i < length a.sites.now.opened.now = c.loop-index-test.true in
-    let has = opened_has v a.sites.now.opened.now i c.requires.opened l in
-    let long = view_length a.material.now.known.now a.sites.now.from a.sites.now.to in
-    let few : sum_by (met_at a.material.now.ends.now (open_at v) (λ pair. 1)) a.sites.now.opened.now ≤ length a.material.now.pairs.now.list =
-    met_few a.material.now.pairs.now a.material.now.ends.now v a.sites.now.opened.now (a.material.now.pairs.now.sites) c.requires.can.by_site c.requires.can.pairs_are.each
-    refl (view_length a.material.now.known.now a.sites.now.from a.sites.now.to ∙ c.requires.can.count) c.requires.opened in
-    (rows_room (met_at a.material.now.ends.now (open_at v) (λ pair. 1)) a.sites.now.opened.now i (length a.material.now.pairs.now.list) a.form.now c.loop-index.form l few
-    c.requires.can.pairs_are.count c.requires.bounded c.loop-index.invariant.longer).0
+pub add_row-requires-clause-laid : goal.add_row-requires-clause-laid
+add_row-requires-clause-laid g c = c.loop-index.invariant.laid
 
-pub add_row-requires-clause-bounded : goal.add_row-requires-clause-bounded
-add_row-requires-clause-bounded g c =
+pub add_row-requires-clause-begins : goal.add_row-requires-clause-begins
+add_row-requires-clause-begins g c =
     let a = c.args in
-    let v = strip_view a.material.now.known.now a.sites.now.from a.sites.now.to in
+    let all = strip_ends a.material.now a.sites.now in
     let i = c.loop-index.index in
-    let l : i < length a.sites.now.opened.now = c.loop-index-test.true in
-    let has = opened_has v a.sites.now.opened.now i c.requires.opened l in
-    let long = view_length a.material.now.known.now a.sites.now.from a.sites.now.to in
-    let few : sum_by (met_at a.material.now.ends.now (open_at v) (λ pair. 1)) a.sites.now.opened.now ≤ length a.material.now.pairs.now.list =
-    met_few a.material.now.pairs.now a.material.now.ends.now v a.sites.now.opened.now (a.material.now.pairs.now.sites) c.requires.can.by_site c.requires.can.pairs_are.each
-    refl (view_length a.material.now.known.now a.sites.now.from a.sites.now.to ∙ c.requires.can.count) c.requires.opened in
-    (rows_room (met_at a.material.now.ends.now (open_at v) (λ pair. 1)) a.sites.now.opened.now i (length a.material.now.pairs.now.list) a.form.now c.loop-index.form l few
-    c.requires.can.pairs_are.count c.requires.bounded c.loop-index.invariant.longer).1
+    subst (λ (xs : List ℕ). IsFirstPart (xs ++ ends_at a.material.now a.sites.now (get_or a.sites.now.opened.now i 0)) all) (sym c.loop-index.invariant.ends)
+    (row_begins a.material.now a.sites.now a.sites.now.opened.now i c.loop-index-test.true)
 
 pub overflow_sub-sites : goal.overflow_sub-sites
 overflow_sub-sites g c =
@@ -126,9 +109,10 @@ loop-index-preserved g c =
       borders = λ m move f gives over.
           list_more (border_at m move f (choice_at a.material.now.known.now) (range_of a.sites.now.from a.sites.now.to)) c.loop-index.borders.items _ a.sites.now.opened.now i site _ l refl second.items
           (border ∙ ap unsigned_abs (says.beyond m move f gives over)) (inv.borders m move f gives over);
-      longer = sum_longer (met_at a.material.now.ends.now (open_at v) (λ pair. 1)) a.sites.now.opened.now i a.form.now c.loop-index.form c.add_row.new.form l inv.longer says.longer;
+      laid = c.in_ok-found.ensures.laid;
+      ends = c.in_ok-found.ensures.ends ∙ ap (λ (xs : List ℕ). xs ++ ends_at a.material.now a.sites.now site) inv.ends ∙ sym (rows_more a.material.now a.sites.now a.sites.now.opened.now i l);
       adds = λ m move f gives over.
-          site_more a.form.now c.loop-index.form c.add_row.new.form
+          site_more (form_in a.form.now) (form_in c.loop-index.form) (form_in c.add_row.new.form)
           (λ (x : ℕ → Bool). met_at a.material.now.ends.now (open_at v) (unsaved_surplus m move f (choice_at v) (open_rank v) x))
           a.sites.now.opened.now i l (inv.adds m move f gives over) (says.adds m move f gives over);
     }
@@ -149,20 +133,18 @@ returns-clause-small g c =
     borders_all a.material.now.pairs.now a.material.now.ends.now v c.loop-index.borders.items a.sites.now.opened.now c.loop-index.index c.requires.can.pairs_are c.requires.can.by_site
     (long ∙ c.requires.can.count) c.requires.opened c.loop-index-test.false c.loop-index.invariant.small
 
-pub returns-clause-bounded : goal.returns-clause-bounded
-returns-clause-bounded g c =
-    let a = c.args in
-    let v = strip_view a.material.now.known.now a.sites.now.from a.sites.now.to in
-    let few : sum_by (met_at a.material.now.ends.now (open_at v) (λ pair. 1)) a.sites.now.opened.now ≤ length a.material.now.pairs.now.list =
-    met_few a.material.now.pairs.now a.material.now.ends.now v a.sites.now.opened.now (a.material.now.pairs.now.sites) c.requires.can.by_site c.requires.can.pairs_are.each
-    refl (view_length a.material.now.known.now a.sites.now.from a.sites.now.to ∙ c.requires.can.count) c.requires.opened in
-    rows_bounded (met_at a.material.now.ends.now (open_at v) (λ pair. 1)) a.sites.now.opened.now c.loop-index.index (length a.material.now.pairs.now.list) a.form.now c.loop-index.form few
-    c.requires.can.pairs_are.count c.requires.bounded c.loop-index.invariant.longer
-
 pub returns-clause-adds : goal.returns-clause-adds
 returns-clause-adds g c = λ m move f gives over.
     let a = c.args in
     let v = strip_view a.material.now.known.now a.sites.now.from a.sites.now.to in
-    site_all a.form.now c.loop-index.form
+    site_all (form_in a.form.now) (form_in c.loop-index.form)
     (λ (x : ℕ → Bool). met_at a.material.now.ends.now (open_at v) (unsaved_surplus m move f (choice_at v) (open_rank v) x))
     a.sites.now.opened.now c.loop-index.index (omega (arith, c.loop-index-test.false)) (c.loop-index.invariant.adds m move f gives over)
+
+pub returns-clause-laid : goal.returns-clause-laid
+returns-clause-laid g c = c.loop-index.invariant.laid
+
+pub returns-clause-ends : goal.returns-clause-ends
+returns-clause-ends g c =
+    let a = c.args in
+    c.loop-index.invariant.ends ∙ ap (flat_map (ends_at a.material.now a.sites.now)) (take_all c.loop-index.index a.sites.now.opened.now (omega (arith, c.loop-index-test.false)))

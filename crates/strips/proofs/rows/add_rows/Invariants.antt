@@ -4,11 +4,15 @@ use Rattle.labellings.specs.declared.change.Move.{Move}
 use Rattle.labellings.specs.Energies.{Instance}
 use Rattle.compile_cut.specs.Weights.{weights_size}
 use Rattle.move_energy.specs.BySite.{degree, met_at}
-use Rattle.move_energy.specs.Built.{AddsCost, IsLonger}
+use Rattle.move_energy.specs.Built.{AddsCost}
 use Rattle.move_energy.specs.Choices.{choice_at, open_at, open_rank}
 use Rattle.move_energy.specs.Weights.{unsaved_surplus}
 use Rattle.closing_in.specs.Borders.{border_at, range_of}
 use Rattle.strips.specs.Building.{GivesSurpluses, IsMoveOver, AreStartWeights}
+use Rattle.std.specs.List.{flat_map}
+use Rattle.sink_distances.specs.Rows.{arc_ends}
+use Rattle.strips.specs.Meeting.{ends_at, strip_ends}
+use Rattle.strips.specs.RowForms.{arcs_in, form_in, IsLaidTo}
 use Rattle.strips.specs.Views.{strip_view, weight_now}
 use Rattle.strips.proofs.rows.add_rows.Given as goal
 
@@ -26,8 +30,9 @@ invariant-loop-index g l = record {
       → l.list.items ≡ map (weight_now m move f (choice_at l.material.start.now) (choice_at l.material.known.now)) (take l.index l.sites.opened.now);
   borders : (m : Instance) (move : Move) (f : ℕ → ℕ) → GivesSurpluses (goal.S-post g l.savings) m move f → IsMoveOver l.material.pairs.now m move f
       → l.borders.items ≡ map (border_at m move f (choice_at l.material.known.now) (range_of l.sites.from l.sites.to)) (take l.index l.sites.opened.now);
-  longer : IsLonger (sum_by (met_at l.material.ends.now (open_at (strip_view l.material.known.now l.sites.from l.sites.to)) (λ pair. 1)) (take l.index l.sites.opened.now)) l.fn.form l.form;
+  laid : IsLaidTo (length l.sites.opened.now) (strip_ends l.material l.sites) l.form;
+  ends : arc_ends (arcs_in l.form) ≡ flat_map (ends_at l.material l.sites) (take l.index l.sites.opened.now);
   adds : (m : Instance) (move : Move) (f : ℕ → ℕ) → GivesSurpluses (goal.S-post g l.savings) m move f → IsMoveOver l.material.pairs.now m move f
-      → AddsCost l.fn.form l.form (λ x. sum_by (met_at l.material.ends.now (open_at (strip_view l.material.known.now l.sites.from l.sites.to))
+      → AddsCost (form_in l.fn.form) (form_in l.form) (λ x. sum_by (met_at l.material.ends.now (open_at (strip_view l.material.known.now l.sites.from l.sites.to))
       (unsaved_surplus m move f (choice_at (strip_view l.material.known.now l.sites.from l.sites.to)) (open_rank (strip_view l.material.known.now l.sites.from l.sites.to)) x)) (take l.index l.sites.opened.now));
 }

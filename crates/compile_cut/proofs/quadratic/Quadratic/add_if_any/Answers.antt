@@ -60,7 +60,7 @@ returns-clause-value c =
           (sum_by (λ node. count_if (x node && not (x (length ws))) cost) nodes) (paid x nodes cost) cost (x (length ws)) (weights x) (rw place at (c.in_ok-add_arcs_from.ensures.value x)) is (out_some x (length ws) nodes cost is);
       once = λ x. paid_once x nodes cost;
       never = λ x none. paid_never x nodes cost none;
-      old_same = λ x y shown. omega (arith, ints, weights_value-same ws x y shown, arcs_value-same (length ws) old.arcs.items x y shown (rw full at c.requires.bounded.arcs));
+      old_same = λ x y shown. omega (arith, ints, weights_value-same ws x y shown, arcs_value-same (length ws) old.arcs.items x y shown (rw full at c.requires.form.bounded.arcs));
       some_same = λ x y shown. any-same (length ws) x y nodes below shown;
     } in
     record {

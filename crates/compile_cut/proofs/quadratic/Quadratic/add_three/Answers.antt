@@ -20,7 +20,7 @@ add_three_weights-requires-clause-room c =
     let s = c.split_three-part.ensures.small in
     let ws = c.args.self.now.weights.items in
     let items : c.push.new.self.items ≡ ws ++ p.hidden ∷ [] = rw (passed_is p.hidden (omega (arith, s.hidden))) at c.in_ok-push.ensures.items in
-    rw items (omega (arith, sum_by_push unsigned_abs ws p.hidden, s.hidden, c.requires.bounded.size))
+    rw items (omega (arith, sum_by_push unsigned_abs ws p.hidden, s.hidden, c.requires.form.bounded.size))
 
 arc_weaker : (n m : ℕ) (arc : Arc) → n ≤ m → IsArc n arc → IsArc m arc
 arc_weaker n m arc l h = record { from = omega (arith, h.from); to = omega (arith, h.to) }
@@ -38,7 +38,7 @@ returns c =
     let items : c.push.new.self.items ≡ ws ++ p.hidden ∷ [] = rw hid at c.in_ok-push.ensures.items in
     let pushed : weights_size c.push.new.self.items ≡ weights_size ws + unsigned_abs p.hidden = ap weights_size items ∙ sum_by_push unsigned_abs ws p.hidden in
     let more = rw hid at c.in_ok-add_hidden_arcs.ensures.size in
-    let old : unsigned_abs q ≤ 1000000000000000000 = omega (arith, c.requires.bounded.constant) in
+    let old : unsigned_abs q ≤ 1000000000000000000 = omega (arith, c.requires.form.bounded.constant) in
     let new : unsigned_abs p.constant ≤ 1000000000000000000 = omega (arith, s.constant) in
     let len : vec_len c.add_three_weights.new.weights ≡ vec_len c.args.self.now.weights + 1 = c.add_three_weights.ensures.len ∙ c.in_ok-push.ensures.len in
     let n = vec_len c.args.self.now.weights + 1 in
@@ -59,7 +59,7 @@ returns c =
     (arcs_value c.args.self.now.arcs.items x) (arcs_value c.add_three_arcs.new.arcs.items x) (arcs_value c.add_hidden_arcs.new.arcs.items x)
     p (x (length ws)) (x nodes.first) (x nodes.second) (x nodes.third) hidden (omega (arith, ints, c.add_three_weights.ensures.value x)) (omega (arith, c.in_ok-add_three_arcs.ensures.value x)) arcs in
     let same : (x y : ℕ → Bool) → Shows (length ws) x y → quadratic_value c.args.self.now y ≡ quadratic_value c.args.self.now x =
-    λ x y shown. omega (arith, ints, weights_value-same ws x y shown, arcs_value-same (length ws) c.args.self.now.arcs.items x y shown (rw full at c.requires.bounded.arcs)) in
+    λ x y shown. omega (arith, ints, weights_value-same ws x y shown, arcs_value-same (length ws) c.args.self.now.arcs.items x y shown (rw full at c.requires.form.bounded.arcs)) in
     rw (constant_is q p.constant old new)
     (record {
       nodes = len;

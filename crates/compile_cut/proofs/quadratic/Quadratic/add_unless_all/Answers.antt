@@ -25,7 +25,7 @@ returns-clause-tied c =
     let items : c.push.new.self.items ≡ ws ++ neg_ℤ (pos cost) ∷ [] = rw (minus_cast cost small) at c.in_ok-push.ensures.items in
     let pushed : weights_size c.push.new.self.items ≡ weights_size ws + cost =
     ap weights_size items ∙ sum_by_push unsigned_abs ws (neg_ℤ (pos cost)) ∙ (let e : unsigned_abs (neg_ℤ (pos cost)) ≡ cost = omega (arith, ints) in ap (λ u. weights_size ws + u) e) in
-    let big : unsigned_abs old.constant ≤ 1000000000000000000 = omega (arith, c.requires.bounded.constant) in
+    let big : unsigned_abs old.constant ≤ 1000000000000000000 = omega (arith, c.requires.form.bounded.constant) in
     let len : vec_len c.push.new.self ≡ vec_len old.weights + 1 = c.in_ok-push.ensures.len in
     rw (plus_cast old.constant cost big small) (record {
       nodes = len;
@@ -51,7 +51,7 @@ returns-clause-value c =
     let cost = c.args.cost in
     let full = old.weights.ok.0 in
     let small : cost ≤ 1000000000 = omega (arith, c.requires.cost) in
-    let big : unsigned_abs old.constant ≤ 1000000000000000000 = omega (arith, c.requires.bounded.constant) in
+    let big : unsigned_abs old.constant ≤ 1000000000000000000 = omega (arith, c.requires.form.bounded.constant) in
     let items : c.push.new.self.items ≡ ws ++ neg_ℤ (pos cost) ∷ [] = rw (minus_cast cost small) at c.in_ok-push.ensures.items in
     let place : c.len-hidden.result ≡ length ws = c.len-hidden.ensures ∙ full in
     let new : Quadratic = record { constant = old.constant +ℤ pos cost; weights = c.push.new.self; arcs = c.add_arcs_to.new.arcs } in
@@ -67,7 +67,7 @@ returns-clause-value c =
           (sum_by (λ node. count_if (x (length ws) && not (x node)) cost) nodes) (s x) cost (x (length ws)) (weights x) (rw place at (c.in_ok-add_arcs_to.ensures.value x)) is (into_some x (length ws) nodes cost is);
       once = λ x. omega (arith, paid_once (λ v. not (x v)) nodes cost, ap (λ (b : Bool). count_if b cost) (any_not x nodes));
       never = λ x none. paid_never (λ v. not (x v)) nodes cost (any_not x nodes ∙ none);
-      old_same = λ x y shown. omega (arith, ints, weights_value-same ws x y shown, arcs_value-same (length ws) old.arcs.items x y shown (rw full at c.requires.bounded.arcs));
+      old_same = λ x y shown. omega (arith, ints, weights_value-same ws x y shown, arcs_value-same (length ws) old.arcs.items x y shown (rw full at c.requires.form.bounded.arcs));
       some_same = λ x y shown. ap not (all-same (length ws) x y nodes below shown);
     } in
     rw (plus_cast old.constant cost big small) (record {

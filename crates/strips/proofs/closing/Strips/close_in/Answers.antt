@@ -8,6 +8,8 @@ use Rattle.strips.specs.Views.{strip_view}
 use Rattle.move_energy.proofs.Opened.{opened_within}
 use Rattle.strips.proofs.Views.{view_length, whole_is, whole_rank}
 use Rattle.strips.proofs.Listing.{none_listed, whole_listed}
+use Rattle.strips.specs.RowForms.{form_in}
+use Rattle.strips.proofs.Writing.{stands_on}
 use Rattle.strips.proofs.closing.Strips.close_in.Goals as goal
 
 pub list_next-requires-clause-opened : goal.list_next-requires-clause-opened
@@ -51,8 +53,10 @@ pub returns-clause-stands : goal.returns-clause-stands
 returns-clause-stands g c = λ m meant.
     let known = c.strips.built.variables.choices.items in
     let all : length known ≤ c.strips.to = omega (arith, c.strips.invariant.can.count, c.requires.begins.starts, c.strips-test.false) in
-    let S : (ℕ → Choice) → (ℕ → ℕ) → Type 0 = λ choice variable. StandsFor m c.args.step.now.change (labelling c.args.step.now.at.now) choice c.build_asked.new.form variable in
+    let S : (ℕ → Choice) → (ℕ → ℕ) → Type 0 = λ choice variable. StandsFor m c.args.step.now.change (labelling c.args.step.now.at.now) choice (form_in c.build_asked.new.room.form) variable in
     let P : (ℕ → Choice) → Type 0 = λ choice. S choice (open_rank (strip_view known 0 c.strips.to)) in
     let Q : (ℕ → ℕ) → Type 0 = λ variable. S (choice_at known) variable in
     let K : List Choice → Type 0 = λ xs. S (choice_at (strip_view xs 0 c.strips.to)) (open_rank (strip_view xs 0 c.strips.to)) in
-    subst Q (whole_rank known c.strips.to all) (subst P (whole_is known c.strips.to all) (subst K c.deref-5.ensures.value (c.in_ok-build_asked.ensures.built m meant).stands))
+    stands_on m c.args.step.now.change (labelling c.args.step.now.at.now) (choice_at known) (open_rank known) (form_in c.build_asked.new.room.form) c.write_form.new.written
+    c.in_ok-write_form.ensures.nodes c.in_ok-write_form.ensures.value
+    (subst Q (whole_rank known c.strips.to all) (subst P (whole_is known c.strips.to all) (subst K c.deref-5.ensures.value (c.in_ok-build_asked.ensures.built m meant).stands)))

@@ -1,0 +1,19 @@
+use Rattle.std.proofs.Common.{◌≡◌, ◌+◌, ◌*◌, ◌≤◌, cond, ltb}
+use Rattle.flow_network.specs.Cut.{nodes}
+use Rattle.flow_network.specs.Progress.{top}
+use Rattle.sink_distances.specs.Distances.{AreDistancesButZeros}
+use Rattle.plain_cut.specs.State.{work_flow, IsWork, work_measure}
+use Rattle.plain_cut.proofs.solver.maximise.Given as goal
+
+abbrev pub invariant-phases : goal.invariant-phases
+invariant-phases l = record {
+  work : IsWork l.net l.work;
+  fits : l.extent.limit ≤ top l.net;
+  count : l.extent.count ≤ nodes l.net;
+  exact : l.extent.limit ≡ top l.net → AreDistancesButZeros l.net (work_flow l.net l.work) l.work.labels.items;
+  counted : l.work.relabels ≡ 0;
+}
+
+-- a phase with new labels lowers what is left; after one without the search is a full one
+abbrev pub decreases-phases : goal.decreases-phases
+decreases-phases l = 2 * work_measure l.net l.work + cond (ltb l.extent.limit (top l.net)) 1 0

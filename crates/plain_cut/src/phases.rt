@@ -1,0 +1,48 @@
+//! The beginning of a phase: one push at each node that the search found.
+ghost use Rattle.std.specs.Prelude.{◌≡◌, OnOk};
+ghost use Rattle.flow_network.specs.Cut.{IsNet};
+ghost use Rattle.plain_cut.specs.State.{IsWork, IsWave, IsPhaseStart};
+
+use crate::pushes::push_all;
+use crate::work::{Work, queue_again};
+use sink_distances::Outline;
+use std::alloc::AllocError;
+
+/// Pushes at each node of the order once, the last first. What is no node is passed over.
+fn push_wave(net: &Outline, work: &mut Work, order: &[u32]) -> Result<(), AllocError>
+    requires work { IsWork net.now work.old }
+    ensures wave { OnOk result (IsWave net.now work.old work.new) }
+{
+    let nodes = net.nodes();
+    'wave: for place in (0..order.len()).rev() {
+        let v = order[place] as usize;
+        if v < nodes && work.excess[v] > 0 {
+            push_all(net, work, v)?;
+        }
+    }
+    Ok(())
+}
+
+/// Begins a phase, where the labels have just been raised: pushes at each of these nodes once, the
+/// last first, and queues anew the nodes that still have excess and a label below the limit. The
+/// others stand aside until the next search.
+pub fn begin_phase(
+    net: &Outline,
+    work: &mut Work,
+    found: &[u32],
+    limit: u32,
+) -> Result<(), AllocError>
+    requires limits { IsNet net.now }
+    requires work { IsWork net.now work.old }
+    requires counted { work.old.relabels ≡ 0 }
+    ensures phase { OnOk result (IsPhaseStart net.now limit work.old work.new) }
+{
+    work.queue.clear();
+    push_wave(net, work, found)?;
+    queue_again(
+        &mut work.queue,
+        work.excess.as_slice(),
+        work.labels.as_slice(),
+        limit,
+    )
+}
