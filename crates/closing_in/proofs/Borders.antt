@@ -29,11 +29,11 @@ use Rattle.deciding.proofs.Rises.{move_falls, move_over, rise_over, rise_parts, 
 use Rattle.deciding.proofs.SiteSums.{test_true, test_false}
 use Rattle.closing_in.specs.Fixing.{with_choices, fixed_value}
 use Rattle.closing_in.specs.Agreeing.{Agree, TellsOne, or_else, choices_or}
-use Rattle.closing_in.specs.Strips.{Strip, others_at, lower_value, upper_value, with_rounds, AreRounds}
+use Rattle.closing_in.specs.Strips.{Strip, others_at, lower_value, upper_value, with_batches, AreBatches}
 use Rattle.closing_in.specs.Borders.{is_inside, is_one, not_ones, is_beyond, pair_border, border_at, border_sum}
 use Rattle.closing_in.proofs.Fixing.{set_shut, open_rise, fixed_over}
 use Rattle.closing_in.proofs.Agreeing.{forced_agree}
-use Rattle.closing_in.proofs.Strips.{rounds_least}
+use Rattle.closing_in.proofs.Strips.{batches_least}
 
 -- ---- the laws, of a move
 
@@ -43,12 +43,12 @@ decided_agree m move f choice pairs allowed decided =
     forced_agree m.sites (move_value m move f) decided.decisions choice
     (passed_forced (move_value m move f) decided.decisions (move_falls m move f pairs allowed) decided.passed) decided.shown
 
-pub rounds_end : (m : Instance) (move : Move) (f : ℕ → ℕ) (choice : ℕ → Choice) (rounds : List (List Strip)) (z : ℕ → Bool) → IsInstance m → IsAllowed m move f
-    → Agree m.sites (move_value m move f) choice → AreRounds m.sites (move_value m move f) choice rounds
-    → IsSmallestLeast m.sites (fixed_value (move_value m move f) (with_rounds choice rounds)) z
-    → IsSmallestLeast m.sites (move_value m move f) (with_choices (with_rounds choice rounds) z)
-rounds_end m move f choice rounds z pairs allowed =
-    rounds_least m.sites (move_value m move f) choice rounds z (move_falls m move f pairs allowed) (move_over m move f pairs)
+pub batches_end : (m : Instance) (move : Move) (f : ℕ → ℕ) (choice : ℕ → Choice) (batches : List (List Strip)) (z : ℕ → Bool) → IsInstance m → IsAllowed m move f
+    → Agree m.sites (move_value m move f) choice → AreBatches m.sites (move_value m move f) choice batches
+    → IsSmallestLeast m.sites (fixed_value (move_value m move f) (with_batches choice batches)) z
+    → IsSmallestLeast m.sites (move_value m move f) (with_choices (with_batches choice batches) z)
+batches_end m move f choice batches z pairs allowed =
+    batches_least m.sites (move_value m move f) choice batches z (move_falls m move f pairs allowed) (move_over m move f pairs)
 
 -- ---- a site of the strip, a site beyond it, and any other
 

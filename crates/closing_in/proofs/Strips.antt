@@ -12,7 +12,7 @@ use Rattle.deciding.proofs.Putting.{set_at, set_other, value_same}
 use Rattle.deciding.proofs.SiteSums.{test_true, test_false}
 use Rattle.closing_in.specs.Fixing.{with_choices, fixed_value, IsLeast}
 use Rattle.closing_in.specs.Agreeing.{Agree, IsAgreed, ChooseMore, TellsOne, with_one, or_else, choices_or}
-use Rattle.closing_in.specs.Strips.{Strip, others_at, lower_value, upper_value, IsStripBounded, choice_of_bounds, told_by, with_strips, with_rounds, AreRounds}
+use Rattle.closing_in.specs.Strips.{Strip, others_at, lower_value, upper_value, IsStripBounded, choice_of_bounds, told_by, with_strips, with_batches, AreBatches}
 use Rattle.closing_in.proofs.Fixing.{least_rises, ones_bound, zeros_bound}
 use Rattle.closing_in.proofs.Agreeing.{each_agreed, rest_agrees}
 
@@ -277,14 +277,14 @@ pub strips_agree : (n : ℕ) (E : (ℕ → Bool) → ℤ) (choice : ℕ → Choi
     → All (IsStripBounded n E choice) strips → Agree n E (with_strips choice strips)
 strips_agree n E choice strips falls over agree bounded = (strips_add n E choice strips falls over agree bounded).0
 
-pub rounds_agree : (n : ℕ) (E : (ℕ → Bool) → ℤ) (choice : ℕ → Choice) (rounds : List (List Strip)) → IsSubmodular E → IsOver n E → Agree n E choice
-    → AreRounds n E choice rounds → Agree n E (with_rounds choice rounds)
-rounds_agree n E choice [] falls over agree closed = agree
-rounds_agree n E choice (strips ∷ rounds) falls over agree closed =
-    strips_agree n E (with_rounds choice rounds) strips falls over (rounds_agree n E choice rounds falls over agree closed.0) closed.1
+pub batches_agree : (n : ℕ) (E : (ℕ → Bool) → ℤ) (choice : ℕ → Choice) (batches : List (List Strip)) → IsSubmodular E → IsOver n E → Agree n E choice
+    → AreBatches n E choice batches → Agree n E (with_batches choice batches)
+batches_agree n E choice [] falls over agree closed = agree
+batches_agree n E choice (strips ∷ batches) falls over agree closed =
+    strips_agree n E (with_batches choice batches) strips falls over (batches_agree n E choice batches falls over agree closed.0) closed.1
 
-pub rounds_least : (n : ℕ) (E : (ℕ → Bool) → ℤ) (choice : ℕ → Choice) (rounds : List (List Strip)) (z : ℕ → Bool) → IsSubmodular E → IsOver n E → Agree n E choice
-    → AreRounds n E choice rounds → IsSmallestLeast n (fixed_value E (with_rounds choice rounds)) z
-    → IsSmallestLeast n E (with_choices (with_rounds choice rounds) z)
-rounds_least n E choice rounds z falls over agree closed least =
-    rest_agrees n E (with_rounds choice rounds) z falls over (rounds_agree n E choice rounds falls over agree closed) least
+pub batches_least : (n : ℕ) (E : (ℕ → Bool) → ℤ) (choice : ℕ → Choice) (batches : List (List Strip)) (z : ℕ → Bool) → IsSubmodular E → IsOver n E → Agree n E choice
+    → AreBatches n E choice batches → IsSmallestLeast n (fixed_value E (with_batches choice batches)) z
+    → IsSmallestLeast n E (with_choices (with_batches choice batches) z)
+batches_least n E choice batches z falls over agree closed least =
+    rest_agrees n E (with_batches choice batches) z falls over (batches_agree n E choice batches falls over agree closed) least

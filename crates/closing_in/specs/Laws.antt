@@ -25,7 +25,7 @@ use Rattle.closing_in.specs.Fixing.{OnesLieWithin}
 use Rattle.closing_in.specs.Agreeing.{Agree, IsAgreed, ChooseMore, AreOfDecisions, TellsOne}
 use Rattle.closing_in.specs.Agreeing.{with_one, choices_or}
 use Rattle.closing_in.specs.Strips.{Strip, others_at, lower_value, upper_value, IsStripBounded}
-use Rattle.closing_in.specs.Strips.{told_by, with_strips, with_rounds, AreRounds}
+use Rattle.closing_in.specs.Strips.{told_by, with_strips, with_batches, AreBatches}
 use Rattle.closing_in.specs.Borders.{is_inside, not_ones, pair_border, border_at, border_sum}
 use Rattle.closing_in.specs.Forms.{bits_by_site, IsOneToOne, IsReweighed}
 
@@ -155,14 +155,14 @@ StripsSideBySide =
     → IsSubmodular E → IsOver n E → Agree n E choice → All (IsStripBounded n E choice) strips
     → Agree n E (with_strips choice strips)
 
--- after any rounds of strips, the least assignment with the fewest ones of what is left is that of
+-- after any batches of strips, the least assignment with the fewest ones of what is left is that of
 -- the whole
-abbrev pub RoundsAndRestAreLeast : Type 0
-RoundsAndRestAreLeast =
-    (n : ℕ) (E : (ℕ → Bool) → ℤ) (choice : ℕ → Choice) (rounds : List (List Strip)) (z : ℕ → Bool)
-    → IsSubmodular E → IsOver n E → Agree n E choice → AreRounds n E choice rounds
-    → IsSmallestLeast n (fixed_value E (with_rounds choice rounds)) z
-    → IsSmallestLeast n E (with_choices (with_rounds choice rounds) z)
+abbrev pub BatchesAndRestAreLeast : Type 0
+BatchesAndRestAreLeast =
+    (n : ℕ) (E : (ℕ → Bool) → ℤ) (choice : ℕ → Choice) (batches : List (List Strip)) (z : ℕ → Bool)
+    → IsSubmodular E → IsOver n E → Agree n E choice → AreBatches n E choice batches
+    → IsSmallestLeast n (fixed_value E (with_batches choice batches)) z
+    → IsSmallestLeast n E (with_choices (with_batches choice batches) z)
 
 -- ---- of the labellings that a move makes
 
@@ -186,16 +186,16 @@ BoundsTellOne =
     → IsInstance m → ArePartlyDecided m move f k b → p < k → choice_at b.choices.items p ≡ Open
     → TellsValue b p value → TellsOne (move_value m move f) (choice_at b.choices.items) p value
 
--- after any rounds of strips, the least assignment with the fewest ones of what is left is that of
+-- after any batches of strips, the least assignment with the fewest ones of what is left is that of
 -- the move
-abbrev pub RoundsEndMove : Type 0
-RoundsEndMove =
+abbrev pub BatchesEndMove : Type 0
+BatchesEndMove =
     (m : Instance) (move : Move) (f : ℕ → ℕ) (choice : ℕ → Choice)
-    (rounds : List (List Strip)) (z : ℕ → Bool)
+    (batches : List (List Strip)) (z : ℕ → Bool)
     → IsInstance m → IsAllowed m move f → Agree m.sites (move_value m move f) choice
-    → AreRounds m.sites (move_value m move f) choice rounds
-    → IsSmallestLeast m.sites (fixed_value (move_value m move f) (with_rounds choice rounds)) z
-    → IsSmallestLeast m.sites (move_value m move f) (with_choices (with_rounds choice rounds) z)
+    → AreBatches m.sites (move_value m move f) choice batches
+    → IsSmallestLeast m.sites (fixed_value (move_value m move f) (with_batches choice batches)) z
+    → IsSmallestLeast m.sites (move_value m move f) (with_choices (with_batches choice batches) z)
 
 -- the rise of an open site of a strip is lower with the others at 1 than with them at 0, by the
 -- surplus of its pairs that lead beyond the strip

@@ -46,13 +46,13 @@ abbrev pub with_strips : (ℕ → Choice) → List Strip → ℕ → Choice
 with_strips choice [] = choice
 with_strips choice (strip ∷ strips) = choices_or (with_strips choice strips) (told_by strip)
 
--- the choices after rounds of strips; the latest round stands first
-abbrev pub with_rounds : (ℕ → Choice) → List (List Strip) → ℕ → Choice
-with_rounds choice [] = choice
-with_rounds choice (strips ∷ rounds) = with_strips (with_rounds choice rounds) strips
+-- the choices after batches of strips; the latest batch stands first
+abbrev pub with_batches : (ℕ → Choice) → List (List Strip) → ℕ → Choice
+with_batches choice [] = choice
+with_batches choice (strips ∷ batches) = with_strips (with_batches choice batches) strips
 
--- the strips of each round were bounded with the choices as they were at the round's start
-abbrev pub AreRounds : ℕ → ((ℕ → Bool) → ℤ) → (ℕ → Choice) → List (List Strip) → Type 0
-AreRounds n E choice [] = Unit {0}
-AreRounds n E choice (strips ∷ rounds) =
-    AreRounds n E choice rounds × All (IsStripBounded n E (with_rounds choice rounds)) strips
+-- the strips of each batch were bounded with the choices as they were at the batch's start
+abbrev pub AreBatches : ℕ → ((ℕ → Bool) → ℤ) → (ℕ → Choice) → List (List Strip) → Type 0
+AreBatches n E choice [] = Unit {0}
+AreBatches n E choice (strips ∷ batches) =
+    AreBatches n E choice batches × All (IsStripBounded n E (with_batches choice batches)) strips

@@ -8,14 +8,14 @@ ghost use Rattle.move_energy.specs.declared.choice.Choice.TheVariants.{Open};
 ghost use Rattle.deciding.specs.Decisions.{IsSubmodular, IsOver, IsSmallestLeast};
 ghost use Rattle.closing_in.specs.Fixing.{fixed_value};
 ghost use Rattle.closing_in.specs.Agreeing.{Agree, AreOpened};
-ghost use Rattle.closing_in.specs.Strips.{Strip, with_rounds, AreRounds};
+ghost use Rattle.closing_in.specs.Strips.{Strip, with_batches, AreBatches};
 ghost use Rattle.closing_in.specs.Laws.{LeastRises, OnesBoundLeast, ZerosBoundLeast};
 ghost use Rattle.closing_in.specs.Laws.{RestAndFixedIsLeast};
 ghost use Rattle.closing_in.specs.Laws.{EachAgreedAgree, ForcedAgree, RestAgrees, AgreeByRest};
 ghost use Rattle.closing_in.specs.Laws.{StripAgrees, LowerAgrees, UpperAgrees, LowerWithinUpper};
 ghost use Rattle.closing_in.specs.Laws.{TestedAgree, StripAddsLater, StripsSideBySide};
-ghost use Rattle.closing_in.specs.Laws.{RoundsAndRestAreLeast};
-ghost use Rattle.closing_in.specs.Laws.{DecidedAgree, RoundsEndMove, UpperRiseIsLower};
+ghost use Rattle.closing_in.specs.Laws.{BatchesAndRestAreLeast};
+ghost use Rattle.closing_in.specs.Laws.{DecidedAgree, BatchesEndMove, UpperRiseIsLower};
 ghost use Rattle.closing_in.specs.Laws.{UpperIsLowerWithBorder};
 ghost use Rattle.closing_in.specs.Laws.{WeightsOfStrip, WeightsLessBorder, SameChoicesSame};
 ghost use Rattle.closing_in.specs.Laws.{PartlyDecidedAgree, BoundsTellOne, WeightsGoOn};
@@ -110,7 +110,7 @@ pub fn tested_agree()
     ensures { TestedAgree }
 {}
 
-/// A strip may add what it tells later than its bounds were found, when others of its round have
+/// A strip may add what it tells later than its bounds were found, when others of its batch have
 /// added theirs: one step of a join.
 pub fn strip_adds_later()
     ensures { StripAddsLater }
@@ -122,25 +122,25 @@ pub fn strips_side_by_side()
     ensures { StripsSideBySide }
 {}
 
-/// Round after round of strips, and then what is left: the choices agree all along, and the least
+/// Batch after batch of strips, and then what is left: the choices agree all along, and the least
 /// assignment with the fewest ones of what is left is that of the whole.
-pub fn rounds_and_rest_are_least()
+pub fn batches_and_rest_are_least()
     ensures agree { (n : ℕ) (E : (ℕ → Bool) → ℤ) (choice : ℕ → Choice)
-        (rounds : List (List Strip)) →
-        IsSubmodular E → IsOver n E → Agree n E choice → AreRounds n E choice rounds →
-        Agree n E (with_rounds choice rounds) }
-    ensures least { RoundsAndRestAreLeast }
+        (batches : List (List Strip)) →
+        IsSubmodular E → IsOver n E → Agree n E choice → AreBatches n E choice batches →
+        Agree n E (with_batches choice batches) }
+    ensures least { BatchesAndRestAreLeast }
 {}
 
 /// Of a move whose terms are regular, an expansion or a swap: what was decided site by site agrees,
-/// also half way, where the bounds of a site are those of its test; and rounds of strips, and then
+/// also half way, where the bounds of a site are those of its test; and batches of strips, and then
 /// a cut of what is left, find the move's least assignment with the fewest ones. What labels cost
 /// by themselves is left out, as in `deciding`.
-pub fn rounds_end_move()
+pub fn batches_end_move()
     ensures decided { DecidedAgree }
     ensures partly { PartlyDecidedAgree }
     ensures told { BoundsTellOne }
-    ensures ended { RoundsEndMove }
+    ensures ended { BatchesEndMove }
 {}
 
 /// The network of a strip's upper function is that of its lower one, with more room to the sink at

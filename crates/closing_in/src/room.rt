@@ -5,9 +5,10 @@ ghost use Rattle.label_field.specs.PairLists.{IsPair};
 ghost use Rattle.labellings.specs.Energies.{labelling};
 ghost use Rattle.labellings.specs.Moves.{IsRegularPair, IsAllowed};
 ghost use Rattle.cost_store.specs.Posed.{IsPosed, IsAsked, WhereMeant};
-ghost use Rattle.move_energy.specs.BySite.{AreBySite, degree};
+ghost use Rattle.move_energy.specs.BySite.{degree};
 ghost use Rattle.move_energy.specs.Choices.{choice_at};
 ghost use Rattle.move_energy.specs.Limits.{surplus_limit};
+ghost use Rattle.deciding.specs.Finding.{IsAskedBySite};
 ghost use Rattle.closing_in.specs.Borders.{range_of, is_beyond as beyond_of};
 ghost use Rattle.closing_in.specs.Borders.{leads_beyond as leads_of, pair_border as border_of_pair};
 ghost use Rattle.closing_in.specs.Borders.{border_at};
@@ -79,9 +80,7 @@ pub fn border<F: Fn(u32, u32) -> i64 + Sync, V: Fn(u32, u32) -> i64 + Sync>(
     change: Move,
     site: u32,
 ) -> i64
-    requires posed { IsPosed F.Fn V.Fn problem.now }
-    requires asked { IsAsked problem.now at.now change }
-    requires by_site { AreBySite problem.now.pairs ends.now }
+    requires asked { IsAskedBySite F.Fn V.Fn problem.now at.now change ends.now }
     requires choices { length choices.now ≡ length at.now }
     requires site { site < length at.now }
     ensures value { WhereMeant F.Fn V.Fn problem.now (λ m. IsAllowed m change (labelling at.now) →

@@ -1,16 +1,18 @@
 -- What is asked of a problem of closures, and what it means.
-use Rattle.std.specs.Prelude.{◌≡◌, ℕ, ◌<◌, List, length, ℤ}
+use Rattle.std.specs.Prelude.{◌≡◌, ℕ, ◌<◌, List, length, ℤ, pos}
 use Rattle.std.specs.Fn.{Shared}
 use Rattle.std.specs.List.{All}
 use Rattle.label_field.specs.LabelFields.{LabelField}
 use Rattle.label_field.specs.PairLists.{PairList, IsPairList}
 use Rattle.labellings.specs.declared.change.Move.{Move}
-use Rattle.labellings.specs.Energies.{Instance}
+use Rattle.labellings.specs.Energies.{Instance, labelling}
 use Rattle.labellings.specs.Moves.{IsMoveOf}
 use Rattle.cost_store.specs.Limits.{data_limit}
-use Rattle.cost_store.specs.Promises.{AnswersTable, Keeps, KeepsSmooth}
+use Rattle.cost_store.specs.Promises.{AnswersTable, Keeps, KeepsSmooth, IsCost, IsTable, IsColumn}
 use Rattle.cost_store.specs.LabelCosts.{AreLabelCosts, HasCosts}
+use Rattle.cost_store.specs.declared.data.DataCost.{DataCost}
 use Rattle.cost_store.specs.declared.problem.Problem.{Problem}
+use Rattle.cost_store.specs.declared.smooth.SmoothCost.{SmoothCost}
 
 -- a closure of two numbers
 abbrev pub Closure : Type 0 → Type 1
@@ -24,13 +26,29 @@ takes {F} g f a b = g.pre f (a, (b, tt))
 abbrev pub gives : {F : Type 0} → Closure F → F → ℕ → ℕ → ℤ → Type 0
 gives {F} g f a b z = g.post f (a, (b, tt)) z
 
+-- the closure of data costs keeps its promise
+abbrev pub KeepsCosts : {F : Type 0} → Closure F → DataCost F → Type 0
+KeepsCosts {F} f d = Keeps (takes f d.f) (gives f d.f) d.sites d.labels data_limit
+
+-- the closure of smooth costs keeps its promise
+abbrev pub KeepsSmoothCosts : {V : Type 0} → Closure V → SmoothCost V → Type 0
+KeepsSmoothCosts {V} v s = KeepsSmooth (takes v s.v) (gives v s.v) s.labels s.by_metric
+
+-- the list is the table that the closure of data costs answers
+abbrev pub IsTableFor : {F : Type 0} → Closure F → DataCost F → List ℤ → Type 0
+IsTableFor {F} f d table = (cost : ℕ → ℕ → ℕ) → AnswersTable (gives f d.f) cost d.sites d.labels
+    → IsTable d.sites d.labels cost table
+
+-- the list is the column of a label in that table
+abbrev pub IsColumnFor : {F : Type 0} → Closure F → DataCost F → ℕ → List ℤ → Type 0
+IsColumnFor {F} f d label column = (cost : ℕ → ℕ → ℕ)
+    → AnswersTable (gives f d.f) cost d.sites d.labels → IsColumn d.sites label cost column
+
 -- the problem is posed: both closures keep their promises, the pairs are a list of pairs, and its
 -- parts have the same sites and labels
 pub record IsPosed {F V : Type 0} (f : Closure F) (v : Closure V) (p : Problem F V) : Type 0 where
-  pub costs : Keeps (takes f p.data_cost.f) (gives f p.data_cost.f)
-      p.data_cost.sites p.data_cost.labels data_limit
-  pub smooth : KeepsSmooth (takes v p.smooth_cost.v) (gives v p.smooth_cost.v)
-      p.smooth_cost.labels p.smooth_cost.by_metric
+  pub costs : KeepsCosts f p.data_cost
+  pub smooth : KeepsSmoothCosts v p.smooth_cost
   pub pairs : IsPairList p.pairs
   pub data_sites : p.data_cost.sites ≡ p.pairs.sites
   pub smooth_labels : p.smooth_cost.labels ≡ p.data_cost.labels
@@ -68,6 +86,18 @@ WhereMeant {F} {V} f v p P = (m : Instance) → IsMeant f v p m → P m
 pub record FitsProblem {F V : Type 0} (p : Problem F V) (field : LabelField) : Type 0 where
   pub sites : length field.at ≡ p.pairs.sites
   pub labels : field.labels ≡ p.data_cost.labels
+
+-- the problem is posed, and this is a labelling of it
+pub record HasEnergy {F V : Type 0} (f : Closure F) (v : Closure V) (p : Problem F V)
+    (field : LabelField) : Type 0 where
+  pub posed : IsPosed f v p
+  pub fits : FitsProblem p field
+
+-- the number is a part of the energy of a labelling, from 0 to the most that this part comes to
+pub record IsOfEnergy {F V : Type 0} (f : Closure F) (v : Closure V) (p : Problem F V)
+    (part : Instance → (ℕ → ℕ) → ℕ) (field : LabelField) (most : ℕ) (z : ℤ) : Type 0 where
+  pub energy : WhereMeant f v p (λ m. z ≡ pos (part m (labelling field.at)))
+  pub range : IsCost (pos most) z
 
 -- labels of the problem at its sites, and a move between its labels
 pub record IsAsked {F V : Type 0} (p : Problem F V) (at : List ℕ) (move : Move) : Type 0 where

@@ -7,12 +7,13 @@ ghost use Rattle.labellings.specs.Energies.{IsInstance, IsMetric, labelling as l
 ghost use Rattle.labellings.specs.Energies.{energy as energy_of, data_energy as data_of};
 ghost use Rattle.labellings.specs.Energies.{smooth_energy as smooth_of, label_energy as label_of};
 ghost use Rattle.labellings.specs.Energies.{pair_cost as cost_of_pair};
-ghost use Rattle.cost_store.specs.Limits.{data_limit, data_energy_limit, smooth_energy_limit};
+ghost use Rattle.cost_store.specs.Limits.{data_energy_limit, smooth_energy_limit};
 ghost use Rattle.cost_store.specs.Limits.{label_energy_limit, site_cost_limit, pair_cost_limit};
 ghost use Rattle.cost_store.specs.LabelCosts.{costs_of as costs_in, AreLabelCosts, IsSetRefusal};
-ghost use Rattle.cost_store.specs.Posed.{IsPosed, IsMeant, WhereMeant, FitsProblem};
+ghost use Rattle.cost_store.specs.Posed.{IsPosed, IsMeant, WhereMeant, HasEnergy, IsOfEnergy};
+ghost use Rattle.cost_store.specs.Posed.{KeepsCosts, KeepsSmoothCosts};
 ghost use Rattle.cost_store.specs.Posed.{instance_of_costs};
-ghost use Rattle.cost_store.specs.Promises.{AnswersTable, Keeps, KeepsSmooth};
+ghost use Rattle.cost_store.specs.Promises.{AnswersTable};
 
 use crate::by_label::total_paid;
 use crate::{
@@ -37,12 +38,8 @@ impl<F: Fn(u32, u32) -> i64 + Sync, V: Fn(u32, u32) -> i64 + Sync> Problem<F, V>
     /// The problem of these pairs and costs, in which no label costs anything by itself. What it
     /// means is the instance of the tables that the closures answer: who calls it names them.
     pub fn new(pairs: Pairs, data_cost: DataCost<F>, smooth_cost: SmoothCost<V>) -> Problem<F, V>
-        requires costs { Keeps (F.pre data_cost.f) (F.post data_cost.f)
-            data_cost.sites data_cost.labels
-            data_limit }
-        requires smooth { KeepsSmooth (V.pre smooth_cost.v) (V.post smooth_cost.v)
-            smooth_cost.labels
-            smooth_cost.by_metric }
+        requires costs { KeepsCosts F.Fn data_cost }
+        requires smooth { KeepsSmoothCosts V.Fn smooth_cost }
         requires sites { data_cost.sites ≡ pairs.sites }
         requires labels { smooth_cost.labels ≡ data_cost.labels }
         ensures posed { IsPosed F.Fn V.Fn result }
@@ -97,11 +94,8 @@ impl<F: Fn(u32, u32) -> i64 + Sync, V: Fn(u32, u32) -> i64 + Sync> Problem<F, V>
 
     /// What the labels cost the sites. It takes no memory.
     pub fn data_energy(&self, labelling: &Labelling) -> i64
-        requires posed { IsPosed F.Fn V.Fn self.now }
-        requires fits { FitsProblem self.now labelling.now }
-        ensures energy { WhereMeant F.Fn V.Fn self.now
-            (λ m. result ≡ pos (data_of m (labels_of labelling.now.at))) }
-        ensures range { (pos 0 ≤ℤ result) × (result ≤ℤ pos data_energy_limit) }
+        requires { HasEnergy F.Fn V.Fn self.now labelling.now }
+        ensures { IsOfEnergy F.Fn V.Fn self.now data_of labelling.now data_energy_limit result }
     {
         let at = labelling.as_slice();
         let mut total = 0u64;
@@ -126,11 +120,8 @@ impl<F: Fn(u32, u32) -> i64 + Sync, V: Fn(u32, u32) -> i64 + Sync> Problem<F, V>
 
     /// What the labels cost the pairs. It takes no memory.
     pub fn smooth_energy(&self, labelling: &Labelling) -> i64
-        requires posed { IsPosed F.Fn V.Fn self.now }
-        requires fits { FitsProblem self.now labelling.now }
-        ensures energy { WhereMeant F.Fn V.Fn self.now
-            (λ m. result ≡ pos (smooth_of m (labels_of labelling.now.at))) }
-        ensures range { (pos 0 ≤ℤ result) × (result ≤ℤ pos smooth_energy_limit) }
+        requires { HasEnergy F.Fn V.Fn self.now labelling.now }
+        ensures { IsOfEnergy F.Fn V.Fn self.now smooth_of labelling.now smooth_energy_limit result }
     {
         let at = labelling.as_slice();
         let mut total = 0u64;
@@ -156,11 +147,8 @@ impl<F: Fn(u32, u32) -> i64 + Sync, V: Fn(u32, u32) -> i64 + Sync> Problem<F, V>
 
     /// What the labels that some site has cost by themselves. It takes no memory.
     pub fn label_energy(&self, labelling: &Labelling) -> i64
-        requires posed { IsPosed F.Fn V.Fn self.now }
-        requires fits { FitsProblem self.now labelling.now }
-        ensures energy { WhereMeant F.Fn V.Fn self.now
-            (λ m. result ≡ pos (label_of m (labels_of labelling.now.at))) }
-        ensures range { (pos 0 ≤ℤ result) × (result ≤ℤ pos label_energy_limit) }
+        requires { HasEnergy F.Fn V.Fn self.now labelling.now }
+        ensures { IsOfEnergy F.Fn V.Fn self.now label_of labelling.now label_energy_limit result }
     {
         labelling.keeps();
         total_paid(labelling.as_slice(), costs_of(&self.label_costs)) as i64
@@ -168,8 +156,7 @@ impl<F: Fn(u32, u32) -> i64 + Sync, V: Fn(u32, u32) -> i64 + Sync> Problem<F, V>
 
     /// The energy of a labelling. It takes no memory.
     pub fn energy(&self, labelling: &Labelling) -> i64
-        requires posed { IsPosed F.Fn V.Fn self.now }
-        requires fits { FitsProblem self.now labelling.now }
+        requires { HasEnergy F.Fn V.Fn self.now labelling.now }
         ensures { WhereMeant F.Fn V.Fn self.now
             (λ m. result ≡ pos (energy_of m (labels_of labelling.now.at))) }
     {

@@ -1,7 +1,8 @@
 //! The least and the greatest cost of two unequal labels.
 ghost use Rattle.std.specs.Prelude.{◌+◌, ◌<◌, ◌≤◌, ℕ};
 ghost use Rattle.labellings.specs.Energies.{IsRatio};
-ghost use Rattle.cost_store.specs.Promises.{AnswersTable, KeepsSmooth};
+ghost use Rattle.cost_store.specs.Promises.{AnswersTable};
+ghost use Rattle.cost_store.specs.Posed.{KeepsSmoothCosts};
 ghost use Rattle.cost_store.specs.Ratios.{IsRatioSoFar, IsWithCost};
 
 use crate::SmoothCost;
@@ -40,8 +41,7 @@ impl<V: Fn(u32, u32) -> i64> SmoothCost<V> {
     /// The two numbers with one more cost, of two unequal labels, or as they are for two equal
     /// ones.
     fn widen(&self, first: u32, second: u32, seen: Ratio) -> Ratio
-        requires keeps { KeepsSmooth (V.pre self.now.v) (V.post self.now.v) self.now.labels
-            self.now.by_metric }
+        requires keeps { KeepsSmoothCosts V.Fn self.now }
         requires inside { (first < self.now.labels) × (second < self.now.labels) }
         requires ordered { seen.least ≤ seen.greatest }
         ensures ratio { (cost : ℕ → ℕ → ℕ) →
@@ -58,8 +58,7 @@ impl<V: Fn(u32, u32) -> i64> SmoothCost<V> {
 
     /// The two numbers with the costs of a row more.
     fn widen_by_row(&self, first: u32, seen: Ratio) -> Ratio
-        requires keeps { KeepsSmooth (V.pre self.now.v) (V.post self.now.v) self.now.labels
-            self.now.by_metric }
+        requires keeps { KeepsSmoothCosts V.Fn self.now }
         requires inside { first < self.now.labels }
         requires ordered { seen.least ≤ seen.greatest }
         ensures ratio { (cost : ℕ → ℕ → ℕ) →
@@ -78,8 +77,7 @@ impl<V: Fn(u32, u32) -> i64> SmoothCost<V> {
     /// The least and the greatest cost of two unequal labels, both 1 where there is one label. It
     /// takes no memory (Boykov, Veksler, Zabih, PAMI 2001, section 6).
     pub fn ratio(&self) -> Ratio
-        requires keeps { KeepsSmooth (V.pre self.now.v) (V.post self.now.v) self.now.labels
-            self.now.by_metric }
+        requires keeps { KeepsSmoothCosts V.Fn self.now }
         ensures { (cost : ℕ → ℕ → ℕ)
             → AnswersTable (V.post self.now.v) cost self.now.labels self.now.labels →
             IsRatio self.now.labels cost result.least result.greatest }

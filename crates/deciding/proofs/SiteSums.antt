@@ -14,7 +14,7 @@ use Rattle.labellings.specs.Energies.{Instance, IsInstance}
 use Rattle.labellings.specs.Moves.{label_after}
 use Rattle.deciding.specs.Decisions.{rise}
 use Rattle.deciding.specs.MoveValues.{move_value, data_rise, pair_rise}
-use Rattle.deciding.specs.Working.{AreEnds, AreTurned, end_rise, budget_of}
+use Rattle.deciding.specs.Working.{AreEnds, AreTwoLabels, end_rise, budget_of}
 use Rattle.deciding.proofs.Rises.{rise_parts, pair_rise-first, pair_rise-second, pair_rise-none}
 
 -- ---- one pair
@@ -35,7 +35,7 @@ first_other pair site other (inr ends) apart = ends
 
 -- what is asked of a pair is its rise
 pub asked_rise : (m : Instance) (move : Move) (f : ℕ → ℕ) (site other : ℕ) (x : ℕ → Bool) (pair : Pair) (stays turns label : ℕ)
-    → AreEnds pair site other → pair.first ≢ pair.second → AreTurned move (f site) stays turns → label ≡ label_after move (f other) (x other)
+    → AreEnds pair site other → pair.first ≢ pair.second → AreTwoLabels move (f site) stays turns → label ≡ label_after move (f other) (x other)
     → end_rise m pair.weight (pair.first == site) stays turns label ≡ pair_rise m move f site x pair
 asked_rise m move f site other x pair stays turns label ends unequal turned is = elim (cases_eq pair.first site) [
   | inl here ↦
@@ -59,7 +59,7 @@ asked_rise m move f site other x pair stays turns label ends unequal turned is =
 -- as the machine passes it on
 pub passed_rise : (m : Instance) (move : Move) (f : ℕ → ℕ) (site other : ℕ) (x : ℕ → Bool) (pair : Pair) (stays turns asked label : ℕ) (z : ℤ) → unsigned_abs z ≤ 10000000
     → z ≡ end_rise m pair.weight (pair.first == site) stays turns asked
-    → AreEnds pair site other → pair.first ≢ pair.second → AreTurned move (f site) stays turns → label ≡ asked → label ≡ label_after move (f other) (x other)
+    → AreEnds pair site other → pair.first ≢ pair.second → AreTwoLabels move (f site) stays turns → label ≡ asked → label ≡ label_after move (f other) (x other)
     → to_z w64 (of_z w64 z) ≡ pair_rise m move f site x pair
 passed_rise m move f site other x pair stays turns asked label z small rises ends unequal turned same is =
     to_z-of_z w64 z (within_fits 10000000 z small (lit< tt)) ∙ rises ∙ asked_rise m move f site other x pair stays turns asked ends unequal turned (sym same ∙ is)

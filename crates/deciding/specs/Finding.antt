@@ -16,13 +16,13 @@ use Rattle.move_energy.specs.Weights.{AreWeights}
 use Rattle.deciding.specs.declared.bounds.Bounds.{Bounds}
 use Rattle.deciding.specs.declared.move_to_find.MoveToFind.{MoveToFind}
 use Rattle.deciding.specs.declared.rises_of_site.Rises.{Rises}
-use Rattle.deciding.specs.declared.rises_of_site.Turn.{Turn}
+use Rattle.deciding.specs.declared.rises_of_site.TwoLabels.{TwoLabels}
 use Rattle.deciding.specs.declared.sites.Deciding.{Deciding}
 use Rattle.deciding.specs.Decided.{KnowsSites}
 use Rattle.deciding.specs.MoveValues.{pair_rise}
 use Rattle.deciding.specs.Rising.{IsRiseTable, IsTableOf}
 use Rattle.deciding.specs.Working.{IsSummed, IsWithinRange, open_ends, budget_of, greatest_total}
-use Rattle.deciding.specs.Working.{summed_count, AreTurned, AreWaiting, ArePartlyDecided}
+use Rattle.deciding.specs.Working.{summed_count, AreTwoLabels, AreWaiting, ArePartlyDecided}
 use Rattle.deciding.specs.Working.{decided_or, rise_limit}
 
 -- the problem is posed, the move and its labels are asked of it, the neighbours are those of its
@@ -70,12 +70,13 @@ pub record SumsSite {F V : Type 0} (f : Closure F) (v : Closure V) (step : MoveT
 
 -- the pair has an end at the site, which has these labels, and there is a choice for each site
 pub record IsPairOfSite {F V : Type 0} (f : Closure F) (v : Closure V) (step : MoveToFind F V)
-    (choices : List Choice) (site : ℕ) (turn : Turn) (pair : Pair) : Type 0 where
+    (choices : List Choice) (site : ℕ) (two_labels : TwoLabels) (pair : Pair) : Type 0 where
   pub posed : IsPosedMove f v step
   pub choices_len : length choices ≡ length step.at.now
   pub pair_is : IsPair (length step.at.now) pair
   pub end : (pair.first ≡ site) ⊎ (pair.second ≡ site)
-  pub turned : AreTurned step.change (labelling step.at.now site) turn.stays turn.turns
+  pub of_move : AreTwoLabels step.change (labelling step.at.now site)
+      two_labels.stays two_labels.turns
 
 -- these are the rises of the pair where its end at the site turns, at least and at most
 pub record ArePairRises {F V : Type 0} (f : Closure F) (v : Closure V) (step : MoveToFind F V)

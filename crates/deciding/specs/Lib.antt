@@ -9,3 +9,4 @@ pub mod Decided
 pub mod Listed
 pub mod Parts
 pub mod Laws
+pub mod Prelude

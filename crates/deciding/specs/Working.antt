@@ -147,8 +147,8 @@ AreTermsTested m move f (Ok done) = IsAllowed m move f
 AreTermsTested m move f (Err e) = IsPrepareRefusal m move f e
 
 -- the labels that the move gives a site of this label, at 0 and at 1
-abbrev pub AreTurned : Move → ℕ → ℕ → ℕ → Type 0
-AreTurned move old stays turns =
+abbrev pub AreTwoLabels : Move → ℕ → ℕ → ℕ → Type 0
+AreTwoLabels move old stays turns =
     (stays ≡ label_after move old false) × (turns ≡ label_after move old true)
 
 -- by how much a pair's cost rises where its first end, or its second, turns from the one label to

@@ -1,11 +1,8 @@
 //! What a site and a pair cost in a move.
 ghost use Rattle.std.specs.Prelude.{◌≡◌, ◌<◌, ◌≤◌, pos, ◌-ℤ◌, ◌≤ℤ◌, true, false, All, unsigned_abs};
 ghost use Rattle.std.specs.Prelude.{IsTrue, ◌↔◌};
-ghost use Rattle.labellings.specs.Moves.{label_after, IsMoveOf};
-ghost use Rattle.cost_store.specs.Limits.{site_cost_limit, pair_cost_limit};
-ghost use Rattle.cost_store.specs.Promises.{IsCost};
-ghost use Rattle.cost_store.specs.Posed.{IsPosed, WhereMeant};
-ghost use Rattle.move_energy.specs.Weights.{surplus_of};
+ghost use Rattle.deciding.specs.Prelude.{label_after, IsMoveOf, site_cost_limit, pair_cost_limit};
+ghost use Rattle.deciding.specs.Prelude.{IsCost, IsPosed, WhereMeant, surplus_of};
 
 use cost_store::Problem;
 use labellings::Move;

@@ -1,11 +1,7 @@
 //! Whether the terms that a move makes are regular.
 ghost use Rattle.std.specs.Prelude.{◌↔◌, ◌⊎◌, length, IsTrue};
-ghost use Rattle.label_field.specs.PairLists.{IsPair};
-ghost use Rattle.labellings.specs.Energies.{labelling};
-ghost use Rattle.labellings.specs.Moves.{IsRegularPair};
-ghost use Rattle.cost_store.specs.Posed.{IsPosed, IsAsked, WhereMeant};
-ghost use Rattle.move_energy.specs.Choices.{Changes};
-ghost use Rattle.deciding.specs.Working.{AreTermsTested};
+ghost use Rattle.deciding.specs.Prelude.{IsPair, labelling, IsRegularPair, IsPosed, IsAsked};
+ghost use Rattle.deciding.specs.Prelude.{WhereMeant, Changes, AreTermsTested};
 
 use crate::costs::is_regular;
 use cost_store::Problem;

@@ -2,20 +2,12 @@
 //! are decided.
 ghost use Rattle.std.specs.Prelude.{◌≡◌, ◌==◌, cond, All, ◌<◌, ◌≤◌, ◌+◌, ◌⊎◌, ℕ};
 ghost use Rattle.std.specs.Prelude.{true, false, length, unsigned_abs};
-ghost use Rattle.label_field.specs.Limits.{weight_limit};
-ghost use Rattle.label_field.specs.PairLists.{IsPair};
-ghost use Rattle.labellings.specs.Energies.{labelling};
-ghost use Rattle.labellings.specs.Moves.{label_after};
-ghost use Rattle.cost_store.specs.Limits.{pair_cost_limit};
-ghost use Rattle.cost_store.specs.Posed.{IsPosed, WhereMeant};
-ghost use Rattle.deciding.specs.Decisions.{rise};
-ghost use Rattle.deciding.specs.Finding.{IsPosedMove, WhereFound, IsPairOfSite, ArePairRises};
-ghost use Rattle.deciding.specs.MoveValues.{move_value};
-ghost use Rattle.move_energy.specs.declared.choice.Choice.TheVariants.{Open};
-ghost use Rattle.move_energy.specs.Choices.{bit_of, choice_at};
-ghost use Rattle.deciding.specs.Rising.{table_labels, told_rise};
-ghost use Rattle.deciding.specs.Working.{AreEnds, AreTurned, AvoidsSite, HasNoneBefore};
-ghost use Rattle.deciding.specs.Working.{end_rise as end_rise_of, decided_or, rise_limit};
+ghost use Rattle.deciding.specs.Prelude.{weight_limit, IsPair, labelling, label_after};
+ghost use Rattle.deciding.specs.Prelude.{pair_cost_limit, IsPosed, WhereMeant, rise, IsPosedMove};
+ghost use Rattle.deciding.specs.Prelude.{WhereFound, IsPairOfSite, ArePairRises, move_value, Open};
+ghost use Rattle.deciding.specs.Prelude.{bit_of, choice_at, table_labels, told_rise, AreEnds};
+ghost use Rattle.deciding.specs.Prelude.{AreTwoLabels, AvoidsSite, HasNoneBefore};
+ghost use Rattle.deciding.specs.Prelude.{end_rise as end_rise_of, decided_or, rise_limit};
 
 use crate::costs::data_rise;
 use crate::move_to_find::MoveToFind;
@@ -27,17 +19,17 @@ use move_energy::{Choice, pair_beside};
 
 /// The labels of a site: where its value is 0, and where it is 1.
 #[derive(Clone, Copy)]
-pub(crate) struct Turn {
+pub(crate) struct TwoLabels {
     pub stays: u32,
     pub turns: u32,
 }
 
-impl Turn {
+impl TwoLabels {
     /// The labels that a move gives a site of this label.
-    pub(crate) fn of(change: Move, label: u32) -> Turn
-        ensures { AreTurned change label result.stays result.turns }
+    pub(crate) fn of(change: Move, label: u32) -> TwoLabels
+        ensures { AreTwoLabels change label result.stays result.turns }
     {
-        Turn {
+        TwoLabels {
             stays: change.label(label, false),
             turns: change.label(label, true),
         }
@@ -91,22 +83,24 @@ pub(crate) fn end_rise<F: Fn(u32, u32) -> i64 + Sync, V: Fn(u32, u32) -> i64 + S
     problem: &Problem<F, V>,
     weight: u32,
     first: bool,
-    turn: Turn,
+    two_labels: TwoLabels,
     other: u32,
 ) -> i64
     requires posed { IsPosed F.Fn V.Fn problem.now }
     requires weight { weight ≤ weight_limit }
-    requires turn { (turn.stays < problem.now.data_cost.labels)
-        × (turn.turns < problem.now.data_cost.labels) }
+    requires two_labels { (two_labels.stays < problem.now.data_cost.labels)
+        × (two_labels.turns < problem.now.data_cost.labels) }
     requires other { other < problem.now.data_cost.labels }
     ensures rise { WhereMeant F.Fn V.Fn problem.now
-        (λ m. result ≡ end_rise_of m weight first turn.stays turn.turns other) }
+        (λ m. result ≡ end_rise_of m weight first two_labels.stays two_labels.turns other) }
     ensures range { unsigned_abs result ≤ pair_cost_limit }
 {
     if first {
-        problem.pair_cost(weight, turn.turns, other) - problem.pair_cost(weight, turn.stays, other)
+        problem.pair_cost(weight, two_labels.turns, other)
+            - problem.pair_cost(weight, two_labels.stays, other)
     } else {
-        problem.pair_cost(weight, other, turn.turns) - problem.pair_cost(weight, other, turn.stays)
+        problem.pair_cost(weight, other, two_labels.turns)
+            - problem.pair_cost(weight, other, two_labels.stays)
     }
 }
 
@@ -117,17 +111,17 @@ fn asked_rises<F: Fn(u32, u32) -> i64 + Sync, V: Fn(u32, u32) -> i64 + Sync>(
     step: &MoveToFind<F, V>,
     choices: &[Choice],
     site: u32,
-    turn: Turn,
+    two_labels: TwoLabels,
     pair: Pair,
 ) -> Rises
-    requires pair { IsPairOfSite F.Fn V.Fn step.now choices.now site turn pair }
+    requires pair { IsPairOfSite F.Fn V.Fn step.now choices.now site two_labels pair }
     ensures { ArePairRises F.Fn V.Fn step.now choices.now site pair result }
 {
     let first = pair.first == site;
     let other = other_end(pair, site);
     let low = label_by(choices, step.at, step.change, other, false);
     let high = label_by(choices, step.at, step.change, other, true);
-    let greatest = end_rise(step.problem, pair.weight, first, turn, low);
+    let greatest = end_rise(step.problem, pair.weight, first, two_labels, low);
     if high == low {
         return Rises {
             least: greatest,
@@ -135,7 +129,7 @@ fn asked_rises<F: Fn(u32, u32) -> i64 + Sync, V: Fn(u32, u32) -> i64 + Sync>(
         };
     }
     Rises {
-        least: end_rise(step.problem, pair.weight, first, turn, high),
+        least: end_rise(step.problem, pair.weight, first, two_labels, high),
         greatest,
     }
 }
@@ -196,14 +190,14 @@ fn pair_rises<F: Fn(u32, u32) -> i64 + Sync, V: Fn(u32, u32) -> i64 + Sync>(
     step: &MoveToFind<F, V>,
     choices: &[Choice],
     site: u32,
-    turn: Turn,
+    two_labels: TwoLabels,
     pair: Pair,
 ) -> Rises
-    requires pair { IsPairOfSite F.Fn V.Fn step.now choices.now site turn pair }
+    requires pair { IsPairOfSite F.Fn V.Fn step.now choices.now site two_labels pair }
     ensures { ArePairRises F.Fn V.Fn step.now choices.now site pair result }
 {
     if !step.table.covers(pair.weight) {
-        return asked_rises(step, choices, site, turn, pair);
+        return asked_rises(step, choices, site, two_labels, pair);
     }
     table_rises(step.table, choices, step.at, site, pair)
 }
@@ -248,14 +242,14 @@ pub(crate) fn site_rises<F: Fn(u32, u32) -> i64 + Sync, V: Fn(u32, u32) -> i64 +
 {
     let ends = step.ends;
     let label = u32::from(step.at[site as usize]);
-    let turn = Turn::of(step.change, label);
+    let two_labels = TwoLabels::of(step.change, label);
     let own = data_rise(step.problem, step.change, site, label);
     let mut least = own;
     let mut greatest = own;
     let mut beside = false;
     for place in ends.starts[site as usize]..ends.starts[site as usize + 1] {
         let pair = pair_beside(&step.problem.pairs, ends, site, place);
-        let rises = pair_rises(step, choices, site, turn, pair);
+        let rises = pair_rises(step, choices, site, two_labels, pair);
         least += rises.least;
         greatest += rises.greatest;
         beside = either(beside, meets_open(choices, site, pair));

@@ -1,11 +1,8 @@
 //! What the two ends of a pair save together in a move, read of the table of the move's rises
 //! alone. No cost is asked for, so threads can share what is read.
 ghost use Rattle.std.specs.Prelude.{◌≡◌, ◌≤◌, ℕ, unsigned_abs};
-ghost use Rattle.labellings.specs.declared.change.Move.{Move};
-ghost use Rattle.labellings.specs.Energies.{Instance};
-ghost use Rattle.move_energy.specs.Limits.{surplus_limit};
-ghost use Rattle.move_energy.specs.Weights.{surplus_of, pair_table};
-ghost use Rattle.deciding.specs.Savings.{CoversPair, IsTableFrom};
+ghost use Rattle.deciding.specs.Prelude.{Move, Instance, surplus_limit, surplus_of, pair_table};
+ghost use Rattle.deciding.specs.Prelude.{CoversPair, IsTableFrom};
 
 use crate::table::RiseTable;
 use crate::waiting_sites::table_surplus;

@@ -2,17 +2,12 @@
 //! its value.
 ghost use Rattle.std.specs.Prelude.{◌≡◌, ◌≢◌, ◌<◌, ◌≤◌, ◌+◌, ◌-◌, ◌↔◌, ◌++◌, ℕ, pos, replicate};
 ghost use Rattle.std.specs.Prelude.{length, OnOk, IfOk};
-ghost use Rattle.move_energy.specs.Limits.{weights_limit};
-ghost use Rattle.labellings.specs.Energies.{labelling};
-ghost use Rattle.move_energy.specs.declared.choice.Choice.TheVariants.{Open, One};
-ghost use Rattle.move_energy.specs.Choices.{choice_at, Changes};
-ghost use Rattle.deciding.specs.Finding.{IsPosedMove, WhereFound, IsInBudget, SumsSite};
-ghost use Rattle.deciding.specs.Working.{summed_count, CanDecide, AreOfSites, AreOfNoSites};
-ghost use Rattle.deciding.specs.Working.{HasBounds};
-ghost use Rattle.deciding.specs.Working.{HasSummed};
-ghost use Rattle.deciding.specs.Working.{IsAnswered, AddsBounds, PassesClosed};
-ghost use Rattle.deciding.specs.Working.{AreUndecided, AreUnsummed, AreWaiting, ArePartlyDecided};
-ghost use Rattle.deciding.specs.Working.{greatest_total};
+ghost use Rattle.deciding.specs.Prelude.{weights_limit, labelling, Open, One, choice_at, Changes};
+ghost use Rattle.deciding.specs.Prelude.{IsPosedMove, WhereFound, IsInBudget, SumsSite};
+ghost use Rattle.deciding.specs.Prelude.{summed_count, CanDecide, AreOfSites, AreOfNoSites};
+ghost use Rattle.deciding.specs.Prelude.{HasBounds, HasSummed, IsAnswered, AddsBounds};
+ghost use Rattle.deciding.specs.Prelude.{PassesClosed, AreUndecided, AreUnsummed, AreWaiting};
+ghost use Rattle.deciding.specs.Prelude.{ArePartlyDecided, greatest_total};
 
 use crate::Bounds;
 use crate::move_to_find::MoveToFind;
@@ -180,7 +175,7 @@ impl Bounds {
                 return Ok(());
             }
             self.sum_site(step, next as u32)?;
-            self.settle_all(step)?;
+            self.decide_waiting(step)?;
             site = next + 1;
         }
         Ok(())

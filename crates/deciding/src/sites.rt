@@ -1,16 +1,9 @@
 //! Deciding the sites of a move.
 ghost use Rattle.std.specs.Prelude.{◌≡◌, [], IfOk, IfErr, OnOk, OnErr, IsTrue, false};
-ghost use Rattle.move_energy.specs.BySite.{AreBySite};
-ghost use Rattle.move_energy.specs.Choices.{choice_at, AreAllOpen};
-ghost use Rattle.move_energy.specs.Problems.{IsPrepareRefusal};
-ghost use Rattle.labellings.specs.Energies.{labelling};
-ghost use Rattle.cost_store.specs.Posed.{WhereMeant};
-ghost use Rattle.deciding.specs.Decided.{IsDecidedMove};
-ghost use Rattle.deciding.specs.Finding.{IsAskedBySite, KnowsMove};
-ghost use Rattle.deciding.specs.Listed.{AreListsEmpty};
-ghost use Rattle.deciding.specs.declared.move_to_find.RiseNumbers.{RiseNumbers};
-ghost use Rattle.deciding.specs.Parts.{AreReadable, AreRisesOf, ArePassedChoices, AreNumbersOf};
-ghost use Rattle.deciding.specs.Working.{AreOfNoSites};
+ghost use Rattle.deciding.specs.Prelude.{AreBySite, choice_at, AreAllOpen, IsPrepareRefusal};
+ghost use Rattle.deciding.specs.Prelude.{labelling, WhereMeant, IsDecidedMove, IsAskedBySite};
+ghost use Rattle.deciding.specs.Prelude.{KnowsMove, AreListsEmpty, RiseNumbers, AreReadable};
+ghost use Rattle.deciding.specs.Prelude.{AreRisesOf, ArePassedChoices, AreNumbersOf, AreOfNoSites};
 
 use crate::move_to_find::MoveToFind;
 use crate::regular_terms::test_terms;

@@ -2,18 +2,12 @@
 //! any thread can do it.
 ghost use Rattle.std.specs.Prelude.{◌≡◌, ◌≢◌, ◌+◌, ◌*◌, ◌<◌, ◌≤◌, ℕ, Bool, pos, ◌≤ℤ◌, ◌<ℤ◌};
 ghost use Rattle.std.specs.Prelude.{true, false, All, length, unsigned_abs, OnOk};
-ghost use Rattle.labellings.specs.declared.change.Move.{Move};
-ghost use Rattle.labellings.specs.Energies.{Instance, IsInstance, labelling};
-ghost use Rattle.cost_store.specs.Limits.{site_cost_limit, pair_cost_limit};
-ghost use Rattle.cost_store.specs.Posed.{IsPosed, IsAsked, WhereMeant};
-ghost use Rattle.move_energy.specs.declared.choice.Choice.TheVariants.{Open, Zero, One};
-ghost use Rattle.move_energy.specs.BySite.{degree};
-ghost use Rattle.move_energy.specs.Choices.{choice_at};
-ghost use Rattle.deciding.specs.Decisions.{rise, Passes};
-ghost use Rattle.deciding.specs.MoveValues.{move_value, data_rise as data_rise_of};
-ghost use Rattle.deciding.specs.Working.{decided_or};
-ghost use Rattle.deciding.specs.Parts.{own_at, AreReadable, AreRisesOf, ArePassedChoices};
-ghost use Rattle.deciding.specs.Parts.{site_weight, WhereRead, KeepsKnown, KeepsPassed, IsSwept};
+ghost use Rattle.deciding.specs.Prelude.{Move, Instance, IsInstance, labelling, site_cost_limit};
+ghost use Rattle.deciding.specs.Prelude.{pair_cost_limit, IsPosed, IsAsked, WhereMeant, Open, Zero};
+ghost use Rattle.deciding.specs.Prelude.{One, degree, choice_at, rise, Passes, move_value};
+ghost use Rattle.deciding.specs.Prelude.{data_rise as data_rise_of, decided_or, own_at};
+ghost use Rattle.deciding.specs.Prelude.{AreReadable, AreRisesOf, ArePassedChoices, site_weight};
+ghost use Rattle.deciding.specs.Prelude.{WhereRead, KeepsKnown, KeepsPassed, IsSwept};
 
 use crate::costs::data_rise;
 use crate::move_to_find::RiseNumbers;

@@ -8,7 +8,7 @@ ghost use Rattle.cost_store.specs.Posed.{IsPosed, WhereMeant};
 ghost use Rattle.deciding.specs.Rising.{entry_place, rises_at, AreRises, AreRisesSmall};
 ghost use Rattle.deciding.specs.Rising.{IsRiseTable, IsTableOf, table_labels};
 
-use crate::rises_of_site::{Turn, end_rise};
+use crate::rises_of_site::{TwoLabels, end_rise};
 use cost_store::Problem;
 use label_field::WEIGHT_LIMIT;
 use labellings::Move;
@@ -67,9 +67,21 @@ fn ask_rises<F: Fn(u32, u32) -> i64 + Sync, V: Fn(u32, u32) -> i64 + Sync>(
         (λ m. AreRises m change weight first own other result) }
     ensures small { AreRisesSmall result }
 {
-    let turn = Turn::of(change, own);
-    let low = end_rise(problem, weight, first, turn, change.label(other, false));
-    let high = end_rise(problem, weight, first, turn, change.label(other, true));
+    let two_labels = TwoLabels::of(change, own);
+    let low = end_rise(
+        problem,
+        weight,
+        first,
+        two_labels,
+        change.label(other, false),
+    );
+    let high = end_rise(
+        problem,
+        weight,
+        first,
+        two_labels,
+        change.label(other, true),
+    );
     EndRises {
         low: low as i32,
         high: high as i32,

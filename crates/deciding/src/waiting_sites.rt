@@ -2,22 +2,14 @@
 ghost use Rattle.std.specs.Prelude.{◌≡◌, ◌≢◌, ◌⊎◌, ◌<◌, ◌≤◌, ◌+◌, ◌*◌, ◌^◌, ℕ, ℤ, ◌-ℤ◌};
 ghost use Rattle.std.specs.Prelude.{Bool, true, All, length, Some};
 ghost use Rattle.std.specs.Prelude.{unsigned_abs, OnOk, IsTrue, ◌↔◌, []};
-ghost use Rattle.label_field.specs.PairLists.{IsPair};
-ghost use Rattle.move_energy.specs.BySite.{degree};
-ghost use Rattle.labellings.specs.Energies.{labelling};
-ghost use Rattle.move_energy.specs.declared.choice.Choice.TheVariants.{Open};
-ghost use Rattle.move_energy.specs.Choices.{choice_at, bit_of};
-ghost use Rattle.move_energy.specs.Limits.{surplus_limit};
-ghost use Rattle.move_energy.specs.Weights.{surplus_of, pair_table};
-ghost use Rattle.deciding.specs.Finding.{IsPosedMove, WhereFound, IsInBudget, ends_left};
-ghost use Rattle.deciding.specs.Finding.{total_left};
-ghost use Rattle.deciding.specs.Rising.{rises_at, table_labels};
-ghost use Rattle.deciding.specs.Working.{summed_count, CanDecide, TellsValue, IsMarked, IsSummed};
-ghost use Rattle.deciding.specs.Working.{IsWithinRange, AreWaiting, AreWaitingBut};
-ghost use Rattle.deciding.specs.Working.{ArePartlyDecided};
-ghost use Rattle.deciding.specs.Working.{SeesPair, IsLooking, Shifts};
-ghost use Rattle.deciding.specs.Working.{least_shift as least_shift_of};
-ghost use Rattle.deciding.specs.Working.{greatest_shift as greatest_shift_of, greatest_total};
+ghost use Rattle.deciding.specs.Prelude.{IsPair, degree, labelling, Open, choice_at, bit_of};
+ghost use Rattle.deciding.specs.Prelude.{surplus_limit, surplus_of, pair_table, IsPosedMove};
+ghost use Rattle.deciding.specs.Prelude.{WhereFound, IsInBudget, ends_left, total_left, rises_at};
+ghost use Rattle.deciding.specs.Prelude.{table_labels, summed_count, CanDecide, TellsValue};
+ghost use Rattle.deciding.specs.Prelude.{IsMarked, IsSummed, IsWithinRange, AreWaiting};
+ghost use Rattle.deciding.specs.Prelude.{AreWaitingBut, ArePartlyDecided, SeesPair, IsLooking};
+ghost use Rattle.deciding.specs.Prelude.{Shifts, least_shift as least_shift_of};
+ghost use Rattle.deciding.specs.Prelude.{greatest_shift as greatest_shift_of, greatest_total};
 
 use crate::Bounds;
 use crate::move_to_find::MoveToFind;
@@ -93,7 +85,7 @@ pub fn pair_surplus<F: Fn(u32, u32) -> i64 + Sync, V: Fn(u32, u32) -> i64 + Sync
 
 impl Bounds {
     /// Changes the bounds of a site of which a neighbour got a value, by their pair's surplus.
-    fn turn(&mut self, site: usize, value: bool, surplus: i64)
+    fn shift_bounds(&mut self, site: usize, value: bool, surplus: i64)
         requires site { (site < length self.old.least.items)
             × (site < length self.old.greatest.items) }
         requires surplus { unsigned_abs surplus ≤ surplus_limit }
@@ -127,7 +119,7 @@ impl Bounds {
             ((n : ℕ) → site < n → AreWaiting n self.old → AreWaiting n self.new) }
     {
         let waits = self.can_decide(site as usize);
-        self.turn(site as usize, value, surplus);
+        self.shift_bounds(site as usize, value, surplus);
         if waits {
             return Ok(());
         }
@@ -228,7 +220,7 @@ impl Bounds {
     }
 
     /// Decides a site that waited, where its bounds tell its value.
-    fn settle<F: Fn(u32, u32) -> i64 + Sync, V: Fn(u32, u32) -> i64 + Sync>(
+    fn decide_told<F: Fn(u32, u32) -> i64 + Sync, V: Fn(u32, u32) -> i64 + Sync>(
         &mut self,
         step: &MoveToFind<F, V>,
         site: u32,
@@ -257,7 +249,7 @@ impl Bounds {
     }
 
     /// Decides the sites that wait, and those whose values then can be told, until none is left.
-    pub(crate) fn settle_all<F: Fn(u32, u32) -> i64 + Sync, V: Fn(u32, u32) -> i64 + Sync>(
+    pub(crate) fn decide_waiting<F: Fn(u32, u32) -> i64 + Sync, V: Fn(u32, u32) -> i64 + Sync>(
         &mut self,
         step: &MoveToFind<F, V>,
     ) -> Result<(), AllocError>
@@ -273,8 +265,8 @@ impl Bounds {
             ArePartlyDecided m move f (summed_count self.old) self.old →
             ArePartlyDecided m move f (summed_count self.old) self.new)) }
     {
-        'settling: while let Some(site) = self.waiting.pop() {
-            self.settle(step, site)?;
+        'deciding: while let Some(site) = self.waiting.pop() {
+            self.decide_told(step, site)?;
         }
         Ok(())
     }

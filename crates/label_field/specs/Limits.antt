@@ -1,19 +1,19 @@
 -- The greatest numbers of sites, labels and pairs, and the greatest weight. With costs in their
 -- limits they keep the energy of every labelling, and all capacities of a move's network together,
 -- far below 2^62.
-use Rattle.std.specs.Prelude.{ℕ}
+use Rattle.std.specs.Prelude.{ℕ, ◌*◌, ◌^◌}
 
 -- 2^20, one for each pixel of a picture of 1,024 by 1,024
 abbrev pub site_limit : ℕ
-site_limit = 1048576
+site_limit = 2 ^ 20
 
 -- a label below it takes one byte
 abbrev pub label_limit : ℕ
-label_limit = 256
+label_limit = 2 ^ 8
 
--- four for each site: of a picture whose sites have eight neighbours, each pair once
+-- 2^22, four for each site: of a picture whose sites have eight neighbours, each pair once
 abbrev pub pair_limit : ℕ
-pair_limit = 4194304
+pair_limit = 4 * site_limit
 
 -- times a cost of two labels, which is at most 10,000, it is at most 10,000,000, which is also the
 -- greatest cost of a label at a site

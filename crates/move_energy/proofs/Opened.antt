@@ -11,8 +11,8 @@ use Rattle.move_energy.proofs.Listings.{chosen_below, listing_length, listing_sh
 use Rattle.labellings.specs.Energies.{labelling}
 use Rattle.move_energy.specs.declared.choice.Choice.{Choice}
 use Rattle.move_energy.specs.declared.choice.Choice.TheVariants.{Open, Zero as DecidedZero, One as DecidedOne}
-use Rattle.move_energy.specs.Choices.{bit_of, choice_at, openness, is_open, open_at, open_rank, open_count, choice_of, value_of, AreOpenSites, IsNumbering, AreSettled}
-use Rattle.move_energy.proofs.Numbers.{settled_already, rank_below}
+use Rattle.move_energy.specs.Choices.{bit_of, choice_at, openness, is_open, open_at, open_rank, open_count, choice_of, value_of, AreOpenSites, IsNumbering, AreAssigned}
+use Rattle.move_energy.proofs.Numbers.{assigned_already, rank_below}
 
 -- ---- the test of a choice
 
@@ -110,23 +110,23 @@ listed_all choices opened variables i listed l below = record {
 
 -- ---- values
 
--- as AreSettled, of the decided sites and the first i open ones
-pub record AreSettledListed (old : List Choice) (bits : List Bool) (new : List Choice) (i : ℕ) : Type 0 where
+-- as AreAssigned, of the decided sites and the first i open ones
+pub record AreAssignedListed (old : List Choice) (bits : List Bool) (new : List Choice) (i : ℕ) : Type 0 where
   pub count : length new ≡ length old
   pub each : (p : ℕ) → p < length old → ((¬ (choice_at old p ≡ Open)) ⊎ (open_rank old p < i)) → choice_at new p ≡ choice_of (value_of old bits p)
 
-pub values_none : (old : List Choice) (bits : List Bool) → AreSettledListed old bits old 0
+pub values_none : (old : List Choice) (bits : List Bool) → AreAssignedListed old bits old 0
 values_none old bits = record {
   count = refl;
   each = λ p l way. elim way [
-    | inl decided ↦ settled_already (choice_at old p) _ decided
+    | inl decided ↦ assigned_already (choice_at old p) _ decided
     | inr less ↦ absurd (omega (arith, less))
   ];
 }
 
 pub values_more : (old : List Choice) (bits : List Bool) (opened : List ℕ) (now new : List Choice) (i site : ℕ) (b : Bool) (c : Choice)
     → AreOpenSites old opened → i < length opened → site ≡ get_or opened i 0
-    → new ≡ slice_set now site c → c ≡ choice_of b → b ≡ get_or bits i false → AreSettledListed old bits now i → AreSettledListed old bits new (i + 1)
+    → new ≡ slice_set now site c → c ≡ choice_of b → b ≡ get_or bits i false → AreAssignedListed old bits now i → AreAssignedListed old bits new (i + 1)
 values_more old bits opened now new i site b c listed l read written is bit below =
     let has = opened_has old opened i listed l in
     let within : site < length now = omega (arith, read, has.0, below.count) in
@@ -155,7 +155,7 @@ values_more old bits opened now new i site b c listed l read written is bit belo
     }
 
 pub values_all : (old : List Choice) (bits : List Bool) (opened : List ℕ) (new : List Choice) (i : ℕ) → AreOpenSites old opened → length opened ≤ i
-    → AreSettledListed old bits new i → AreSettled old bits new
+    → AreAssignedListed old bits new i → AreAssigned old bits new
 values_all old bits opened new i listed l below = record {
   count = below.count;
   each = λ p k. elim (cases_open (choice_at old p)) [

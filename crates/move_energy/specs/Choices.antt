@@ -78,7 +78,7 @@ abbrev pub value_of : List Choice → List Bool → ℕ → Bool
 value_of choices bits p = bit_of (choice_at choices p) (assignment bits (open_rank choices p))
 
 -- each choice has its value, and none is open
-pub record AreSettled (old : List Choice) (bits : List Bool) (new : List Choice) : Type 0 where
+pub record AreAssigned (old : List Choice) (bits : List Bool) (new : List Choice) : Type 0 where
   pub count : length new ≡ length old
   pub each : (p : ℕ) → p < length old → choice_at new p ≡ choice_of (value_of old bits p)
 

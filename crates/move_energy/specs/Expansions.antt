@@ -1,12 +1,10 @@
 -- What is asked of an expansion before what its labels cost by themselves is added.
-use Rattle.std.specs.Prelude.{ℕ, ◌<◌, ◌≤◌, Bool, length, vec_len}
+use Rattle.std.specs.Prelude.{ℕ, ◌≤◌, Bool, length, vec_len}
 use Rattle.label_field.specs.Limits.{site_limit}
 use Rattle.labellings.specs.declared.change.Move.TheVariants.{Expand}
 use Rattle.labellings.specs.Energies.{labelling, is_used}
-use Rattle.pseudo_bool.specs.Limits.{term_limit}
 use Rattle.compile_cut.specs.declared.quadratic.Quadratic.{Quadratic}
-use Rattle.compile_cut.specs.Limits.{form_nodes}
-use Rattle.compile_cut.specs.Quadratics.{IsQuadraticBounded}
+use Rattle.compile_cut.specs.Quadratics.{HasRoomForTerm}
 use Rattle.move_energy.specs.declared.label_costs.Expansion.{Expansion}
 use Rattle.move_energy.specs.Choices.{open_count, AreAllOpen, IsNumbering}
 use Rattle.move_energy.specs.LabelCosts.{uses}
@@ -28,5 +26,4 @@ takes_label e label x = uses e.alpha e.at.now e.variables.now.choices.items labe
 -- the form has the nodes of the open sites, and room for one more and for the terms of a label
 pub record HasRoomForLabel (e : Expansion) (q : Quadratic) : Type 0 where
   pub nodes : open_count e.variables.now.choices.items ≤ vec_len q.weights
-  pub room : vec_len q.weights < form_nodes
-  pub bounded : IsQuadraticBounded term_limit q
+  pub form : HasRoomForTerm q

@@ -1,5 +1,6 @@
 -- How large the parts of a move's form are at most.
-use Rattle.std.specs.Prelude.{ℕ}
+use Rattle.std.specs.Prelude.{ℕ, ◌*◌, ◌^◌}
+use Rattle.cost_store.specs.Limits.{pair_cost_limit}
 
 -- the most terms that one label's cost comes to: the greatest cost at 2^20 nodes and once more is
 -- at most 10,486 times the greatest number of a term, and those of 256 labels leave room for the
@@ -9,15 +10,15 @@ label_terms = 10486
 
 -- the greatest surplus of a pair, 2 * 10^7: what two of its costs are together
 abbrev pub surplus_limit : ℕ
-surplus_limit = 20000000
+surplus_limit = 2 * pair_cost_limit
 
 -- the most that the weights of all open sites come to without their signs, 3 * 10^14: of each of
 -- 2^20 sites a cost, and of each end of 2^22 pairs a cost and a surplus; far below the size of as
 -- many terms
 abbrev pub weights_limit : ℕ
-weights_limit = 300000000000000
+weights_limit = 3 * 10 ^ 14
 
 -- the most that the weights of a form's nodes come to, 5 * 10^14: those of all open sites, and once
 -- more a surplus of each end of 2^22 pairs
 abbrev pub form_weights_limit : ℕ
-form_weights_limit = 500000000000000
+form_weights_limit = 5 * 10 ^ 14

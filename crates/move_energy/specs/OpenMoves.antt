@@ -48,6 +48,12 @@ pub record HasOpenNodes (terms : ℕ) (choices : List Choice) (q : Quadratic) : 
   pub variables : vec_len q.weights ≡ open_count choices
   pub bounded : IsQuadraticBounded terms q
 
+-- a numbered move, and a form that has a node for each of its open sites, and at most so many terms
+pub record HasFormOfOpen {F V : Type 0} (f : Closure F) (v : Closure V) (terms : ℕ)
+    (step : NumberedMove F V) (q : Quadratic) : Type 0 where
+  pub step_is : IsNumberedMove f v step
+  pub nodes : HasOpenNodes terms step.variables.now.choices.items q
+
 -- the form has a node for each of few open sites, which are numbered, and at most so many terms
 pub record IsFormOfOpen (terms : ℕ) (made : MoveEnergy) : Type 0 where
   pub bounded : IsQuadraticBounded terms made.form

@@ -1,16 +1,9 @@
 //! What a pair of two sites costs in a move.
 ghost use Rattle.std.specs.Prelude.{◌≡◌, ◌<◌, ◌≤◌, ◌*◌, ◌∷◌, [], pos, ◌≤ℤ◌, true, false, All};
 ghost use Rattle.std.specs.Prelude.{length, unsigned_abs};
-ghost use Rattle.label_field.specs.Limits.{weight_limit};
-ghost use Rattle.label_field.specs.PairLists.{IsPair};
-ghost use Rattle.labellings.specs.Energies.{labelling};
-ghost use Rattle.labellings.specs.Moves.{label_after, IsMoveOf};
-ghost use Rattle.pseudo_bool.specs.Energies.{IsWithin};
-ghost use Rattle.cost_store.specs.Promises.{IsCost};
-ghost use Rattle.cost_store.specs.Posed.{IsPosed, IsAsked, WhereMeant};
-ghost use Rattle.cost_store.specs.Limits.{pair_cost_limit};
-ghost use Rattle.move_energy.specs.Limits.{surplus_limit};
-ghost use Rattle.move_energy.specs.Weights.{surplus_of, pair_table};
+ghost use Rattle.move_energy.specs.Prelude.{weight_limit, IsPair, labelling, label_after, IsMoveOf};
+ghost use Rattle.move_energy.specs.Prelude.{IsWithin, IsCost, IsPosed, IsAsked, WhereMeant};
+ghost use Rattle.move_energy.specs.Prelude.{pair_cost_limit, surplus_limit, surplus_of, pair_table};
 
 use cost_store::Problem;
 use label_field::Pair;
@@ -54,20 +47,20 @@ impl Known {
 
 /// The two labels of an end: where its value is 0, and where it is 1.
 #[derive(Clone, Copy)]
-struct Turn {
+struct TwoLabels {
     stays: u32,
     turns: u32,
 }
 
-impl Turn {
+impl TwoLabels {
     /// The labels that a move gives an end of this label.
-    fn of(change: Move, label: u32) -> Turn
+    fn of(change: Move, label: u32) -> TwoLabels
         ensures { result ≡ record {
           stays = label_after change label false;
           turns = label_after change label true;
         } }
     {
-        Turn {
+        TwoLabels {
             stays: change.label(label, false),
             turns: change.label(label, true),
         }
@@ -78,8 +71,8 @@ impl Turn {
 fn corner_costs<F: Fn(u32, u32) -> i64 + Sync, V: Fn(u32, u32) -> i64 + Sync>(
     problem: &Problem<F, V>,
     weight: u32,
-    first: Turn,
-    second: Turn,
+    first: TwoLabels,
+    second: TwoLabels,
 ) -> [i64; 4]
     requires posed { IsPosed F.Fn V.Fn problem.now }
     requires weight { weight ≤ weight_limit }
@@ -139,8 +132,8 @@ pub fn pair_table<F: Fn(u32, u32) -> i64 + Sync, V: Fn(u32, u32) -> i64 + Sync>(
     corner_costs(
         problem,
         weight,
-        Turn::of(change, first),
-        Turn::of(change, second),
+        TwoLabels::of(change, first),
+        TwoLabels::of(change, second),
     )
 }
 

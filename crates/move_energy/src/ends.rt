@@ -1,12 +1,8 @@
 //! The term of a pair of two sites.
 ghost use Rattle.std.specs.Prelude.{◌≡◌, ◌<◌, ◌≤◌, ◌*◌, vec_len, IfOk, OnOk};
-ghost use Rattle.label_field.specs.Limits.{weight_limit};
-ghost use Rattle.labellings.specs.Moves.{label_after, IsMoveOf};
-ghost use Rattle.pseudo_bool.specs.Limits.{term_limit};
-ghost use Rattle.compile_cut.specs.Quadratics.{IsQuadraticBounded};
-ghost use Rattle.cost_store.specs.Posed.{IsPosed, WhereMeant};
-ghost use Rattle.move_energy.specs.declared.choice.Choice.TheVariants.{Open};
-ghost use Rattle.move_energy.specs.Built.{AddsCost, AddsEnds, IsLonger};
+ghost use Rattle.move_energy.specs.Prelude.{weight_limit, label_after, IsMoveOf, term_limit};
+ghost use Rattle.move_energy.specs.Prelude.{IsQuadraticBounded, IsPosed, WhereMeant, Open};
+ghost use Rattle.move_energy.specs.Prelude.{AddsCost, AddsEnds, IsLonger};
 
 use crate::costs::pair_table;
 use crate::variables::End;

@@ -1,18 +1,11 @@
 //! What labels cost by themselves, added to the form of an expansion.
 ghost use Rattle.std.specs.Prelude.{◌≡◌, ◌≢◌, ◌+◌, ◌≤◌, pos, All, length, vec_len};
 ghost use Rattle.std.specs.Prelude.{OnOk};
-ghost use Rattle.sums.specs.Sums.{count_if};
-ghost use Rattle.label_field.specs.Limits.{site_limit, pair_limit, label_limit};
-ghost use Rattle.labellings.specs.declared.change.Move.TheVariants.{Expand};
-ghost use Rattle.pseudo_bool.specs.Limits.{term_limit};
-ghost use Rattle.compile_cut.specs.Quadratics.{IsQuadraticBounded};
-ghost use Rattle.cost_store.specs.Promises.{IsCost};
-ghost use Rattle.move_energy.specs.Choices.{open_count, AreAllOpen, IsNumbering};
-ghost use Rattle.cost_store.specs.Limits.{label_cost_limit};
-ghost use Rattle.move_energy.specs.Limits.{label_terms};
-ghost use Rattle.move_energy.specs.LabelCosts.{costs_below, AddsHidden, GrowsBy};
-ghost use Rattle.move_energy.specs.Expansions.{has_label, takes_label, IsOpenExpansion};
-ghost use Rattle.move_energy.specs.Expansions.{HasRoomForLabel};
+ghost use Rattle.move_energy.specs.Prelude.{count_if, site_limit, pair_limit, label_limit, Expand};
+ghost use Rattle.move_energy.specs.Prelude.{term_limit, IsQuadraticBounded, IsCost, open_count};
+ghost use Rattle.move_energy.specs.Prelude.{AreAllOpen, IsNumbering, label_cost_limit, label_terms};
+ghost use Rattle.move_energy.specs.Prelude.{costs_below, AddsHidden, GrowsBy, has_label};
+ghost use Rattle.move_energy.specs.Prelude.{takes_label, IsOpenExpansion, HasRoomForLabel};
 
 use crate::Variables;
 use crate::nodes::{list_each, list_having};

@@ -1,9 +1,6 @@
 //! The nodes of sites.
 ghost use Rattle.std.specs.Prelude.{◌≡◌, ◌==◌, ◌<◌, ℕ, true, length, OnOk};
-ghost use Rattle.labellings.specs.Energies.{labelling};
-ghost use Rattle.move_energy.specs.declared.choice.Choice.TheVariants.{Open};
-ghost use Rattle.move_energy.specs.Choices.{choice_at, IsNumbering};
-ghost use Rattle.move_energy.specs.LabelCosts.{nodes_of};
+ghost use Rattle.move_energy.specs.Prelude.{labelling, Open, choice_at, IsNumbering, nodes_of};
 
 use crate::Variables;
 use std::alloc::AllocError;

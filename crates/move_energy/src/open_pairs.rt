@@ -1,17 +1,11 @@
 //! What the pairs of the open sites add to a form where these sites are listed. Each pair is met
 //! once, at one of its open ends.
 ghost use Rattle.std.specs.Prelude.{◌≡◌, ◌<◌, ◌≤◌, ◌-◌, All, length, vec_len, OnOk, sum_by};
-ghost use Rattle.sums.specs.Sums.{count_if};
-ghost use Rattle.label_field.specs.Limits.{site_limit};
-ghost use Rattle.label_field.specs.PairLists.{IsPair};
-ghost use Rattle.pseudo_bool.specs.Limits.{term_limit};
-ghost use Rattle.compile_cut.specs.Quadratics.{IsQuadraticBounded};
-ghost use Rattle.move_energy.specs.Added.{added_by_pair, open_met, IsRightFor};
-ghost use Rattle.move_energy.specs.BySite.{AreBySite, is_counted, met_at};
-ghost use Rattle.move_energy.specs.Choices.{open_at};
-ghost use Rattle.move_energy.specs.OpenMoves.{IsNumberedMove, WhereNumbered};
-ghost use Rattle.move_energy.specs.OpenMoves.{HasOpenNodes, AreSitesListed};
-ghost use Rattle.move_energy.specs.Built.{AddsCost, IsLonger};
+ghost use Rattle.move_energy.specs.Prelude.{count_if, site_limit, IsPair, term_limit};
+ghost use Rattle.move_energy.specs.Prelude.{IsQuadraticBounded, added_by_pair, open_met};
+ghost use Rattle.move_energy.specs.Prelude.{IsRightFor, AreBySite, is_counted, met_at, open_at};
+ghost use Rattle.move_energy.specs.Prelude.{IsNumberedMove, WhereNumbered, HasOpenNodes};
+ghost use Rattle.move_energy.specs.Prelude.{HasFormOfOpen, AreSitesListed, AddsCost, IsLonger};
 
 use crate::building::add_pair;
 use crate::by_site::{Neighbours, ends_at, pair_at};
@@ -38,9 +32,8 @@ fn add_of_pair<F: Fn(u32, u32) -> i64 + Sync, V: Fn(u32, u32) -> i64 + Sync>(
     pair: Pair,
     adds: Adds,
 ) -> Result<(), AllocError>
-    requires step { IsNumberedMove F.Fn V.Fn step.now }
+    requires form { HasFormOfOpen F.Fn V.Fn term_limit step.now form.old }
     requires pair { IsPair (length step.now.at.now) pair }
-    requires form { HasOpenNodes term_limit step.now.variables.now.choices.items form.old }
     ensures longer { OnOk result (IsLonger 1 form.old form.new) }
     ensures adds { OnOk result (WhereNumbered F.Fn V.Fn step.now (λ m move f choice variable.
         IsRightFor adds m move f choice pair
@@ -71,9 +64,8 @@ fn add_counted<F: Fn(u32, u32) -> i64 + Sync, V: Fn(u32, u32) -> i64 + Sync>(
     pair: Pair,
     adds: Adds,
 ) -> Result<(), AllocError>
-    requires step { IsNumberedMove F.Fn V.Fn step.now }
+    requires form { HasFormOfOpen F.Fn V.Fn term_limit step.now form.old }
     requires pair { IsPair (length step.now.at.now) pair }
-    requires form { HasOpenNodes term_limit step.now.variables.now.choices.items form.old }
     ensures longer { OnOk result (IsLonger (count_if
         (is_counted (open_at step.now.variables.now.choices.items) site pair) 1)
         form.old form.new) }

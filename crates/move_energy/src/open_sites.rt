@@ -1,15 +1,10 @@
 //! The yes-no energy of a move of which few sites are open, added up from the open sites and their
 //! pairs.
 ghost use Rattle.std.specs.Prelude.{◌≡◌, ◌<◌, ◌≤◌, All, length, OnOk, sum_by};
-ghost use Rattle.label_field.specs.Limits.{site_limit};
-ghost use Rattle.labellings.specs.Energies.{labelling};
-ghost use Rattle.pseudo_bool.specs.Limits.{term_limit};
-ghost use Rattle.cost_store.specs.Posed.{WhereMeant};
-ghost use Rattle.move_energy.specs.Choices.{choice_at, made_by};
-ghost use Rattle.move_energy.specs.Built.{AddsCost, IsLonger};
-ghost use Rattle.move_energy.specs.OpenMoves.{IsValuedMove, IsNumberedMove, WhereNumbered};
-ghost use Rattle.move_energy.specs.OpenMoves.{HasOpenNodes, IsFormOfOpen, AreSitesListed};
-ghost use Rattle.move_energy.specs.Problems.{IsFitPair, Stands};
+ghost use Rattle.move_energy.specs.Prelude.{site_limit, labelling, term_limit, WhereMeant};
+ghost use Rattle.move_energy.specs.Prelude.{choice_at, made_by, AddsCost, IsLonger, IsValuedMove};
+ghost use Rattle.move_energy.specs.Prelude.{IsNumberedMove, WhereNumbered, HasOpenNodes};
+ghost use Rattle.move_energy.specs.Prelude.{IsFormOfOpen, AreSitesListed, IsFitPair, Stands};
 
 use crate::MoveEnergy;
 use crate::building::add_site;

@@ -1,16 +1,11 @@
 //! The yes-no energy of a partly decided move from the weights of its open sites, where these are
 //! listed.
 ghost use Rattle.std.specs.Prelude.{◌≡◌, ◌<◌, ◌≤◌, ℤ, List, map, All, length, IfOk, OnOk};
-ghost use Rattle.labellings.specs.Energies.{labelling};
-ghost use Rattle.pseudo_bool.specs.Limits.{term_limit};
-ghost use Rattle.compile_cut.specs.Weights.{weights_size};
-ghost use Rattle.cost_store.specs.Posed.{WhereMeant};
-ghost use Rattle.move_energy.specs.Choices.{choice_at};
-ghost use Rattle.move_energy.specs.OpenMoves.{IsValuedMove, IsFormOfOpen, AreSitesListed};
-ghost use Rattle.move_energy.specs.OpenMoves.{IsAllowedFrom, AreWeightsOf};
-ghost use Rattle.move_energy.specs.Problems.{Stands};
-ghost use Rattle.move_energy.specs.Limits.{form_weights_limit};
-ghost use Rattle.move_energy.specs.Weights.{AreWeights, IsOfWeights, weight_at};
+ghost use Rattle.move_energy.specs.Prelude.{labelling, term_limit, weights_size, WhereMeant};
+ghost use Rattle.move_energy.specs.Prelude.{choice_at, IsValuedMove, IsFormOfOpen, AreSitesListed};
+ghost use Rattle.move_energy.specs.Prelude.{IsAllowedFrom, AreWeightsOf, Stands};
+ghost use Rattle.move_energy.specs.Prelude.{form_weights_limit, AreWeights, IsOfWeights};
+ghost use Rattle.move_energy.specs.Weights.{weight_at};
 
 use crate::MoveEnergy;
 use crate::open_moves::{NumberedMove, OpenSites};

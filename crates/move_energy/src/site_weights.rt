@@ -4,24 +4,15 @@
 ghost use Rattle.std.specs.Prelude.{◌≡◌, ◌<◌, ◌≤◌, ◌+◌, ◌-ℤ◌, ◌<ℤ◌, ◌++◌, ◌∷◌, [], cond, ℤ, pos};
 ghost use Rattle.std.specs.Prelude.{true, not, ◌&&◌, All, length, unsigned_abs, vec_len, IfOk};
 ghost use Rattle.std.specs.Prelude.{OnOk, sum_by};
-ghost use Rattle.sums.specs.Sums.{count_if};
-ghost use Rattle.label_field.specs.Limits.{site_limit, pair_limit};
-ghost use Rattle.label_field.specs.PairLists.{IsPair};
-ghost use Rattle.labellings.specs.Moves.{IsRegularPair, IsAllowed};
-ghost use Rattle.pseudo_bool.specs.Energies.{IsValue};
-ghost use Rattle.pseudo_bool.specs.Limits.{term_limit};
-ghost use Rattle.regular.specs.Regularity.{IsRegularTable};
-ghost use Rattle.compile_cut.specs.Quadratics.{IsQuadraticBounded};
-ghost use Rattle.cost_store.specs.Posed.{WhereMeant};
-ghost use Rattle.move_energy.specs.Choices.{choice_at};
-ghost use Rattle.move_energy.specs.Built.{AddsCost, IsLonger};
-ghost use Rattle.move_energy.specs.OpenMoves.{IsValuedMove, IsNumberedMove, WhereNumbered};
-ghost use Rattle.move_energy.specs.OpenMoves.{HasOpenNodes, IsFormOfOpen, IsAllowedFrom};
-ghost use Rattle.move_energy.specs.OpenMoves.{AreWeightsOf};
-ghost use Rattle.move_energy.specs.Problems.{Stands};
-ghost use Rattle.move_energy.specs.Limits.{surplus_limit};
-ghost use Rattle.move_energy.specs.Weights.{IsOfWeights, are_open, open_weights as weights_of};
-ghost use Rattle.move_energy.specs.Weights.{pair_surplus, unsaved_surplus};
+ghost use Rattle.move_energy.specs.Prelude.{count_if, site_limit, pair_limit, IsPair};
+ghost use Rattle.move_energy.specs.Prelude.{IsRegularPair, IsAllowed, IsValue, term_limit};
+ghost use Rattle.move_energy.specs.Prelude.{IsRegularTable, IsQuadraticBounded, WhereMeant};
+ghost use Rattle.move_energy.specs.Prelude.{choice_at, AddsCost, IsLonger, IsValuedMove};
+ghost use Rattle.move_energy.specs.Prelude.{IsNumberedMove, WhereNumbered, HasFormOfOpen};
+ghost use Rattle.move_energy.specs.Prelude.{IsFormOfOpen, IsAllowedFrom, AreWeightsOf, Stands};
+ghost use Rattle.move_energy.specs.Prelude.{surplus_limit, IsOfWeights, are_open};
+ghost use Rattle.move_energy.specs.Prelude.{open_weights as weights_of, pair_surplus};
+ghost use Rattle.move_energy.specs.Prelude.{unsaved_surplus};
 
 use crate::MoveEnergy;
 use crate::costs::{surplus, term};
@@ -130,9 +121,8 @@ pub(crate) fn add_surplus<F: Fn(u32, u32) -> i64 + Sync, V: Fn(u32, u32) -> i64 
     form: &mut Quadratic,
     pair: Pair,
 ) -> Result<(), AllocError>
-    requires step { IsNumberedMove F.Fn V.Fn step.now }
+    requires form { HasFormOfOpen F.Fn V.Fn term_limit step.now form.old }
     requires pair { IsPair (length step.now.at.now) pair }
-    requires form { HasOpenNodes term_limit step.now.variables.now.choices.items form.old }
     ensures longer { OnOk result (IsLonger 1 form.old form.new) }
     ensures adds { OnOk result (WhereNumbered F.Fn V.Fn step.now (λ m move f choice variable.
         IsRegularPair m move f pair
@@ -152,8 +142,7 @@ fn add_surpluses<F: Fn(u32, u32) -> i64 + Sync, V: Fn(u32, u32) -> i64 + Sync>(
     step: &NumberedMove<F, V>,
     form: &mut Quadratic,
 ) -> Result<(), AllocError>
-    requires step { IsNumberedMove F.Fn V.Fn step.now }
-    requires form { HasOpenNodes site_limit step.now.variables.now.choices.items form.old }
+    requires form { HasFormOfOpen F.Fn V.Fn site_limit step.now form.old }
     ensures nodes { OnOk result (vec_len form.new.weights ≡ vec_len form.old.weights) }
     ensures small { OnOk result (IsQuadraticBounded (site_limit + pair_limit) form.new) }
     ensures adds { OnOk result (WhereNumbered F.Fn V.Fn step.now (λ m move f choice variable.

@@ -23,7 +23,7 @@ use Rattle.labellings.proofs.Best.{lists_agree}
 use Rattle.pseudo_bool.specs.Energies.{assignment}
 use Rattle.move_energy.specs.declared.choice.Choice.{Choice}
 use Rattle.move_energy.specs.declared.choice.Choice.TheVariants.{Open, Zero as DecidedZero, One as DecidedOne}
-use Rattle.move_energy.specs.Choices.{bit_of, choice_at, choice_of, is_open, open_rank, value_of, AreSettled}
+use Rattle.move_energy.specs.Choices.{bit_of, choice_at, choice_of, is_open, open_rank, value_of, AreAssigned}
 use Rattle.deciding.specs.declared.sites.Deciding.{Deciding}
 use Rattle.deciding.specs.Listed.{changes}
 use Rattle.moves.specs.declared.workspace.Workspace.{Workspace}
@@ -48,7 +48,7 @@ unchosen move f choices sites p changes l is = elim (cases_Bool (moves_site move
   | inr not_so ↦ unmoved move (labelling f) choices p not_so
 ]
 
--- what is chosen before a move is settled has all that changes
+-- what is chosen before a move is assigned has all that changes
 change_of : (c : Choice) (b : Bool) (test : Bool → Bool) → test (bit_of c b) ≡ true → (is_open c || test (bit_of c false)) ≡ true
 change_of Open b test is = refl
 change_of DecidedZero b test is = is
@@ -60,8 +60,8 @@ bit_of_choice false = refl
 
 pub near_changes : (pairs : PairList) (move : Move) (f : List ℕ) (before after : Workspace) (bits : List Bool) → length before.built.variables.choices.items ≡ length f
     → IsRestListed pairs move f before → after.deciding ≡ before.deciding
-    → AreSettled before.built.variables.choices.items bits after.built.variables.choices.items → AreChangesListed pairs move f after
-near_changes pairs move f before after bits size rest same settled =
+    → AreAssigned before.built.variables.choices.items bits after.built.variables.choices.items → AreChangesListed pairs move f after
+near_changes pairs move f before after bits size rest same assigned =
     let old = before.built.variables.choices.items in
     let new = after.built.variables.choices.items in
     let here : HasChanges move f new before.deciding.lists.changing.items = record {
@@ -70,7 +70,7 @@ near_changes pairs move f before after bits size rest same settled =
       each = λ p l moved.
           let test : Bool → Bool = λ v. not (label_after move (labelling f p) v == labelling f p) in
           let told : bit_of (choice_at new p) false ≡ value_of old bits p =
-          ap (λ (c : Choice). bit_of c false) (settled.each p (omega (arith, l, size))) ∙ bit_of_choice (value_of old bits p) in
+          ap (λ (c : Choice). bit_of c false) (assigned.each p (omega (arith, l, size))) ∙ bit_of_choice (value_of old bits p) in
           rest.each p l (change_of (choice_at old p) (assignment bits (open_rank old p)) test (sym (ap test told) ∙ moved));
     } in
     record {

@@ -21,7 +21,7 @@ use Rattle.move_energy.specs.LabelCosts.{AreCostsOf, costs_below, AddsHidden}
 use Rattle.deciding.proofs.Hiding.{hidden_least}
 use Rattle.move_energy.specs.declared.choice.Choice.{Choice}
 use Rattle.move_energy.specs.declared.choice.Choice.TheVariants.{Open, Zero as DecidedZero, One as DecidedOne}
-use Rattle.move_energy.specs.Choices.{bit_of, choice_at, choice_of, value_of, open_rank, made_by, AreAllOpen, AreSettled, StandsFor}
+use Rattle.move_energy.specs.Choices.{bit_of, choice_at, choice_of, value_of, open_rank, made_by, AreAllOpen, AreAssigned, StandsFor}
 use Rattle.moves.specs.Building.{site_values, made_value}
 use Rattle.deciding.specs.Decisions.{IsSmallestLeast}
 use Rattle.deciding.specs.MoveValues.{move_value}
@@ -165,16 +165,16 @@ agreed_least m move f choice q variable y pairs allowed agree stands least =
 pub made_over : (m : Instance) (move : Move) (f : ℕ → ℕ) → IsInstance m → (x y : ℕ → Bool) → ((k : ℕ) → k < m.sites → x k ≡ y k) → made_value m move f x ≡ made_value m move f y
 made_over m move f pairs x y same = ap pos (energy-same m (labelling_made move f x) (labelling_made move f y) pairs (λ p l. ap (label_after move (f p)) (same p l)))
 
--- the values that the settled choices tell are those
+-- the values that the assigned choices tell are those
 bit_of_choice : (b : Bool) → bit_of (choice_of b) false ≡ b
 bit_of_choice true = refl
 bit_of_choice false = refl
 
-pub settled_least : (m : Instance) (move : Move) (f : ℕ → ℕ) (old new : List Choice) (bits : List Bool) → IsInstance m → length old ≡ m.sites
-    → AreSettled old bits new → IsSmallestLeast m.sites (made_value m move f) (value_of old bits) → IsSmallestLeast m.sites (made_value m move f) (site_values new)
-settled_least m move f old new bits pairs size settled least =
+pub assigned_least : (m : Instance) (move : Move) (f : ℕ → ℕ) (old new : List Choice) (bits : List Bool) → IsInstance m → length old ≡ m.sites
+    → AreAssigned old bits new → IsSmallestLeast m.sites (made_value m move f) (value_of old bits) → IsSmallestLeast m.sites (made_value m move f) (site_values new)
+assigned_least m move f old new bits pairs size assigned least =
     let told : (p : ℕ) → p < m.sites → site_values new p ≡ value_of old bits p =
-    λ p l. ap (λ (c : Choice). bit_of c false) (settled.each p (omega (arith, l, size))) ∙ bit_of_choice (value_of old bits p) in
+    λ p l. ap (λ (c : Choice). bit_of c false) (assigned.each p (omega (arith, l, size))) ∙ bit_of_choice (value_of old bits p) in
     smallest_along m.sites (made_value m move f) (value_of old bits) (site_values new) (made_over m move f pairs (site_values new) (value_of old bits) told) told least
 
 -- ---- where nothing was decided

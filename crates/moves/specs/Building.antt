@@ -114,7 +114,7 @@ pub record IsReadyToCut (pairs : PairList) (at : List ℕ) (move : Move) (nodes 
   pub bounded : IsQuadraticBounded term_limit space.built.form
   pub few : vec_len space.built.form.weights ≤ nodes
 
--- the value of each site's variable, once its choice is settled
+-- the value of each site's variable, once its choice is assigned
 abbrev pub site_values : List Choice → ℕ → Bool
 site_values choices p = bit_of (choice_at choices p) false
 
@@ -162,7 +162,7 @@ pub record HasChanges (move : Move) (f : List ℕ) (choices : List Choice)
   pub each : (p : ℕ) → p < length f → moves_site move (labelling f) choices p ≡ true
       → chosen p ≡ true
 
--- so it is in the workspace of a settled move, whose pairs are by their sites
+-- so it is in the workspace of an assigned move, whose pairs are by their sites
 pub record AreChangesListed (pairs : PairList) (move : Move) (f : List ℕ)
     (space : Workspace) : Type 0 where
   pub by_site : AreBySite pairs space.deciding.ends

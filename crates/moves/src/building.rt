@@ -1,24 +1,14 @@
 //! The energy of a move, of which sites are decided before it is built.
 ghost use Rattle.std.specs.Prelude.{◌≡◌, ◌+◌, ◌<◌, ◌≤◌, length, false, IfOk, IfErr, OnOk, IsTrue};
-ghost use Rattle.labellings.specs.Energies.{labelling};
-ghost use Rattle.labellings.specs.Moves.{IsAllowed};
-ghost use Rattle.label_field.specs.Limits.{site_limit, label_limit};
-ghost use Rattle.cost_store.specs.Posed.{IsPosed, WhereMeant, IsAsked};
-ghost use Rattle.move_energy.specs.Choices.{choice_at};
-ghost use Rattle.move_energy.specs.Problems.{IsPrepareRefusal};
-ghost use Rattle.deciding.specs.Decided.{IsDecidedMove};
-ghost use Rattle.deciding.specs.MoveValues.{move_value};
-ghost use Rattle.closing_in.specs.Agreeing.{Agree};
-ghost use Rattle.moves.specs.Building.{IsGroupedFor, HasListsOfMove, IsNearWhereListed};
-ghost use Rattle.moves.specs.Building.{IsRestWhereListed};
-ghost use Rattle.moves.specs.Building.{IsReadyMove, IsWeighedMove, IsOpenForm, KeepsChoices};
-ghost use Rattle.moves.specs.Building.{KeepsDecided};
-ghost use Rattle.moves.specs.Building.{IsReadyToCut, IsBuiltPlain, IsBuiltMove};
-ghost use Rattle.move_energy.specs.OpenMoves.{IsValuedMove, IsAllowedFrom};
-ghost use Rattle.cost_store.specs.LabelCosts.{costs_of, AreCosts};
-ghost use Rattle.moves.specs.LabelCosts.{IsFreeFor};
-ghost use Rattle.labellings.specs.declared.change.Move.TheVariants.{Expand};
-ghost use Rattle.move_energy.specs.LabelCosts.{AreCostsOf};
+ghost use Rattle.moves.specs.Prelude.{labelling, IsAllowed, site_limit, label_limit, IsPosed};
+ghost use Rattle.moves.specs.Prelude.{WhereMeant, IsAsked, choice_at, IsPrepareRefusal};
+ghost use Rattle.moves.specs.Prelude.{IsDecidedMove, move_value, Agree, IsGroupedFor};
+ghost use Rattle.moves.specs.Prelude.{HasListsOfMove, IsNearWhereListed, IsRestWhereListed};
+ghost use Rattle.moves.specs.Prelude.{IsReadyMove, IsWeighedMove, IsOpenForm, KeepsChoices};
+ghost use Rattle.moves.specs.Prelude.{KeepsDecided, IsReadyToCut, IsBuiltMove};
+ghost use Rattle.moves.specs.Prelude.{IsValuedMove, IsAllowedFrom, costs_of, AreCosts, IsFreeFor};
+ghost use Rattle.moves.specs.Prelude.{Expand, AreCostsOf};
+ghost use Rattle.moves.specs.PlainBuilding.{IsPlainBuilding};
 
 use crate::workspace::{KEPT_SITES, Workspace};
 use cost_store::{Problem, costs_of, has_cost};
@@ -303,11 +293,7 @@ fn build_decided<F: Fn(u32, u32) -> i64 + Sync, V: Fn(u32, u32) -> i64 + Sync, H
 ) -> Result<(), BuildError>
     requires ready { H.ready how.now }
     requires asked { IsReadyMove F.Fn V.Fn problem.now at.now change space.old }
-    ensures by_site { IsGroupedFor problem.now.pairs space.new }
-    ensures left { OnOk result
-        (IsReadyToCut problem.now.pairs at.now change site_limit space.new) }
-    ensures built { WhereMeant F.Fn V.Fn problem.now
-        (λ m. IsBuiltPlain m change at.now space.new.built result) }
+    ensures { IsPlainBuilding F.Fn V.Fn problem.now at.now change space.new result }
 {
     if close_apart(alloc, problem, space, at, change, how)? {
         build_rest(alloc, problem, space, at, change)?;
@@ -332,11 +318,7 @@ fn build_whole<F: Fn(u32, u32) -> i64 + Sync, V: Fn(u32, u32) -> i64 + Sync>(
     change: Move,
 ) -> Result<(), BuildError>
     requires asked { IsReadyMove F.Fn V.Fn problem.now at.now change space.old }
-    ensures by_site { IsGroupedFor problem.now.pairs space.new }
-    ensures left { OnOk result
-        (IsReadyToCut problem.now.pairs at.now change site_limit space.new) }
-    ensures built { WhereMeant F.Fn V.Fn problem.now
-        (λ m. IsBuiltPlain m change at.now space.new.built result) }
+    ensures { IsPlainBuilding F.Fn V.Fn problem.now at.now change space.new result }
 {
     space.deciding.lists.listed = false;
     space.built.prepare(alloc, problem, at, change)
@@ -353,11 +335,7 @@ fn build_plain<F: Fn(u32, u32) -> i64 + Sync, V: Fn(u32, u32) -> i64 + Sync, H: 
 ) -> Result<(), BuildError>
     requires ready { H.ready how.now }
     requires asked { IsReadyMove F.Fn V.Fn problem.now at.now change space.old }
-    ensures by_site { IsGroupedFor problem.now.pairs space.new }
-    ensures left { OnOk result
-        (IsReadyToCut problem.now.pairs at.now change site_limit space.new) }
-    ensures built { WhereMeant F.Fn V.Fn problem.now
-        (λ m. IsBuiltPlain m change at.now space.new.built result) }
+    ensures { IsPlainBuilding F.Fn V.Fn problem.now at.now change space.new result }
 {
     if how.decides_first() {
         build_decided(alloc, problem, space, at, change, how)

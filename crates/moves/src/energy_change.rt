@@ -1,15 +1,11 @@
 //! Whether the labels that the values of a move's sites make have a lower energy. Only what changes
 //! is asked.
 ghost use Rattle.std.specs.Prelude.{◌≡◌, ◌<◌, ◌≤◌, ◌↔◌, pos, ◌<ℤ◌, length, unsigned_abs, IsTrue};
-ghost use Rattle.label_field.specs.PairLists.{IsPair};
-ghost use Rattle.labellings.specs.Energies.{labelling, data_energy, smooth_energy};
-ghost use Rattle.labellings.specs.Energies.{pair_cost as cost_of_pair};
-ghost use Rattle.labellings.specs.Moves.{labelling_made};
-ghost use Rattle.cost_store.specs.Limits.{site_cost_limit, pair_cost_limit, data_energy_limit};
-ghost use Rattle.cost_store.specs.Limits.{smooth_energy_limit};
-ghost use Rattle.cost_store.specs.Posed.{IsPosed, WhereMeant, IsAsked};
-ghost use Rattle.moves.specs.Building.{site_values, LowersEnergy, rise_by};
-ghost use Rattle.move_energy.specs.OpenMoves.{IsValuedMove};
+ghost use Rattle.moves.specs.Prelude.{IsPair, labelling, data_energy, smooth_energy};
+ghost use Rattle.moves.specs.Prelude.{pair_cost as cost_of_pair, labelling_made, site_cost_limit};
+ghost use Rattle.moves.specs.Prelude.{pair_cost_limit, data_energy_limit, smooth_energy_limit};
+ghost use Rattle.moves.specs.Prelude.{IsPosed, WhereMeant, IsAsked, site_values, LowersEnergy};
+ghost use Rattle.moves.specs.Prelude.{rise_by, IsValuedMove};
 
 use crate::taking::value_of;
 use cost_store::Problem;

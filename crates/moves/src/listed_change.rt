@@ -1,16 +1,12 @@
 //! Whether a move whose changes are listed lowers the energy: the listed sites and their pairs
 //! alone are asked.
 ghost use Rattle.std.specs.Prelude.{◌≡◌, ◌<◌, ◌≤◌, ◌*◌, ◌↔◌, length, unsigned_abs, IsTrue};
-ghost use Rattle.sums.specs.Sums.{count_if};
-ghost use Rattle.label_field.specs.PairLists.{IsPair};
-ghost use Rattle.move_energy.specs.BySite.{AreBySite, is_counted as is_counted_at, met_at};
-ghost use Rattle.labellings.specs.Energies.{labelling, data_energy, smooth_energy};
-ghost use Rattle.labellings.specs.Energies.{pair_cost as cost_of_pair};
-ghost use Rattle.cost_store.specs.Limits.{pair_cost_limit, data_energy_limit, smooth_energy_limit};
-ghost use Rattle.cost_store.specs.Posed.{IsPosed, WhereMeant, IsAsked};
-ghost use Rattle.moves.specs.Building.{moves_site, moved_met, HasChanges, AreChangesListed};
-ghost use Rattle.moves.specs.Building.{LowersEnergy, changed_here, rise_by};
-ghost use Rattle.move_energy.specs.OpenMoves.{IsValuedMove};
+ghost use Rattle.moves.specs.Prelude.{count_if, IsPair, AreBySite, is_counted as is_counted_at};
+ghost use Rattle.moves.specs.Prelude.{met_at, labelling, data_energy, smooth_energy};
+ghost use Rattle.moves.specs.Prelude.{pair_cost as cost_of_pair, pair_cost_limit};
+ghost use Rattle.moves.specs.Prelude.{data_energy_limit, smooth_energy_limit, IsPosed, WhereMeant};
+ghost use Rattle.moves.specs.Prelude.{IsAsked, moves_site, moved_met, HasChanges, AreChangesListed};
+ghost use Rattle.moves.specs.Prelude.{LowersEnergy, changed_here, rise_by, IsValuedMove};
 
 use crate::energy_change::{is_negative, lowers_all, made_label, pair_rise, site_rise};
 use crate::workspace::Workspace;

@@ -2,19 +2,12 @@
 ghost use Rattle.std.specs.Prelude.{◌≡◌, ◌↔◌, ◌<◌, ℕ, Bool, true, length, OnOk, OnErr, IfOk};
 ghost use Rattle.std.specs.Prelude.{IfErr, IfSome, IsTrue, None};
 ghost use Rattle.std.specs.List.{All, Contains};
-ghost use Rattle.labellings.specs.declared.change.Move.TheVariants.{Expand};
-ghost use Rattle.labellings.specs.Energies.{labelling as labelling_of};
-ghost use Rattle.cost_store.specs.LabelCosts.{costs_of as costs_in, AreFree};
-ghost use Rattle.cost_store.specs.Posed.{IsPosed, WhereMeant, IsAsked, AreOfOneSize};
-ghost use Rattle.stages.specs.Changes.{made_of, changed_after};
-ghost use Rattle.stages.specs.Fresh.{WasExpanded};
-ghost use Rattle.stages.specs.Looking.{is_marked, AreTaking};
-ghost use Rattle.moves.specs.Building.{IsGroupedFor};
-ghost use Rattle.moves.specs.Problems.{IsMade, IsCutRefusal, IsMoveRefusal};
-ghost use Rattle.moves.specs.Stages.{IsStageReady, AreStageZeros, AreStageFresh, IsTakenLeast};
-ghost use Rattle.moves.specs.Stages.{HasTaken, IsLater};
-ghost use Rattle.moves.specs.Stages.{IsUnderWay};
-ghost use Rattle.moves.specs.Building.{TellsChange};
+ghost use Rattle.moves.specs.Prelude.{Expand, labelling as labelling_of, costs_of as costs_in};
+ghost use Rattle.moves.specs.Prelude.{AreFree, IsPosed, WhereMeant, IsAsked, AreOfOneSize, made_of};
+ghost use Rattle.moves.specs.Prelude.{changed_after, WasExpanded, is_marked, AreTaking};
+ghost use Rattle.moves.specs.Prelude.{IsGroupedFor, IsMade, IsCutRefusal, IsMoveRefusal};
+ghost use Rattle.moves.specs.Prelude.{IsStageReady, AreStageZeros, AreStageFresh, IsTakenLeast};
+ghost use Rattle.moves.specs.Prelude.{HasTaken, IsLater, IsUnderWay, TellsChange};
 
 use crate::stage_cut::{Standing, make_stage};
 use crate::taking::relabel_site;
@@ -24,7 +17,7 @@ use cost_store::{Problem, costs_of, has_cost};
 use label_field::Labelling;
 use labellings::Move;
 use stages::Changes;
-use std::alloc::{AllocError, Global};
+use std::alloc::AllocError;
 
 /// A later expansion looks near the changes where less than one in so many sites changed.
 const CHANGED_SHARE: usize = 32;
@@ -96,7 +89,6 @@ fn can_look<F: Fn(u32, u32) -> i64 + Sync, V: Fn(u32, u32) -> i64 + Sync>(
 
 /// Makes the first stage ready.
 fn begin_stages<F: Fn(u32, u32) -> i64 + Sync, V: Fn(u32, u32) -> i64 + Sync>(
-    alloc: Global,
     problem: &Problem<F, V>,
     space: &mut Workspace,
     at: &[u8],
@@ -114,6 +106,7 @@ fn begin_stages<F: Fn(u32, u32) -> i64 + Sync, V: Fn(u32, u32) -> i64 + Sync>(
     ensures zeros { WhereMeant F.Fn V.Fn problem.now
         (λ m. OnOk result (AreStageZeros m alpha at.now space.new)) }
 {
+    let alloc = *changes.stamps.allocator();
     space.group(alloc, &problem.pairs)?;
     space.stage.mark_fresh(
         &problem.pairs,
@@ -134,7 +127,6 @@ fn begin_stages<F: Fn(u32, u32) -> i64 + Sync, V: Fn(u32, u32) -> i64 + Sync>(
 
 /// Finds the sites that take the label, stage by stage. It answers no where that is given up.
 fn look<F: Fn(u32, u32) -> i64 + Sync, V: Fn(u32, u32) -> i64 + Sync, H: How>(
-    alloc: Global,
     problem: &Problem<F, V>,
     space: &mut Workspace,
     at: &[u8],
@@ -156,7 +148,7 @@ fn look<F: Fn(u32, u32) -> i64 + Sync, V: Fn(u32, u32) -> i64 + Sync, H: How>(
         AreTaking problem.now.pairs.sites space.new.stage) }
     ensures refused { IfErr result (IsCutRefusal (H.refuses how.now)) }
 {
-    match begin_stages(alloc, problem, space, at, alpha, changes) {
+    match begin_stages(problem, space, at, alpha, changes) {
         Ok(()) => {}
         Err(_) => return Err(MoveError::OutOfMemory),
     }
@@ -198,7 +190,6 @@ fn take(labelling: &mut Labelling, alpha: u32, sites: &[u32]) -> bool
 /// at can matter. It answers nothing, and changes nothing, where the expansion is to be made whole.
 /// Refused as an expansion is, the labels as they were.
 pub(crate) fn make_later<F: Fn(u32, u32) -> i64 + Sync, V: Fn(u32, u32) -> i64 + Sync, H: How>(
-    alloc: Global,
     problem: &Problem<F, V>,
     space: &mut Workspace,
     labelling: &mut Labelling,
@@ -227,15 +218,7 @@ pub(crate) fn make_later<F: Fn(u32, u32) -> i64 + Sync, V: Fn(u32, u32) -> i64 +
     if !how.decides_first() || !can_look(problem, labelling, alpha, changes, parts) {
         return Ok(None);
     }
-    if !look(
-        alloc,
-        problem,
-        space,
-        labelling.as_slice(),
-        alpha,
-        changes,
-        how,
-    )? {
+    if !look(problem, space, labelling.as_slice(), alpha, changes, how)? {
         return Ok(None);
     }
     Ok(Some(take(labelling, alpha, &space.stage.taking)))

@@ -1,16 +1,10 @@
 //! The moves of a run, which remembers its expansions.
 ghost use Rattle.std.specs.Prelude.{◌≡◌, ℕ, List, length, IfErr};
-ghost use Rattle.labellings.specs.declared.change.Move.TheVariants.{Expand};
-ghost use Rattle.labellings.specs.Energies.{labelling as labelling_of};
-ghost use Rattle.labellings.specs.Moves.{IsBest};
-ghost use Rattle.cost_store.specs.LabelCosts.{costs_of as costs_in, AreFree};
-ghost use Rattle.cost_store.specs.Posed.{WhereMeant, FitsProblem, AreOfOneSize};
-ghost use Rattle.stages.specs.Changes.{AreStamped};
-ghost use Rattle.stages.specs.Looking.{is_marked, AreTaking};
-ghost use Rattle.moves.specs.Building.{IsGroupedFor, site_values};
-ghost use Rattle.moves.specs.Problems.{IsMoved, IsMoveRefusal};
-ghost use Rattle.moves.specs.Stages.{HasTaken};
-ghost use Rattle.moves.specs.Stages.{IsUnderWay, AreStampsOf};
+ghost use Rattle.moves.specs.Prelude.{Expand, labelling as labelling_of, IsBest};
+ghost use Rattle.moves.specs.Prelude.{costs_of as costs_in, AreFree, WhereMeant, FitsProblem};
+ghost use Rattle.moves.specs.Prelude.{AreOfOneSize, AreStamped, is_marked, AreTaking, IsGroupedFor};
+ghost use Rattle.moves.specs.Prelude.{site_values, IsMoved, IsMoveRefusal, HasTaken, IsUnderWay};
+ghost use Rattle.moves.specs.Prelude.{AreStampsOf};
 
 use crate::near_changes::make_later;
 use crate::one_move::make_move;
@@ -103,7 +97,7 @@ fn make_expansion<F: Fn(u32, u32) -> i64 + Sync, V: Fn(u32, u32) -> i64 + Sync, 
         (IsMoveRefusal (H.refuses how.now) labelling.old.labels (Expand alpha)) }
     ensures stamped { AreStampsOf F.Fn V.Fn problem.now labelling.new changes.new }
 {
-    let later = make_later(alloc, problem, space, labelling, alpha, changes, how)?;
+    let later = make_later(problem, space, labelling, alpha, changes, how)?;
     match later {
         Some(changed) => {
             note_later(problem, changes, alpha, &space.stage);

@@ -2,16 +2,11 @@
 //! shows.
 ghost use Rattle.std.specs.Prelude.{◌≡◌, ◌+◌, ◌<◌, ℕ, false, true, length};
 ghost use Rattle.std.specs.Prelude.{OnOk, IfOk, IfErr};
-ghost use Rattle.labellings.specs.declared.change.Move.TheVariants.{Expand};
-ghost use Rattle.labellings.specs.Energies.{labelling};
-ghost use Rattle.cost_store.specs.Posed.{IsPosed, WhereMeant, IsAsked};
-ghost use Rattle.move_energy.specs.declared.choice.Choice.TheVariants.{Zero};
-ghost use Rattle.move_energy.specs.Choices.{choice_at, value_of, open_count, IsNumbering};
-ghost use Rattle.stages.specs.Looking.{is_marked, IsClosedIn, AreTaking};
-ghost use Rattle.move_energy.specs.OpenMoves.{IsAllowedFrom, IsValuedMove, AreSitesListed};
-ghost use Rattle.moves.specs.Building.{KeepsDecided};
-ghost use Rattle.moves.specs.Problems.{IsCutRefusal};
-ghost use Rattle.moves.specs.Stages.{IsStageLeast, IsStageReady, AreStageZeros, EndsMove};
+ghost use Rattle.moves.specs.Prelude.{Expand, labelling, IsPosed, WhereMeant, IsAsked, Zero};
+ghost use Rattle.moves.specs.Prelude.{choice_at, value_of, open_count, IsNumbering, is_marked};
+ghost use Rattle.moves.specs.Prelude.{IsClosedIn, AreTaking, IsAllowedFrom, IsValuedMove};
+ghost use Rattle.moves.specs.Prelude.{AreSitesListed, KeepsDecided, IsCutRefusal, IsStageLeast};
+ghost use Rattle.moves.specs.Prelude.{IsStageReady, AreStageZeros, EndsMove};
 
 use crate::one_move::{cut_small, least_nodes};
 use crate::workspace::Workspace;

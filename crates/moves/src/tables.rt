@@ -1,18 +1,12 @@
 //! Runs of moves over tables of costs.
 ghost use Rattle.std.specs.Prelude.{◌≡◌, ◌+◌, ◌*◌, ◌<◌, ◌≤◌, pos, ◌≤ℤ◌, All, IsTrue, IsNone, IfErr};
 ghost use Rattle.std.specs.Prelude.{IfOk, IfSome, length, slice_index};
-ghost use Rattle.labellings.specs.declared.cycles.Moves.TheVariants.{Expansion};
-ghost use Rattle.labellings.specs.Energies.{Instance, IsMetric};
-ghost use Rattle.cost_store.specs.Limits.{data_limit, site_cost_limit, smooth_limit};
-ghost use Rattle.cost_store.specs.LabelCosts.{costs_of, AreFree, AreLabelCosts, HasCosts};
-ghost use Rattle.cost_store.specs.Posed.{IsPosed, WhereMeant, FitsProblem};
-ghost use Rattle.cost_store.specs.Promises.{IsCost, IsMetricTable, Keeps, entry_at};
-ghost use Rattle.moves.specs.Bounds.{IsBoundOf};
-ghost use Rattle.moves.specs.Instances.{IsInstanceOf, data_entry, instance_of};
-ghost use Rattle.moves.specs.Prices.{ArePrices};
-ghost use Rattle.moves.specs.Problems.{IsRunRefusal, TellsPairNotRegular};
-ghost use Rattle.moves.specs.Refusals.{IsRefusalOver};
-ghost use Rattle.moves.specs.Runs.{AnswersRun, IsRunInRange, MayMake};
+ghost use Rattle.moves.specs.Prelude.{Expansion, Instance, IsMetric, data_limit, site_cost_limit};
+ghost use Rattle.moves.specs.Prelude.{smooth_limit, costs_of, AreFree, AreLabelCosts, HasCosts};
+ghost use Rattle.moves.specs.Prelude.{IsPosed, WhereMeant, FitsProblem, IsCost, IsMetricTable};
+ghost use Rattle.moves.specs.Prelude.{Keeps, entry_at, IsBoundOf, IsInstanceOf, data_entry};
+ghost use Rattle.moves.specs.Prelude.{instance_of, ArePrices, IsRunRefusal, TellsPairNotRegular};
+ghost use Rattle.moves.specs.Prelude.{IsRefusalOver, AnswersRun, IsRunInRange, MayMake};
 
 use crate::{Bound, Ended, How, MoveError, expansion_bound, run};
 use cost_store::{DataCost, Problem, SmoothCost, is_metric};

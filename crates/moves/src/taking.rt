@@ -1,16 +1,10 @@
 //! The labels that the values of a move's sites make.
 ghost use Rattle.std.specs.Prelude.{◌≡◌, ◌≢◌, ◌<◌, ◌↔◌, ℕ, length, IsTrue, slice_index, slice_set};
-ghost use Rattle.labellings.specs.declared.change.Move.TheVariants.{Expand};
-ghost use Rattle.labellings.specs.Energies.{labelling};
-ghost use Rattle.labellings.specs.Moves.{IsBest, IsMoveOf, label_after};
-ghost use Rattle.cost_store.specs.Posed.{IsPosed, WhereMeant, FitsProblem, AreOfOneSize};
-ghost use Rattle.deciding.specs.Decisions.{IsSmallestLeast};
-ghost use Rattle.moves.specs.Building.{site_values, made_value, HasChanges, AreChangesListed};
-ghost use Rattle.moves.specs.Building.{GivesMade, KeepsSizes, TellsChange};
-ghost use Rattle.cost_store.specs.LabelCosts.{costs_of};
-ghost use Rattle.moves.specs.LabelCosts.{IsFreeFor};
-ghost use Rattle.moves.specs.Problems.{IsMade};
-ghost use Rattle.moves.specs.Stages.{HasTaken};
+ghost use Rattle.moves.specs.Prelude.{Expand, labelling, IsBest, IsMoveOf, label_after, IsPosed};
+ghost use Rattle.moves.specs.Prelude.{WhereMeant, FitsProblem, AreOfOneSize, IsSmallestLeast};
+ghost use Rattle.moves.specs.Prelude.{site_values, made_value, HasChanges, AreChangesListed};
+ghost use Rattle.moves.specs.Prelude.{GivesMade, KeepsSizes, TellsChange, costs_of, IsFreeFor};
+ghost use Rattle.moves.specs.Prelude.{IsMade, HasTaken};
 
 use crate::listed_change::lowers;
 use crate::workspace::Workspace;
@@ -119,7 +113,7 @@ fn relabel_all(labelling: &mut Labelling, choices: &[Choice], change: Move) -> b
     changed
 }
 
-/// The value of a site's variable, once its choice is settled.
+/// The value of a site's variable, once its choice is assigned.
 pub(crate) fn value_of(choices: &[Choice], site: u32) -> bool
     requires choices { site < length choices.now }
     ensures { result ≡ site_values choices.now site }

@@ -1,7 +1,7 @@
 //! What the moves of a run work with, from one move to the next.
 ghost use Rattle.std.specs.Prelude.{◌≡◌, false, OnOk, IsTrue};
 ghost use Rattle.move_energy.specs.BySite.{AreBySite};
-ghost use Rattle.move_energy.specs.Choices.{AreOpenSites, AreSettled};
+ghost use Rattle.move_energy.specs.Choices.{AreOpenSites, AreAssigned};
 ghost use Rattle.moves.specs.Building.{IsGroupedFor};
 
 use deciding::Deciding;
@@ -70,11 +70,11 @@ impl Workspace {
     }
 
     /// Gives each open site its value, the listed ones alone where they are listed.
-    pub(crate) fn settle(&mut self, bits: &[bool])
+    pub(crate) fn assign(&mut self, bits: &[bool])
         requires { IsTrue self.old.deciding.lists.listed →
             AreOpenSites self.old.built.variables.choices.items
             self.old.deciding.lists.opened.items }
-        ensures settled { AreSettled self.old.built.variables.choices.items bits.now
+        ensures assigned { AreAssigned self.old.built.variables.choices.items bits.now
             self.new.built.variables.choices.items }
         ensures same { (self.new.grouped ≡ self.old.grouped)
             × (self.new.deciding ≡ self.old.deciding) }
@@ -82,9 +82,9 @@ impl Workspace {
         if self.deciding.lists.listed {
             self.built
                 .variables
-                .settle_listed(&self.deciding.lists.opened, bits);
+                .assign_listed(&self.deciding.lists.opened, bits);
         } else {
-            self.built.variables.settle(bits);
+            self.built.variables.assign(bits);
         }
     }
 }

@@ -5,7 +5,7 @@ use Rattle.std.proofs.lemmas.Bool.{cases_eq}
 use Rattle.std.proofs.lemmas.List.{length-set, get_or-set_same, get_or-set_other}
 use Rattle.move_energy.specs.declared.choice.Choice.{Choice}
 use Rattle.move_energy.specs.declared.choice.Choice.TheVariants.{Open, Zero, One}
-use Rattle.move_energy.specs.Choices.{choice_at, choice_of, value_of, AreSettled}
+use Rattle.move_energy.specs.Choices.{choice_at, choice_of, value_of, AreAssigned}
 use Rattle.stages.specs.Working.{KeepsZeros}
 
 pub keeps_same : (choices : List Choice) → KeepsZeros choices choices
@@ -43,12 +43,12 @@ told_zero : (b : Bool) → choice_of b ≡ Zero ↔ b ≡ false
 told_zero true = ((λ e. absurd (cc (e))), (λ e. absurd (cc (e))))
 told_zero false = ((λ e. refl), (λ e. refl))
 
-pub settled_zeros : (old : List Choice) (bits : List Bool) (now new : List Choice) → AreSettled old bits now → KeepsZeros now new
+pub assigned_zeros : (old : List Choice) (bits : List Bool) (now new : List Choice) → AreAssigned old bits now → KeepsZeros now new
     → (p : ℕ) → p < length old → choice_at new p ≡ Zero ↔ value_of old bits p ≡ false
-settled_zeros old bits now new settled keeps p l =
+assigned_zeros old bits now new assigned keeps p l =
     let told = told_zero (value_of old bits p) in
-    let kept = keeps.each p (omega (arith, l, settled.count)) in
-    let is = settled.each p l in
+    let kept = keeps.each p (omega (arith, l, assigned.count)) in
+    let is = assigned.each p l in
     ((λ zero. told.0 (sym is ∙ kept.0 zero)), (λ none. kept.1 (is ∙ told.1 none)))
 
 -- ---- before the first stage

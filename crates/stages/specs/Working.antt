@@ -8,7 +8,8 @@ use Rattle.label_field.specs.PairLists.{PairList}
 use Rattle.move_energy.specs.BySite.{degree, pair_of}
 use Rattle.move_energy.specs.declared.choice.Choice.{Choice}
 use Rattle.move_energy.specs.declared.choice.Choice.TheVariants.{Open, Zero}
-use Rattle.move_energy.specs.Choices.{choice_at, value_of}
+use Rattle.move_energy.specs.Choices.{choice_at, value_of, open_count, IsNumbering}
+use Rattle.stages.specs.declared.closing.StageCut.{StageCut}
 use Rattle.stages.specs.declared.stage.Stage.{Stage}
 use Rattle.stages.specs.Looking.{is_marked}
 
@@ -26,6 +27,10 @@ pub record AreSiteMarks (n : ℕ) (flags : List Bool) (sites : List ℕ) : Type 
   pub count : length flags ≡ n
   pub listed : (p : ℕ) → p < n → is_marked flags p ≡ true ↔ Contains sites p
   pub inside : All (λ p. p < n) sites
+
+-- the marks and the list of the fresh sites
+abbrev pub AreFreshMarks : ℕ → Stage → Type 0
+AreFreshMarks n stage = AreSiteMarks n stage.fresh.items stage.fresh_sites.items
 
 -- each marked site stays marked
 abbrev pub StaysMarked : List Bool → List Bool → Type 0
@@ -51,6 +56,16 @@ pub record KeepsZeros (old new : List Choice) : Type 0 where
   pub each : (p : ℕ) → p < length old → choice_at new p ≡ Zero ↔ choice_at old p ≡ Zero
 
 -- ---- taking
+
+-- the open sites are numbered, and the cut has a bit for each of them
+pub record HasBits (cut : StageCut) : Type 0 where
+  pub numbering : IsNumbering cut.choices.now cut.numbers.now
+  pub bits : length cut.bits.now ≡ open_count cut.choices.now
+
+-- the fresh sites and the open ones stay as they are
+abbrev pub KeepsFresh : Stage → Stage → Type 0
+KeepsFresh old new = (new.fresh ≡ old.fresh) × (new.fresh_sites ≡ old.fresh_sites)
+    × (new.opened ≡ old.opened)
 
 -- what takes the label are open sites that the cut showed at 1
 pub record AreShown (choices : List Choice) (bits : List Bool) (stage : Stage) : Type 0 where

@@ -6,6 +6,7 @@ ghost use Rattle.move_energy.specs.BySite.{AreBySite};
 ghost use Rattle.move_energy.specs.Choices.{choice_at, value_of, open_count, IsNumbering};
 ghost use Rattle.stages.specs.Looking.{is_marked, AreTaking, IsClosedIn};
 ghost use Rattle.stages.specs.Working.{AreShown, IsWider, IsSiteSeen, AreSeenAround};
+ghost use Rattle.stages.specs.Working.{HasBits, KeepsFresh};
 
 use crate::Stage;
 use crate::stage::{mark, other_end, unmark_all};
@@ -13,15 +14,23 @@ use label_field::Pairs;
 use move_energy::{Choice, Neighbours, ends_at, pair_at};
 use std::alloc::AllocError;
 
+/// What the cut of a stage showed: the choices before it, the numbers of the open sites' variables,
+/// and the values of these.
+#[derive(Clone, Copy)]
+pub(crate) struct StageCut<'a> {
+    pub choices: &'a [Choice],
+    pub numbers: &'a [u32],
+    pub bits: &'a [bool],
+}
+
 /// What the cut of a stage showed of a site, or what was known: whether it counts as 1.
-fn value_at(choices: &[Choice], numbers: &[u32], bits: &[bool], site: u32) -> bool
-    requires numbering { IsNumbering choices.now numbers.now }
-    requires bits { length bits.now ≡ open_count choices.now }
-    requires site { site < length choices.now }
-    ensures { result ≡ value_of choices.now bits.now site }
+fn value_at(cut: &StageCut, site: u32) -> bool
+    requires cut { HasBits cut.now }
+    requires site { site < length cut.now.choices.now }
+    ensures { result ≡ value_of cut.now.choices.now cut.now.bits.now site }
 {
-    match choices[site as usize] {
-        Choice::Open => bits[numbers[site as usize] as usize],
+    match cut.choices[site as usize] {
+        Choice::Open => cut.bits[cut.numbers[site as usize] as usize],
         Choice::Zero => false,
         Choice::One => true,
     }
@@ -30,28 +39,20 @@ fn value_at(choices: &[Choice], numbers: &[u32], bits: &[bool], site: u32) -> bo
 impl Stage {
     /// Sees a site that is fresh, or beside one that takes the label: it takes the label too if the
     /// cut showed it at 1, and is to be opened if it was not looked at.
-    fn see(
-        &mut self,
-        choices: &[Choice],
-        numbers: &[u32],
-        bits: &[bool],
-        site: u32,
-    ) -> Result<(), AllocError>
-        requires numbering { IsNumbering choices.now numbers.now }
-        requires bits { length bits.now ≡ open_count choices.now }
-        requires site { site < length choices.now }
-        requires shown { AreShown choices.now bits.now self.old }
-        ensures shown { OnOk result (AreShown choices.now bits.now self.new) }
+    fn see(&mut self, cut: &StageCut, site: u32) -> Result<(), AllocError>
+        requires cut { HasBits cut.now }
+        requires site { site < length cut.now.choices.now }
+        requires shown { AreShown cut.now.choices.now cut.now.bits.now self.old }
+        ensures shown { OnOk result (AreShown cut.now.choices.now cut.now.bits.now self.new) }
         ensures wider { OnOk result (IsWider self.old self.new) }
-        ensures seen { OnOk result (IsSiteSeen choices.now bits.now site self.new) }
-        ensures same { (self.new.fresh ≡ self.old.fresh)
-            × (self.new.fresh_sites ≡ self.old.fresh_sites)
-            × (self.new.opened ≡ self.old.opened) }
+        ensures seen { OnOk result
+            (IsSiteSeen cut.now.choices.now cut.now.bits.now site self.new) }
+        ensures same { KeepsFresh self.old self.new }
     {
-        if !value_at(choices, numbers, bits, site) {
+        if !value_at(cut, site) {
             return Ok(());
         }
-        if choices[site as usize].is_open() {
+        if cut.choices[site as usize].is_open() {
             return mark(&mut self.taken, &mut self.taking, site);
         }
         self.front.push(site)?;
@@ -63,53 +64,41 @@ impl Stage {
         &mut self,
         pairs: &Pairs,
         ends: &Neighbours,
-        choices: &[Choice],
-        numbers: &[u32],
-        bits: &[bool],
+        cut: &StageCut,
         site: u32,
     ) -> Result<(), AllocError>
         requires by_site { AreBySite pairs.now ends.now }
-        requires sites { length choices.now ≡ pairs.now.sites }
-        requires numbering { IsNumbering choices.now numbers.now }
-        requires bits { length bits.now ≡ open_count choices.now }
-        requires site { site < length choices.now }
-        requires shown { AreShown choices.now bits.now self.old }
-        ensures shown { OnOk result (AreShown choices.now bits.now self.new) }
+        requires sites { length cut.now.choices.now ≡ pairs.now.sites }
+        requires cut { HasBits cut.now }
+        requires site { site < length cut.now.choices.now }
+        requires shown { AreShown cut.now.choices.now cut.now.bits.now self.old }
+        ensures shown { OnOk result (AreShown cut.now.choices.now cut.now.bits.now self.new) }
         ensures wider { OnOk result (IsWider self.old self.new) }
-        ensures seen { OnOk result
-            (AreSeenAround pairs.now ends.now choices.now bits.now site self.new) }
-        ensures same { (self.new.fresh ≡ self.old.fresh)
-            × (self.new.fresh_sites ≡ self.old.fresh_sites)
-            × (self.new.opened ≡ self.old.opened) }
+        ensures seen { OnOk result (AreSeenAround pairs.now ends.now
+            cut.now.choices.now cut.now.bits.now site self.new) }
+        ensures same { KeepsFresh self.old self.new }
     {
         for index in 0..ends_at(pairs, ends, site) {
             let pair = pair_at(pairs, ends, site, index);
-            self.see(choices, numbers, bits, other_end(pair, site))?;
+            self.see(cut, other_end(pair, site))?;
         }
         Ok(())
     }
 
     /// Sees the fresh sites.
-    fn see_fresh(
-        &mut self,
-        choices: &[Choice],
-        numbers: &[u32],
-        bits: &[bool],
-    ) -> Result<(), AllocError>
-        requires numbering { IsNumbering choices.now numbers.now }
-        requires bits { length bits.now ≡ open_count choices.now }
-        requires inside { All (λ p. p < length choices.now) self.old.fresh_sites.items }
-        requires shown { AreShown choices.now bits.now self.old }
-        ensures shown { OnOk result (AreShown choices.now bits.now self.new) }
-        ensures seen { OnOk result (All (λ p. IsSiteSeen choices.now bits.now p self.new)
+    fn see_fresh(&mut self, cut: &StageCut) -> Result<(), AllocError>
+        requires cut { HasBits cut.now }
+        requires inside { All (λ p. p < length cut.now.choices.now) self.old.fresh_sites.items }
+        requires shown { AreShown cut.now.choices.now cut.now.bits.now self.old }
+        ensures shown { OnOk result (AreShown cut.now.choices.now cut.now.bits.now self.new) }
+        ensures seen { OnOk result (All
+            (λ p. IsSiteSeen cut.now.choices.now cut.now.bits.now p self.new)
             self.old.fresh_sites.items) }
-        ensures same { (self.new.fresh ≡ self.old.fresh)
-            × (self.new.fresh_sites ≡ self.old.fresh_sites)
-            × (self.new.opened ≡ self.old.opened) }
+        ensures same { KeepsFresh self.old self.new }
     {
         for index in 0..self.fresh_sites.len() {
             let site = self.fresh_sites[index];
-            self.see(choices, numbers, bits, site)?;
+            self.see(cut, site)?;
         }
         Ok(())
     }
@@ -120,32 +109,27 @@ impl Stage {
         &mut self,
         pairs: &Pairs,
         ends: &Neighbours,
-        choices: &[Choice],
-        numbers: &[u32],
-        bits: &[bool],
+        cut: &StageCut,
     ) -> Result<bool, AllocError>
         requires by_site { AreBySite pairs.now ends.now }
-        requires sites { length choices.now ≡ pairs.now.sites }
-        requires numbering { IsNumbering choices.now numbers.now }
-        requires bits { length bits.now ≡ open_count choices.now }
-        requires shown { AreShown choices.now bits.now self.old }
-        ensures shown { OnOk result (AreShown choices.now bits.now self.new) }
+        requires sites { length cut.now.choices.now ≡ pairs.now.sites }
+        requires cut { HasBits cut.now }
+        requires shown { AreShown cut.now.choices.now cut.now.bits.now self.old }
+        ensures shown { OnOk result (AreShown cut.now.choices.now cut.now.bits.now self.new) }
         ensures wider { OnOk result (IsWider self.old self.new) }
-        ensures seen { IfOk result
-            (λ end. IsTrue end → All (λ p. AreSeenAround pairs.now ends.now choices.now
-            bits.now p self.new) self.new.taking.items) }
-        ensures same { (self.new.fresh ≡ self.old.fresh)
-            × (self.new.fresh_sites ≡ self.old.fresh_sites)
-            × (self.new.opened ≡ self.old.opened) }
+        ensures seen { IfOk result (λ end. IsTrue end →
+            All (λ p. AreSeenAround pairs.now ends.now cut.now.choices.now
+            cut.now.bits.now p self.new) self.new.taking.items) }
+        ensures same { KeepsFresh self.old self.new }
     {
-        for index in 0..choices.len() {
+        for index in 0..cut.choices.len() {
             if index >= self.taking.len() {
                 return Ok(true);
             }
             let site = self.taking[index];
-            self.see_around(pairs, ends, choices, numbers, bits, site)?;
+            self.see_around(pairs, ends, cut, site)?;
         }
-        Ok(self.taking.len() <= choices.len())
+        Ok(self.taking.len() <= cut.choices.len())
     }
 
     /// Finds the parts of what the cut of a stage showed at 1 that hold a fresh site, and answers
@@ -176,16 +160,19 @@ impl Stage {
             (value_of choices.now bits.now) (choice_at choices.now) (is_marked self.new.taken.items)
             (is_marked self.new.fresh.items)) }
         ensures taking { OnOk result (AreTaking pairs.now.sites self.new) }
-        ensures same { (self.new.fresh ≡ self.old.fresh)
-            × (self.new.fresh_sites ≡ self.old.fresh_sites)
-            × (self.new.opened ≡ self.old.opened) }
+        ensures same { KeepsFresh self.old self.new }
     {
         pairs.keeps();
         unmark_all(&mut self.taken, choices.len())?;
         self.taking.clear();
         self.front.clear();
-        self.see_fresh(choices, numbers, bits)?;
-        let end = self.see_beside(pairs, ends, choices, numbers, bits)?;
+        let cut = StageCut {
+            choices,
+            numbers,
+            bits,
+        };
+        self.see_fresh(&cut)?;
+        let end = self.see_beside(pairs, ends, &cut)?;
         Ok(end && self.front.is_empty())
     }
 }

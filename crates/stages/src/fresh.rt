@@ -4,7 +4,7 @@ ghost use Rattle.std.specs.Prelude.{OnOk};
 ghost use Rattle.move_energy.specs.BySite.{AreBySite};
 ghost use Rattle.labellings.specs.Energies.{labelling};
 ghost use Rattle.stages.specs.Looking.{is_marked, changed_since, AreBeside, AreFreshSites};
-ghost use Rattle.stages.specs.Working.{AreSiteMarks, StaysMarked, IsMarkedAround};
+ghost use Rattle.stages.specs.Working.{AreFreshMarks, StaysMarked, IsMarkedAround};
 
 use crate::Stage;
 use crate::stage::{mark, other_end, unmark_all};
@@ -16,10 +16,8 @@ impl Stage {
     /// Marks a site as fresh if it could take the label.
     fn mark_site(&mut self, at: &[u8], alpha: u32, site: u32) -> Result<(), AllocError>
         requires site { site < length at.now }
-        requires marks { AreSiteMarks (length at.now)
-            self.old.fresh.items self.old.fresh_sites.items }
-        ensures marks { OnOk result (AreSiteMarks (length at.now) self.new.fresh.items
-            self.new.fresh_sites.items) }
+        requires marks { AreFreshMarks (length at.now) self.old }
+        ensures marks { OnOk result (AreFreshMarks (length at.now) self.new) }
         ensures stays { OnOk result (StaysMarked self.old.fresh.items self.new.fresh.items) }
         ensures only { OnOk result ((p : ℕ) → is_marked self.new.fresh.items p ≡ true →
             (is_marked self.old.fresh.items p ≡ true)
@@ -45,10 +43,8 @@ impl Stage {
         requires by_site { AreBySite pairs.now ends.now }
         requires sites { length at.now ≡ pairs.now.sites }
         requires site { site < length at.now }
-        requires marks { AreSiteMarks (length at.now)
-            self.old.fresh.items self.old.fresh_sites.items }
-        ensures marks { OnOk result (AreSiteMarks (length at.now) self.new.fresh.items
-            self.new.fresh_sites.items) }
+        requires marks { AreFreshMarks (length at.now) self.old }
+        ensures marks { OnOk result (AreFreshMarks (length at.now) self.new) }
         ensures stays { OnOk result (StaysMarked self.old.fresh.items self.new.fresh.items) }
         ensures only { OnOk result ((p : ℕ) → is_marked self.new.fresh.items p ≡ true →
             (is_marked self.old.fresh.items p ≡ true) ⊎ ((labelling at.now p ≢ alpha)

@@ -7,7 +7,7 @@ ghost use Rattle.move_energy.specs.BySite.{AreBySite, IsListing};
 ghost use Rattle.labellings.specs.Energies.{labelling};
 ghost use Rattle.move_energy.specs.declared.choice.Choice.TheVariants.{Zero};
 ghost use Rattle.move_energy.specs.Choices.{choice_at, choice_of, is_open, open_at, value_of};
-ghost use Rattle.move_energy.specs.Choices.{open_count, AreOpenSites, AreSettled};
+ghost use Rattle.move_energy.specs.Choices.{open_count, AreOpenSites, AreAssigned};
 ghost use Rattle.stages.specs.Looking.{AreTaking};
 ghost use Rattle.stages.specs.Working.{KeepsZeros};
 
@@ -96,10 +96,10 @@ fn open_all(choices: &mut Vec<Choice>, sites: &[u32])
 }
 
 /// What the cut of a stage showed: the open sites are at 0 or count as 1.
-fn settle(choices: &mut Vec<Choice>, opened: &[u32], bits: &[bool])
+fn assign(choices: &mut Vec<Choice>, opened: &[u32], bits: &[bool])
     requires listed { AreOpenSites choices.old.items opened.now }
     requires bits { length bits.now ≡ open_count choices.old.items }
-    ensures { AreSettled choices.old.items bits.now choices.new.items }
+    ensures { AreAssigned choices.old.items bits.now choices.new.items }
 {
     for index in 0..opened.len() {
         choices[opened[index] as usize] = choice_of(bits[index]);
@@ -303,7 +303,7 @@ impl Stage {
             × (self.new.fresh_sites ≡ self.old.fresh_sites) }
     {
         pairs.keeps();
-        settle(choices, &self.opened, bits);
+        assign(choices, &self.opened, bits);
         open_all(choices, &self.taking);
         open_all(choices, &self.front);
         let most = most_listed(self.front.len(), self.taking.len() + self.front.len());

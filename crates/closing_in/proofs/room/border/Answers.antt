@@ -15,7 +15,7 @@ loop-index-preserved g c =
     let range = c.ends_at-index-end.type_inv in
     let few : k ≤ 4294967296 = omega (arith, c.loop-index-test.true) in
     let below : k < degree a.ends.now a.site = omega (arith, c.loop-index-test.true, c.loop-index.auto.index-end, c.ends_at-index-end.ensures) in
-    let inside : a.site < a.problem.now.pairs.sites = omega (arith, c.requires.site, c.requires.asked.sites) in
+    let inside : a.site < a.problem.now.pairs.sites = omega (arith, c.requires.site, c.requires.asked.asked.sites) in
     let is = total_is old added k c.loop-index.invariant.small c.pair_border-total.ensures.range few in
     record {
       small = total_small old added _ k c.loop-index.invariant.small c.pair_border-total.ensures.range is;
@@ -23,15 +23,15 @@ loop-index-preserved g c =
           total_more old added _ (λ i. pair_border m a.change (labelling a.at.now) (choice_at a.choices.now) (range_of a.range.from a.range.to) a.site (pair_of a.ends.now a.site i)) k _
           is (c.loop-index.invariant.so_far m answers allowed)
           (c.pair_border-total.ensures.value m answers
-          (regular_at m a.change (labelling a.at.now) a.problem.now.pairs a.ends.now a.site k c.pair_at-pair.result c.requires.by_site inside below answers.pairs_are c.pair_at-pair.ensures.value allowed))
+          (regular_at m a.change (labelling a.at.now) a.problem.now.pairs a.ends.now a.site k c.pair_at-pair.result c.requires.asked.by_site inside below answers.pairs_are c.pair_at-pair.ensures.value allowed))
           (ap (pair_border m a.change (labelling a.at.now) (choice_at a.choices.now) (range_of a.range.from a.range.to) a.site) c.pair_at-pair.ensures.value);
     }
 
 pub returns-clause-value : goal.returns-clause-value
 returns-clause-value g c = λ m answers allowed.
     let a = c.args in
-    let inside : a.site < a.problem.now.pairs.sites = omega (arith, c.requires.site, c.requires.asked.sites) in
+    let inside : a.site < a.problem.now.pairs.sites = omega (arith, c.requires.site, c.requires.asked.asked.sites) in
     let end : c.loop-index.index ≡ c.ends_at-index-end.result = omega (arith, c.loop-index-test.false, c.loop-index.auto.index-end) in
     total_all m a.change (labelling a.at.now) (choice_at a.choices.now) (range_of a.range.from a.range.to) a.problem.now.pairs a.ends.now a.site c.loop-index.index _
-    answers.pairs_are answers.sites_are c.requires.posed.pairs c.requires.by_site inside (end ∙ c.ends_at-index-end.ensures)
+    answers.pairs_are answers.sites_are c.requires.asked.posed.pairs c.requires.asked.by_site inside (end ∙ c.ends_at-index-end.ensures)
     (c.loop-index.invariant.so_far m answers allowed)

@@ -9,12 +9,12 @@ pub returns-then-high-low : goal.returns-then-high-low
 returns-then-high-low g c = record {
   least = λ m answers.
       let a = c.args in
-      passed_rise m a.step.now.change (labelling a.step.now.at.now) a.site c.other_end-other.result (decided_or a.choices.now true) a.pair a.turn.stays a.turn.turns _ _ c.end_rise-greatest.result c.end_rise-greatest.ensures.range
-      (c.end_rise-greatest.ensures.rise m answers) c.other_end-other.ensures c.requires.pair.pair_is.unequal c.requires.pair.turned c.if-high-low.true c.label_by-high.ensures;
+      passed_rise m a.step.now.change (labelling a.step.now.at.now) a.site c.other_end-other.result (decided_or a.choices.now true) a.pair a.two_labels.stays a.two_labels.turns _ _ c.end_rise-greatest.result c.end_rise-greatest.ensures.range
+      (c.end_rise-greatest.ensures.rise m answers) c.other_end-other.ensures c.requires.pair.pair_is.unequal c.requires.pair.of_move c.if-high-low.true c.label_by-high.ensures;
   greatest = λ m answers.
       let a = c.args in
-      passed_rise m a.step.now.change (labelling a.step.now.at.now) a.site c.other_end-other.result (decided_or a.choices.now false) a.pair a.turn.stays a.turn.turns _ _ c.end_rise-greatest.result c.end_rise-greatest.ensures.range
-      (c.end_rise-greatest.ensures.rise m answers) c.other_end-other.ensures c.requires.pair.pair_is.unequal c.requires.pair.turned refl c.label_by-low.ensures;
+      passed_rise m a.step.now.change (labelling a.step.now.at.now) a.site c.other_end-other.result (decided_or a.choices.now false) a.pair a.two_labels.stays a.two_labels.turns _ _ c.end_rise-greatest.result c.end_rise-greatest.ensures.range
+      (c.end_rise-greatest.ensures.rise m answers) c.other_end-other.ensures c.requires.pair.pair_is.unequal c.requires.pair.of_move refl c.label_by-low.ensures;
   range = (
     passed_range c.end_rise-greatest.result 10000000 (omega arith) c.end_rise-greatest.ensures.range,
     passed_range c.end_rise-greatest.result 10000000 (omega arith) c.end_rise-greatest.ensures.range,
@@ -25,12 +25,12 @@ pub returns : goal.returns
 returns g c = record {
   least = λ m answers.
       let a = c.args in
-      passed_rise m a.step.now.change (labelling a.step.now.at.now) a.site c.other_end-other.result (decided_or a.choices.now true) a.pair a.turn.stays a.turn.turns _ _ c.end_rise.result c.end_rise.ensures.range
-      (c.end_rise.ensures.rise m answers) c.other_end-other.ensures c.requires.pair.pair_is.unequal c.requires.pair.turned refl c.label_by-high.ensures;
+      passed_rise m a.step.now.change (labelling a.step.now.at.now) a.site c.other_end-other.result (decided_or a.choices.now true) a.pair a.two_labels.stays a.two_labels.turns _ _ c.end_rise.result c.end_rise.ensures.range
+      (c.end_rise.ensures.rise m answers) c.other_end-other.ensures c.requires.pair.pair_is.unequal c.requires.pair.of_move refl c.label_by-high.ensures;
   greatest = λ m answers.
       let a = c.args in
-      passed_rise m a.step.now.change (labelling a.step.now.at.now) a.site c.other_end-other.result (decided_or a.choices.now false) a.pair a.turn.stays a.turn.turns _ _ c.end_rise-greatest.result c.end_rise-greatest.ensures.range
-      (c.end_rise-greatest.ensures.rise m answers) c.other_end-other.ensures c.requires.pair.pair_is.unequal c.requires.pair.turned refl c.label_by-low.ensures;
+      passed_rise m a.step.now.change (labelling a.step.now.at.now) a.site c.other_end-other.result (decided_or a.choices.now false) a.pair a.two_labels.stays a.two_labels.turns _ _ c.end_rise-greatest.result c.end_rise-greatest.ensures.range
+      (c.end_rise-greatest.ensures.rise m answers) c.other_end-other.ensures c.requires.pair.pair_is.unequal c.requires.pair.of_move refl c.label_by-low.ensures;
   range = (
     passed_range c.end_rise.result 10000000 (omega arith) c.end_rise.ensures.range,
     passed_range c.end_rise-greatest.result 10000000 (omega arith) c.end_rise-greatest.ensures.range,

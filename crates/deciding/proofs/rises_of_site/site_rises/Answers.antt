@@ -32,7 +32,7 @@ pair_rises-rises-requires-clause-pair g c = λ κs lives.
       choices_len = c.requires.choices;
       pair_is = subst P (sym c.requires.posed.asked.sites) c.pair_beside-pair.ensures.pair;
       end = c.pair_beside-pair.ensures.end;
-      turned = search rules;
+      of_move = search rules;
     }
 
 pub loop-place-init : goal.loop-place-init

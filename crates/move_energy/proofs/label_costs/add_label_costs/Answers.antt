@@ -22,8 +22,10 @@ add_label-requires-clause-form c =
     let few : 5242880 + 10486 * c.loop-label.label ≤ 8388608 = omega (arith, c.loop-label-test.true, c.requires.few.1) in
     record {
       nodes = omega (arith, c.loop-label.invariant.adds.nodes, c.requires.nodes);
-      room = omega (arith, c.loop-label.invariant.wider.nodes, c.requires.nodes, rank_most choices (length choices), c.requires.opened.count, c.requires.few.0, c.requires.few.1);
-      bounded = bounded-weaker (5242880 + 10486 * c.loop-label.label) 8388608 c.loop-label.form few (c.loop-label.invariant.wider.bounded 5242880 c.requires.bounded);
+      form = record {
+        bounded = bounded-weaker (5242880 + 10486 * c.loop-label.label) 8388608 c.loop-label.form few (c.loop-label.invariant.wider.bounded 5242880 c.requires.bounded);
+        room = omega (arith, c.loop-label.invariant.wider.nodes, c.requires.nodes, rank_most choices (length choices), c.requires.opened.count, c.requires.few.0, c.requires.few.1);
+      };
     }
 
 pub returns-clause-bounded : goal.returns-clause-bounded

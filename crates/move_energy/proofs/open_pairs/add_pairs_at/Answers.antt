@@ -63,14 +63,14 @@ returns-clause-adds g c = λ m answers fit.
     (added_by_pair a.adds m a.step.now.change (labelling a.step.now.at.now) (choice_at choices) (open_rank choices) x) a.site k) in
     subst P (omega (arith, c.loop-index-test.false, c.loop-index.auto, c.ends_at-index-end.ensures)) (c.loop-index.invariant.adds m answers fit)
 
-pub add_counted-requires-clause-step : goal.add_counted-requires-clause-step
-add_counted-requires-clause-step g c = λ κs lives. c.requires.step
-
 pub add_counted-requires-clause-form : goal.add_counted-requires-clause-form
 add_counted-requires-clause-form g c = λ κs lives.
     let a = c.args in
     record {
-      variables = c.loop-index.invariant.longer.nodes ∙ c.requires.form.variables;
-      bounded = met_room a.ends.now (open_at a.step.now.variables.now.choices.items) a.site c.loop-index.index a.form.now c.loop-index.form
-          (omega (arith, c.loop-index-test.true, c.ends_at-index-end.ensures)) c.requires.met c.requires.form.bounded c.loop-index.invariant.longer;
+      step_is = c.requires.step;
+      nodes = record {
+        variables = c.loop-index.invariant.longer.nodes ∙ c.requires.form.variables;
+        bounded = met_room a.ends.now (open_at a.step.now.variables.now.choices.items) a.site c.loop-index.index a.form.now c.loop-index.form
+            (omega (arith, c.loop-index-test.true, c.ends_at-index-end.ensures)) c.requires.met c.requires.form.bounded c.loop-index.invariant.longer;
+      };
     }

@@ -21,9 +21,9 @@ add_saving-requires-clause-first g c =
     let choices = a.step.now.variables.now.choices.items in
     let above : pos 0 <ℤ c.open_surplus-surplus.result = omega (arith, ints, c.open_surplus-surplus.ensures.range) in
     let opened = first_open (choice_at choices) a.pair (c.open_surplus-surplus.ensures.open above) in
-    let within : a.pair.first < length choices = omega (arith, c.requires.pair.first, c.requires.step.choices) in
-    let number = number_read choices a.step.now.variables.now.of_sites.items a.pair.first _ c.requires.step.numbering within opened c.index-first.ensures in
-    omega (arith, number, rank_below choices a.pair.first (length choices) within opened, c.requires.form.variables)
+    let within : a.pair.first < length choices = omega (arith, c.requires.pair.first, c.requires.form.step_is.choices) in
+    let number = number_read choices a.step.now.variables.now.of_sites.items a.pair.first _ c.requires.form.step_is.numbering within opened c.index-first.ensures in
+    omega (arith, number, rank_below choices a.pair.first (length choices) within opened, c.requires.form.nodes.variables)
 
 pub add_saving-requires-clause-second : goal.add_saving-requires-clause-second
 add_saving-requires-clause-second g c =
@@ -31,9 +31,9 @@ add_saving-requires-clause-second g c =
     let choices = a.step.now.variables.now.choices.items in
     let above : pos 0 <ℤ c.open_surplus-surplus.result = omega (arith, ints, c.open_surplus-surplus.ensures.range) in
     let opened = second_open (choice_at choices) a.pair (c.open_surplus-surplus.ensures.open above) in
-    let within : a.pair.second < length choices = omega (arith, c.requires.pair.second, c.requires.step.choices) in
-    let number = number_read choices a.step.now.variables.now.of_sites.items a.pair.second _ c.requires.step.numbering within opened c.index-second.ensures in
-    omega (arith, number, rank_below choices a.pair.second (length choices) within opened, c.requires.form.variables)
+    let within : a.pair.second < length choices = omega (arith, c.requires.pair.second, c.requires.form.step_is.choices) in
+    let number = number_read choices a.step.now.variables.now.of_sites.items a.pair.second _ c.requires.form.step_is.numbering within opened c.index-second.ensures in
+    omega (arith, number, rank_below choices a.pair.second (length choices) within opened, c.requires.form.nodes.variables)
 
 pub returns-clause-adds : goal.returns-clause-adds
 returns-clause-adds g c =
@@ -41,10 +41,10 @@ returns-clause-adds g c =
     let choices = a.step.now.variables.now.choices.items in
     let above : pos 0 <ℤ c.open_surplus-surplus.result = omega (arith, ints, c.open_surplus-surplus.ensures.range) in
     let both = c.open_surplus-surplus.ensures.open above in
-    let first_within : a.pair.first < length choices = omega (arith, c.requires.pair.first, c.requires.step.choices) in
-    let second_within : a.pair.second < length choices = omega (arith, c.requires.pair.second, c.requires.step.choices) in
-    let first = number_read choices a.step.now.variables.now.of_sites.items a.pair.first _ c.requires.step.numbering first_within (first_open (choice_at choices) a.pair both) c.index-first.ensures in
-    let second = number_read choices a.step.now.variables.now.of_sites.items a.pair.second _ c.requires.step.numbering second_within (second_open (choice_at choices) a.pair both) c.index-second.ensures in
+    let first_within : a.pair.first < length choices = omega (arith, c.requires.pair.first, c.requires.form.step_is.choices) in
+    let second_within : a.pair.second < length choices = omega (arith, c.requires.pair.second, c.requires.form.step_is.choices) in
+    let first = number_read choices a.step.now.variables.now.of_sites.items a.pair.first _ c.requires.form.step_is.numbering first_within (first_open (choice_at choices) a.pair both) c.index-first.ensures in
+    let second = number_read choices a.step.now.variables.now.of_sites.items a.pair.second _ c.requires.form.step_is.numbering second_within (second_open (choice_at choices) a.pair both) c.index-second.ensures in
     let size = ap unsigned_abs (surplus_passed c.open_surplus-surplus.result c.open_surplus-surplus.ensures.range) in
     on_ok_weaker c.add_saving.result (λ adds m answers regular.
     surplus_adds m a.step.now.change (labelling a.step.now.at.now) (choice_at choices) (open_rank choices) a.form.now c.add_saving.new.form a.pair _ _ _ c.open_surplus-surplus.result

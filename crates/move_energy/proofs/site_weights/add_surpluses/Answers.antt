@@ -29,7 +29,7 @@ returns-clause-nodes g c = c.loop-index.invariant.longer.nodes
 pub returns-clause-small : goal.returns-clause-small
 returns-clause-small g c =
     let few : 1048576 + c.loop-index.index ≤ 5242880 = omega (arith, c.loop-index.auto, c.len-index-end.ensures.value, c.len-index-end.ensures.limit) in
-    bounded-weaker (1048576 + c.loop-index.index) 5242880 c.loop-index.form few (c.loop-index.invariant.longer.bounded 1048576 c.requires.form.bounded)
+    bounded-weaker (1048576 + c.loop-index.index) 5242880 c.loop-index.form few (c.loop-index.invariant.longer.bounded 1048576 c.requires.form.nodes.bounded)
 
 pub returns-clause-adds : goal.returns-clause-adds
 returns-clause-adds g c = λ m answers allowed.
@@ -37,13 +37,13 @@ returns-clause-adds g c = λ m answers allowed.
     c.args.form.now c.loop-index.form c.loop-index.index c.args.step.now.problem.now.pairs.list answers.pairs_are
     (omega (arith, c.loop-index-test.false, c.len-index-end.ensures.value)) (c.loop-index.invariant.adds m answers allowed)
 
-pub add_surplus-requires-clause-step : goal.add_surplus-requires-clause-step
-add_surplus-requires-clause-step g c = λ κs lives. c.requires.step
-
 pub add_surplus-requires-clause-form : goal.add_surplus-requires-clause-form
 add_surplus-requires-clause-form g c = λ κs lives.
     let few : 1048576 + c.loop-index.index ≤ 8388608 = omega (arith, c.loop-index-test.true, c.len-index-end.ensures.value, c.len-index-end.ensures.limit) in
     record {
-      variables = c.loop-index.invariant.longer.nodes ∙ c.requires.form.variables;
-      bounded = bounded-weaker (1048576 + c.loop-index.index) 8388608 c.loop-index.form few (c.loop-index.invariant.longer.bounded 1048576 c.requires.form.bounded);
+      step_is = c.requires.form.step_is;
+      nodes = record {
+        variables = c.loop-index.invariant.longer.nodes ∙ c.requires.form.nodes.variables;
+        bounded = bounded-weaker (1048576 + c.loop-index.index) 8388608 c.loop-index.form few (c.loop-index.invariant.longer.bounded 1048576 c.requires.form.nodes.bounded);
+      };
     }

@@ -10,7 +10,7 @@ use Rattle.moves.proofs.Answers.{cut_refusal, cut_may_come, pair_may_come, pair_
 use Rattle.move_energy.specs.BySite.{AreBySite}
 use Rattle.deciding.specs.declared.sites.Deciding.{Deciding}
 use Rattle.cost_store.proofs.Meaning.{pairs_meant}
-use Rattle.moves.proofs.Least.{settled_least}
+use Rattle.moves.proofs.Least.{assigned_least}
 use Rattle.moves.proofs.Changes.{near_changes}
 use Rattle.cost_store.specs.LabelCosts.{AreLabelCosts}
 use Rattle.moves.proofs.one_move.make_move.Goals as goal
@@ -46,9 +46,9 @@ returns-clause-moved g c = λ m meant.
     let pairs = pairs_meant _ _ _ m c.requires.posed meant in
     let Q : Quadratic → Type 0 = λ q. IsSmallestLeast (vec_len q.weights) (quadratic_value q) (assignment c.in_ok-bits.bits.items) in
     let least = ready.1 c.in_ok-bits.bits.items (subst Q c.replace-form.ensures.value c.in_ok-bits.ensures.least) in
-    let settled = rw (c.deref.ensures.value) at c.settle.ensures.settled in
-    let values = settled_least m c.args.change (labelling c.args.labelling.now.at) _ _ c.in_ok-bits.bits.items pairs
-    (c.in-Ok.ensures.left.choices ∙ ap (λ (xs : List ℕ). length xs) c.as_slice.ensures.value ∙ c.requires.fits.sites ∙ sym meant.sites_are) settled least in
+    let assigned = rw (c.deref.ensures.value) at c.assign.ensures.assigned in
+    let values = assigned_least m c.args.change (labelling c.args.labelling.now.at) _ _ c.in_ok-bits.bits.items pairs
+    (c.in-Ok.ensures.left.choices ∙ ap (λ (xs : List ℕ). length xs) c.as_slice.ensures.value ∙ c.requires.fits.sites ∙ sym meant.sites_are) assigned least in
     let best = c.take_best.ensures.best m meant values in
     (here, ready.0, best.0, best.1, taken_free m c.args.change c.args.problem.now.label_costs meant.costs_are (c.is_taken.ensures.taken c.if-not-is_taken.false))
 
@@ -134,24 +134,24 @@ take_best-requires-clause-below g c = λ κs lives.
 
 pub take_best-requires-clause-choices : goal.take_best-requires-clause-choices
 take_best-requires-clause-choices g c = λ κs lives.
-    c.settle.ensures.settled.count ∙ c.in-Ok.ensures.left.choices ∙ ap (λ (xs : List ℕ). length xs) c.as_slice.ensures.value
+    c.assign.ensures.assigned.count ∙ c.in-Ok.ensures.left.choices ∙ ap (λ (xs : List ℕ). length xs) c.as_slice.ensures.value
 
 pub take_best-requires-clause-changes : goal.take_best-requires-clause-changes
 take_best-requires-clause-changes g c = λ κs lives listed.
-    let same = c.settle.ensures.same in
+    let same = c.assign.ensures.same in
     let yes = subst (λ (d : Deciding). IsTrue d.lists.listed) same.1 listed in
     let near = rw (c.as_slice.ensures.value) at (c.in-Ok.ensures.left.near yes) in
-    near_changes c.args.problem.now.pairs c.args.change c.args.labelling.now.at _ c.settle.new.self _
-    (c.in-Ok.ensures.left.choices ∙ ap (λ (xs : List ℕ). length xs) c.as_slice.ensures.value) near same.1 c.settle.ensures.settled
+    near_changes c.args.problem.now.pairs c.args.change c.args.labelling.now.at _ c.assign.new.self _
+    (c.in-Ok.ensures.left.choices ∙ ap (λ (xs : List ℕ). length xs) c.as_slice.ensures.value) near same.1 c.assign.ensures.assigned
 
 pub returns-clause-by_site : goal.returns-clause-by_site
 returns-clause-by_site g c = λ grouped.
     let E : Deciding → Type 0 = λ deciding. AreBySite c.args.problem.now.pairs deciding.ends in
-    let same = c.settle.ensures.same in
+    let same = c.assign.ensures.same in
     subst E (sym same.1) (c.in-Ok.ensures.by_site (sym same.0 ∙ grouped))
 
-pub settle-requires : goal.settle-requires
-settle-requires g c = λ listed. (c.in-Ok.ensures.left.near listed).opened
+pub assign-requires : goal.assign-requires
+assign-requires g c = λ listed. (c.in-Ok.ensures.left.near listed).opened
 
 pub returns-clause-sizes : goal.returns-clause-sizes
 returns-clause-sizes g c = c.take_best.ensures.sizes

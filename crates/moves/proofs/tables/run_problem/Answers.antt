@@ -1,18 +1,9 @@
 use Rattle.std.proofs.Common.{◌∙◌, sym, w64}
 use Rattle.std.proofs.lemmas.Int.{to_z-of_z}
-use Rattle.cost_store.proofs.Meaning.{pairs_meant, metric_meant, fits_still}
+use Rattle.cost_store.proofs.Meaning.{pairs_meant, metric_meant}
 use Rattle.moves.proofs.Entries.{metric_run}
 use Rattle.moves.proofs.Telling.{free_costs, made_free, refused_own, tells_bound}
 use Rattle.moves.proofs.tables.run_problem.Goals as goal
-
-pub data_energy-data-requires-clause-fits : goal.data_energy-data-requires-clause-fits
-data_energy-data-requires-clause-fits g c = λ κs lives. fits_still _ _ _ c.requires.fits c.in-Ok.ensures.sizes
-
-pub smooth_energy-smooth-requires-clause-fits : goal.smooth_energy-smooth-requires-clause-fits
-smooth_energy-smooth-requires-clause-fits g c = λ κs lives. fits_still _ _ _ c.requires.fits c.in-Ok.ensures.sizes
-
-pub label_energy-label-requires-clause-fits : goal.label_energy-label-requires-clause-fits
-label_energy-label-requires-clause-fits g c = λ κs lives. fits_still _ _ _ c.requires.fits c.in-Ok.ensures.sizes
 
 pub returns-in-Ok-clause-run : goal.returns-in-Ok-clause-run
 returns-in-Ok-clause-run g c = λ m meant.

@@ -1,4 +1,5 @@
 use Rattle.std.proofs.Common.{◌≡◌, ◌∙◌, pos, length, ap, sym, refl, arith}
+use Rattle.std.proofs.lemmas.Int.{ints}
 use Rattle.sums.specs.Sums.{sum_below}
 use Rattle.labellings.specs.Energies.{labelling}
 use Rattle.cost_store.proofs.Totals.{sum_next, end_is, small_total}
@@ -16,9 +17,16 @@ loop-site-preserved g c = record {
       ∙ ap (λ f. m.data_cost c.loop-site.site (labelling f c.loop-site.site)) c.as_slice-at.ensures.value);
 }
 
-pub returns-clause-energy : goal.returns-clause-energy
-returns-clause-energy g c = λ m meant.
-    let end : c.loop-site.site ≡ m.sites = end_is c.loop-site.site c.sites-site-end.result (length c.args.labelling.now.at) m.sites c.loop-site.auto.site-end c.loop-site-test.false
-    c.sites-site-end.ensures.value (c.requires.fits.sites ∙ sym meant.sites_are) in
-    small_total c.loop-site.total c.loop-site.site c.loop-site.invariant.small (omega (arith, c.loop-site.auto.site-end, c.sites-site-end.ensures.sizes.0))
-    ∙ ap pos (c.loop-site.invariant.so_far m meant ∙ ap (λ n. sum_below n (λ p. m.data_cost p (labelling c.args.labelling.now.at p))) end)
+pub returns : goal.returns
+returns g c =
+    let same = small_total c.loop-site.total c.loop-site.site c.loop-site.invariant.small (omega (arith, c.loop-site.auto.site-end, c.sites-site-end.ensures.sizes.0)) in
+    record {
+      energy = λ m meant.
+          let end : c.loop-site.site ≡ m.sites = end_is c.loop-site.site c.sites-site-end.result (length c.args.labelling.now.at) m.sites c.loop-site.auto.site-end c.loop-site-test.false
+          c.sites-site-end.ensures.value (c.requires.fits.sites ∙ sym meant.sites_are) in
+          same ∙ ap pos (c.loop-site.invariant.so_far m meant ∙ ap (λ n. sum_below n (λ p. m.data_cost p (labelling c.args.labelling.now.at p))) end);
+      range = (
+        omega (arith, ints, same),
+        omega (arith, ints, same, c.loop-site.invariant.small, c.loop-site.auto.site-end, c.sites-site-end.ensures.sizes.0),
+      );
+    }

@@ -1,4 +1,5 @@
 use Rattle.std.proofs.Common.{◌∙◌, pos, ap, refl, arith}
+use Rattle.std.proofs.lemmas.Int.{ints}
 use Rattle.labellings.specs.Energies.{labelling, pair_cost}
 use Rattle.cost_store.proofs.Totals.{list_next, list_all, small_pairs}
 use Rattle.cost_store.proofs.problem.Problem.smooth_energy.Goals as goal
@@ -16,8 +17,15 @@ loop-index-preserved g c = record {
       ∙ ap (λ f. pair_cost m (labelling f) c.get.result) c.as_slice-at.ensures.value);
 }
 
-pub returns-clause-energy : goal.returns-clause-energy
-returns-clause-energy g c = λ m meant.
-    small_pairs c.loop-index.total c.loop-index.index c.loop-index.invariant.small (omega (arith, c.loop-index.auto.index-end, c.len-index-end.ensures.limit))
-    ∙ ap pos (list_all (pair_cost m (labelling c.args.labelling.now.at)) c.args.self.now.pairs.list m.pairs c.loop-index.index c.loop-index.total meant.pairs_are
-    (omega (arith, c.loop-index-test.false, c.len-index-end.ensures.value)) (c.loop-index.invariant.so_far m meant))
+pub returns : goal.returns
+returns g c =
+    let same = small_pairs c.loop-index.total c.loop-index.index c.loop-index.invariant.small (omega (arith, c.loop-index.auto.index-end, c.len-index-end.ensures.limit)) in
+    record {
+      energy = λ m meant. same
+          ∙ ap pos (list_all (pair_cost m (labelling c.args.labelling.now.at)) c.args.self.now.pairs.list m.pairs c.loop-index.index c.loop-index.total meant.pairs_are
+          (omega (arith, c.loop-index-test.false, c.len-index-end.ensures.value)) (c.loop-index.invariant.so_far m meant));
+      range = (
+        omega (arith, ints, same),
+        omega (arith, ints, same, c.loop-index.invariant.small, c.loop-index.auto.index-end, c.len-index-end.ensures.limit),
+      );
+    }

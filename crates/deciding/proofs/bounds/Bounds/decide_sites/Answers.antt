@@ -82,11 +82,11 @@ sum_site-requires-clause-waiting g c = λ κs lives.
     let passes = c.in_ok-next.ensures in
     passed_waits c.loop-site.site next c.loop-site.self mid passes i.waiting
 
-pub settle_all-requires-clause-posed : goal.settle_all-requires-clause-posed
-settle_all-requires-clause-posed g c = λ κs lives. c.requires.posed
+pub decide_waiting-requires-clause-posed : goal.decide_waiting-requires-clause-posed
+decide_waiting-requires-clause-posed g c = λ κs lives. c.requires.posed
 
-pub settle_all-requires-clause-budget : goal.settle_all-requires-clause-budget
-settle_all-requires-clause-budget g c = λ κs lives.
+pub decide_waiting-requires-clause-budget : goal.decide_waiting-requires-clause-budget
+decide_waiting-requires-clause-budget g c = λ κs lives.
     let a = c.args in
     let same = ap (λ (v : _). open_ends a.step.now.ends.now (length a.step.now.at.now) v.items) c.in_ok-next.ensures.choices in
     let was = open_ends a.step.now.ends.now (length a.step.now.at.now) c.pass_closed.new.self.choices.items in
@@ -98,8 +98,8 @@ settle_all-requires-clause-budget g c = λ κs lives.
       range = range_wider (budget_of was) (budget_of now) c.sum_site.new.self (omega (arith, few)) c.in_ok-sum_site.ensures.range;
     }
 
-pub settle_all-requires-clause-waiting : goal.settle_all-requires-clause-waiting
-settle_all-requires-clause-waiting g c = λ κs lives.
+pub decide_waiting-requires-clause-waiting : goal.decide_waiting-requires-clause-waiting
+decide_waiting-requires-clause-waiting g c = λ κs lives.
     let W : ℕ → Type 0 = λ k. AreWaiting k c.sum_site.new.self in
     subst W (sym c.in_ok-sum_site.ensures.summed) c.in_ok-sum_site.ensures.waiting
 
@@ -111,8 +111,8 @@ loop-site-preserved g c =
     let i = c.loop-site.invariant in
     let passes = c.in_ok-next.ensures in
     let one = c.in_ok-sum_site.ensures in
-    let e = c.in_ok-settle_all.ensures in
-    let W : ℕ → Type 0 = λ k. AreWaiting k c.settle_all.new.self in
+    let e = c.in_ok-decide_waiting.ensures in
+    let W : ℕ → Type 0 = λ k. AreWaiting k c.decide_waiting.new.self in
     record {
       within = omega (arith, passes.within, i.budget.sized.choices, c.if-next-sites.false);
       budget = e.budget;
@@ -127,7 +127,7 @@ loop-site-preserved g c =
           omega (arith, e.total, one.total, one.left, same, before, ordered, climbs, passes.on, i.total));
       decided = λ m answers.
           let D : ℕ → Type 0 = λ k. ArePartlyDecided m a.step.now.change (labelling a.step.now.at.now) k c.sum_site.new.self in
-          let E : ℕ → Type 0 = λ k. ArePartlyDecided m a.step.now.change (labelling a.step.now.at.now) k c.settle_all.new.self in
+          let E : ℕ → Type 0 = λ k. ArePartlyDecided m a.step.now.change (labelling a.step.now.at.now) k c.decide_waiting.new.self in
           let was = passed_decides m a.step.now.change (labelling a.step.now.at.now) c.loop-site.site next c.loop-site.self mid passes (i.decided m answers) in
           subst E one.summed (e.decided m answers (subst D (sym one.summed) (one.decided m answers was)));
     }
@@ -193,19 +193,19 @@ returns-in_err-sum_site-clause-decided g c =
     let p = err_from_is_err_and c.from_residual-in_err-sum_site.result c.from_residual-in_err-sum_site.ensures.1 in
     rw (p.1) tt
 
-pub returns-in_err-settle_all-clause-sized : goal.returns-in_err-settle_all-clause-sized
-returns-in_err-settle_all-clause-sized g c =
-    let p = err_from_is_err_and c.from_residual-in_err-settle_all.result c.from_residual-in_err-settle_all.ensures.1 in
+pub returns-in_err-decide_waiting-clause-sized : goal.returns-in_err-decide_waiting-clause-sized
+returns-in_err-decide_waiting-clause-sized g c =
+    let p = err_from_is_err_and c.from_residual-in_err-decide_waiting.result c.from_residual-in_err-decide_waiting.ensures.1 in
     rw (p.1) tt
 
-pub returns-in_err-settle_all-clause-none : goal.returns-in_err-settle_all-clause-none
-returns-in_err-settle_all-clause-none g c =
-    let p = err_from_is_err_and c.from_residual-in_err-settle_all.result c.from_residual-in_err-settle_all.ensures.1 in
+pub returns-in_err-decide_waiting-clause-none : goal.returns-in_err-decide_waiting-clause-none
+returns-in_err-decide_waiting-clause-none g c =
+    let p = err_from_is_err_and c.from_residual-in_err-decide_waiting.result c.from_residual-in_err-decide_waiting.ensures.1 in
     rw (p.1) tt
 
-pub returns-in_err-settle_all-clause-decided : goal.returns-in_err-settle_all-clause-decided
-returns-in_err-settle_all-clause-decided g c =
-    let p = err_from_is_err_and c.from_residual-in_err-settle_all.result c.from_residual-in_err-settle_all.ensures.1 in
+pub returns-in_err-decide_waiting-clause-decided : goal.returns-in_err-decide_waiting-clause-decided
+returns-in_err-decide_waiting-clause-decided g c =
+    let p = err_from_is_err_and c.from_residual-in_err-decide_waiting.result c.from_residual-in_err-decide_waiting.ensures.1 in
     rw (p.1) tt
 
 pub returns-clause-sized : goal.returns-clause-sized
@@ -241,7 +241,7 @@ returns-in_err-sum_site-clause-total g c =
     let p = err_from_is_err_and c.from_residual-in_err-sum_site.result c.from_residual-in_err-sum_site.ensures.1 in
     rw (p.1) tt
 
-pub returns-in_err-settle_all-clause-total : goal.returns-in_err-settle_all-clause-total
-returns-in_err-settle_all-clause-total g c =
-    let p = err_from_is_err_and c.from_residual-in_err-settle_all.result c.from_residual-in_err-settle_all.ensures.1 in
+pub returns-in_err-decide_waiting-clause-total : goal.returns-in_err-decide_waiting-clause-total
+returns-in_err-decide_waiting-clause-total g c =
+    let p = err_from_is_err_and c.from_residual-in_err-decide_waiting.result c.from_residual-in_err-decide_waiting.ensures.1 in
     rw (p.1) tt

@@ -53,21 +53,21 @@ add_sites-requires-clause-step g c = λ κs lives. record {
   numbering = c.in_ok-count.ensures.numbering;
 }
 
-pub add_pairs-requires-clause-step : goal.add_pairs-requires-clause-step
-add_pairs-requires-clause-step g c = λ κs lives. record {
-  posed = c.requires.valued.posed;
-  asked = c.requires.valued.asked;
-  choices = ap (λ (xs : List Choice). length xs) c.number.ensures.kept ∙ c.requires.valued.count;
-  numbering = c.in_ok-count.ensures.numbering;
-}
-
 pub add_pairs-requires-clause-form : goal.add_pairs-requires-clause-form
 add_pairs-requires-clause-form g c = λ κs lives.
     let none = constant_bounded (pos 0) c.in_ok-count.count c.in_ok-form.form (omega arith) c.in_ok-form.ensures in
     let few : 0 + length c.args.at.now ≤ 1048576 = omega (arith, c.requires.valued.asked.sites, c.requires.valued.posed.pairs.sites) in
     record {
-      variables = c.add_sites.ensures.longer.nodes ∙ constant_nodes (pos 0) c.in_ok-count.count c.in_ok-form.form c.in_ok-form.ensures ∙ c.in_ok-count.ensures.count;
-      bounded = bounded-weaker (0 + length c.args.at.now) 1048576 c.add_sites.new.form few (c.add_sites.ensures.longer.bounded 0 none);
+      step_is = record {
+        posed = c.requires.valued.posed;
+        asked = c.requires.valued.asked;
+        choices = ap (λ (xs : List Choice). length xs) c.number.ensures.kept ∙ c.requires.valued.count;
+        numbering = c.in_ok-count.ensures.numbering;
+      };
+      nodes = record {
+        variables = c.add_sites.ensures.longer.nodes ∙ constant_nodes (pos 0) c.in_ok-count.count c.in_ok-form.form c.in_ok-form.ensures ∙ c.in_ok-count.ensures.count;
+        bounded = bounded-weaker (0 + length c.args.at.now) 1048576 c.add_sites.new.form few (c.add_sites.ensures.longer.bounded 0 none);
+      };
     }
 
 pub returns-clause-form : goal.returns-clause-form

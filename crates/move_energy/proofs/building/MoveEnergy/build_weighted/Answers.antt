@@ -29,22 +29,22 @@ returns-clause-built g c = λ m meant.
     (adds m meant allowed))
     c.add_surpluses.ensures.nodes c.add_surpluses.ensures.adds
 
-pub add_surpluses-requires-clause-step : goal.add_surpluses-requires-clause-step
-add_surpluses-requires-clause-step g c = λ κs lives. record {
-  posed = c.requires.valued.posed;
-  asked = c.requires.valued.asked;
-  choices = ap (λ (xs : List Choice). length xs) c.number.ensures.kept ∙ c.requires.valued.count;
-  numbering = c.in_ok-count.ensures.numbering;
-}
-
 pub add_surpluses-requires-clause-form : goal.add_surpluses-requires-clause-form
 add_surpluses-requires-clause-form g c = λ κs lives.
     let choices = c.number.new.self.choices.items in
     let size = ap (λ (xs : List Choice). length xs) c.number.ensures.kept ∙ c.requires.valued.count in
     record {
-      variables = form_nodes choices c.args.weights.now c.in_ok-form.form (length choices) refl c.in_ok-form.ensures;
-      bounded = form_bounded (open_weights choices c.args.weights.now (length choices)) c.in_ok-form.form
-          (omega (arith, open_size choices c.args.weights.now (length choices) (c.requires.weights.count ∙ sym size), c.requires.weights.size)) c.in_ok-form.ensures;
+      step_is = record {
+        posed = c.requires.valued.posed;
+        asked = c.requires.valued.asked;
+        choices = ap (λ (xs : List Choice). length xs) c.number.ensures.kept ∙ c.requires.valued.count;
+        numbering = c.in_ok-count.ensures.numbering;
+      };
+      nodes = record {
+        variables = form_nodes choices c.args.weights.now c.in_ok-form.form (length choices) refl c.in_ok-form.ensures;
+        bounded = form_bounded (open_weights choices c.args.weights.now (length choices)) c.in_ok-form.form
+            (omega (arith, open_size choices c.args.weights.now (length choices) (c.requires.weights.count ∙ sym size), c.requires.weights.size)) c.in_ok-form.ensures;
+      };
     }
 
 pub returns-clause-form : goal.returns-clause-form

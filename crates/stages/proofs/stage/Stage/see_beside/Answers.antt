@@ -17,14 +17,14 @@ loop-index-preserved c =
     let i = c.loop-index.index in
     let within : i < length now.taking.items = omega (arith, c.if-index-len.false, c.len.ensures, now.taking.ok.0) in
     let read : c.index-site.result.now ≡ get_or new.taking.items i 0 = read_at now.taking.items i c.index-site.result.now 0 within c.index-site.ensures ∙ sym (e.wider.same i within) in
-    let P : ℕ → Type 0 = λ p. AreSeenAround a.pairs.now a.ends.now a.choices.now a.bits.now p new in
-    let Q : ℕ → Type 0 = λ p. AreSeenAround a.pairs.now a.ends.now a.choices.now a.bits.now p now in
+    let P : ℕ → Type 0 = λ p. AreSeenAround a.pairs.now a.ends.now a.cut.now.choices.now a.cut.now.bits.now p new in
+    let Q : ℕ → Type 0 = λ p. AreSeenAround a.pairs.now a.ends.now a.cut.now.choices.now a.cut.now.bits.now p now in
     record {
       shown = e.shown;
       wider = wider_then a.self.now now new invariant.wider e.wider;
       within = omega (arith, within, e.wider.more);
       seen = below_more (λ k. P (get_or new.taking.items k 0)) i
-          (λ k l. around_wider a.pairs.now a.ends.now a.choices.now a.bits.now (get_or new.taking.items k 0) now new e.wider
+          (λ k l. around_wider a.pairs.now a.ends.now a.cut.now.choices.now a.cut.now.bits.now (get_or new.taking.items k 0) now new e.wider
           (subst Q (sym (e.wider.same k (omega (arith, l, within)))) (invariant.seen k l)))
           (subst P read e.seen);
       fresh = same.0 ∙ invariant.fresh;
@@ -36,13 +36,13 @@ pub returns-then-index-len-clause-seen : goal.returns-then-index-len-clause-seen
 returns-then-index-len-clause-seen c = λ yes.
     let a = c.args in
     let now = c.loop-index.self in
-    All-from_get_or (λ p. AreSeenAround a.pairs.now a.ends.now a.choices.now a.bits.now p now) now.taking.items 0
+    All-from_get_or (λ p. AreSeenAround a.pairs.now a.ends.now a.cut.now.choices.now a.cut.now.bits.now p now) now.taking.items 0
     (λ k l. c.loop-index.invariant.seen k (omega (arith, l, c.if-index-len.true, c.len.ensures, now.taking.ok.0)))
 
 pub returns-clause-seen : goal.returns-clause-seen
 returns-clause-seen c = λ yes.
     let a = c.args in
     let now = c.loop-index.self in
-    let most = leb-true c.len-2.result (length a.choices.now) yes in
-    All-from_get_or (λ p. AreSeenAround a.pairs.now a.ends.now a.choices.now a.bits.now p now) now.taking.items 0
+    let most = leb-true c.len-2.result (length a.cut.now.choices.now) yes in
+    All-from_get_or (λ p. AreSeenAround a.pairs.now a.ends.now a.cut.now.choices.now a.cut.now.bits.now p now) now.taking.items 0
     (λ k l. c.loop-index.invariant.seen k (omega (arith, l, most, c.len-2.ensures, now.taking.ok.0, c.loop-index-test.false, c.loop-index.auto)))

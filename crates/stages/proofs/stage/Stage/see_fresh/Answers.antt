@@ -17,11 +17,11 @@ loop-index-preserved c =
     let within : c.loop-index.index < length now.fresh_sites.items = omega (arith, c.loop-index-test.true, c.len-index-end.ensures, ap (λ (v : _). length v.items) invariant.fresh_sites) in
     let read : c.index-site.result.now ≡ get_or sites c.loop-index.index 0 =
     read_at now.fresh_sites.items c.loop-index.index c.index-site.result.now 0 within c.index-site.ensures ∙ ap (λ (v : _). get_or v.items c.loop-index.index 0) invariant.fresh_sites in
-    let P : ℕ → Type 0 = λ p. IsSiteSeen a.choices.now a.bits.now p new in
+    let P : ℕ → Type 0 = λ p. IsSiteSeen a.cut.now.choices.now a.cut.now.bits.now p new in
     record {
       shown = e.shown;
       seen = below_more (λ k. P (get_or sites k 0)) c.loop-index.index
-          (λ k l. seen_wider a.choices.now a.bits.now (get_or sites k 0) now new e.wider (invariant.seen k l))
+          (λ k l. seen_wider a.cut.now.choices.now a.cut.now.bits.now (get_or sites k 0) now new e.wider (invariant.seen k l))
           (subst P read e.seen);
       fresh = same.0 ∙ invariant.fresh;
       fresh_sites = same.1 ∙ invariant.fresh_sites;
@@ -31,5 +31,5 @@ loop-index-preserved c =
 pub returns-clause-seen : goal.returns-clause-seen
 returns-clause-seen c =
     let a = c.args in
-    All-from_get_or (λ p. IsSiteSeen a.choices.now a.bits.now p c.loop-index.self) a.self.now.fresh_sites.items 0
+    All-from_get_or (λ p. IsSiteSeen a.cut.now.choices.now a.cut.now.bits.now p c.loop-index.self) a.self.now.fresh_sites.items 0
     (λ k l. c.loop-index.invariant.seen k (omega (arith, l, c.loop-index-test.false, c.len-index-end.ensures)))

@@ -2,7 +2,7 @@ use Rattle.std.proofs.Common.{◌∙◌, ap, arith}
 use Rattle.deciding.specs.Working.{least_shift, greatest_shift}
 use Rattle.deciding.proofs.Numbers.{passed_on, passed_range}
 use Rattle.deciding.proofs.Ranges.{raised_shifts, raised_range, raised_total}
-use Rattle.deciding.proofs.bounds.Bounds.turn.Goals as goal
+use Rattle.deciding.proofs.bounds.Bounds.shift_bounds.Goals as goal
 
 pub returns-clause-shifts : goal.returns-clause-shifts
 returns-clause-shifts c =

@@ -3,10 +3,10 @@ use Rattle.cost_store.specs.Posed.{IsMeant}
 use Rattle.labellings.specs.Energies.{Instance, labelling}
 use Rattle.deciding.specs.Finding.{IsInBudget, ends_left, total_left}
 use Rattle.deciding.specs.Working.{AreWaiting, ArePartlyDecided}
-use Rattle.deciding.proofs.bounds.Bounds.settle_all.Given as goal
+use Rattle.deciding.proofs.bounds.Bounds.decide_waiting.Given as goal
 
-abbrev pub invariant-settling : goal.invariant-settling
-invariant-settling g l = record {
+abbrev pub invariant-deciding : goal.invariant-deciding
+invariant-deciding g l = record {
   budget : IsInBudget l.step l.self;
   same : length l.self.least.items ≡ length l.fn.self.least.items;
   waiting : AreWaiting (length l.fn.self.least.items) l.self;
@@ -16,5 +16,5 @@ invariant-settling g l = record {
       → ArePartlyDecided m l.step.change (labelling l.step.at.now) (length l.fn.self.least.items) l.self;
 }
 
-abbrev pub decreases-settling : goal.decreases-settling
-decreases-settling g l = length l.self.waiting.items + ends_left l.step l.self
+abbrev pub decreases-deciding : goal.decreases-deciding
+decreases-deciding g l = length l.self.waiting.items + ends_left l.step l.self

@@ -1,6 +1,6 @@
 use Rattle.std.proofs.Common.{refl, arith}
 use Rattle.move_energy.proofs.Opened.{opened_count, opened_has, values_more, values_all}
-use Rattle.stages.proofs.opening.settle.Goals as goal
+use Rattle.stages.proofs.opening.assign.Goals as goal
 
 pub bounds-bits-index : goal.bounds-bits-index
 bounds-bits-index c =

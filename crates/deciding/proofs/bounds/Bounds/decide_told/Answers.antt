@@ -4,7 +4,7 @@ use Rattle.std.proofs.lemmas.Result.{on_ok_weaker}
 use Rattle.move_energy.specs.BySite.{degree}
 use Rattle.deciding.specs.Working.{IsSummed, IsWithinRange, open_ends}
 use Rattle.deciding.proofs.Places.{on_ok_two, room_grows}
-use Rattle.deciding.proofs.bounds.Bounds.settle.Goals as goal
+use Rattle.deciding.proofs.bounds.Bounds.decide_told.Goals as goal
 
 pub returns-clause-budget : goal.returns-clause-budget
 returns-clause-budget g c =
