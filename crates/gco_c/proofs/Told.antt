@@ -4,19 +4,20 @@ use Rattle.labellings.specs.declared.change.Move.{Move}
 use Rattle.labellings.specs.declared.cycles.Moves.{Moves}
 use Rattle.moves.specs.Runs.{AnswersRun}
 use Rattle.moves.specs.declared.tables.Run.{Run}
-use Rattle.gco_c.specs.Calls.{CallArrays, IsMoveTold, IsRunTold, instance_given, moves_number}
+use Rattle.gco_c.specs.Calls.{CallArrays, IsGiven, IsMoveTold, IsRunTold, instance_given, moves_number}
 use Rattle.gco_c.specs.Moved.{IsMovedTo}
 use Rattle.gco_c.specs.Outcomes.{move_told, outcome_of_parts, run_told}
 use Rattle.gco_c.specs.declared.moving.Moved.{Moved}
 use Rattle.gco_c.specs.declared.outcome.GcoOutcome.{GcoOutcome}
 
 pub run_is_told : (a : CallArrays) (number cycles : ℕ) (labels : List ℕ) (told : GcoOutcome) (moves : Moves) (run : Run)
-    → number ≡ moves_number moves → AnswersRun (instance_given a) moves cycles a.start (Ok run) → labels ≡ run.labelling.at
+    → IsGiven a → number ≡ moves_number moves → AnswersRun (instance_given a) moves cycles a.start (Ok run) → labels ≡ run.labelling.at
     → told ≡ run_told (outcome_of_parts run.«data» run.smooth run.label) run.ended.cycles run.ended.settled run.bound
     → IsRunTold a number cycles labels told
-run_is_told a number cycles labels told moves run numbered answer same is =
+run_is_told a number cycles labels told moves run given numbered answer same is =
     let P : List ℕ → Type 0 = λ xs. IsRunTold a number cycles xs told in
     subst P (sym same) (record {
+      given = given;
       moves = moves;
       numbered = numbered;
       made = run.ended.cycles;
@@ -29,11 +30,12 @@ run_is_told a number cycles labels told moves run numbered answer same is =
     })
 
 pub move_is_told : (a : CallArrays) (move : Move) (labels : List ℕ) (told : GcoOutcome) (moved : Moved)
-    → IsMovedTo (instance_given a) move a.start (Ok moved) → labels ≡ moved.labelling.at
+    → IsGiven a → IsMovedTo (instance_given a) move a.start (Ok moved) → labels ≡ moved.labelling.at
     → told ≡ move_told (outcome_of_parts moved.«data» moved.smooth moved.label) moved.changed → IsMoveTold a move labels told
-move_is_told a move labels told moved answer same is =
+move_is_told a move labels told moved given answer same is =
     let P : List ℕ → Type 0 = λ xs. IsMoveTold a move xs told in
     subst P (sym same) (record {
+      given = given;
       changed = moved.changed;
       moved = answer.0;
       told_is = is ∙ (λ i. move_told (outcome_of_parts (answer.1 i) (answer.2 i) (answer.3 i)) moved.changed);

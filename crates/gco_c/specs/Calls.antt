@@ -105,10 +105,12 @@ abbrev pub moves_number : Moves → ℕ
 moves_number Expansion = 0
 moves_number Swap = 1
 
--- the run from the start ended at the labels, and the outcome tells its cycles, whether it settled,
--- the three parts of the energy there, its bound, where it has one, and nothing else
+-- what was given is in order, the run from the start ended at the labels, and the outcome tells its
+-- cycles, whether it settled, the three parts of the energy there, its bound, where it has one, and
+-- nothing else
 pub record IsRunTold (a : CallArrays) (number cycles : ℕ) (labels : List ℕ)
     (told : GcoOutcome) : Type 0 where
+  pub given : IsGiven a
   pub moves : Moves
   pub numbered : number ≡ moves_number moves
   pub made : ℕ
@@ -120,10 +122,11 @@ pub record IsRunTold (a : CallArrays) (number cycles : ℕ) (labels : List ℕ)
   pub may : MayMake (instance_given a) moves
   pub told_is : told ≡ run_told (energy_told (instance_given a) labels) made settled bound
 
--- one move from the start reached the labels, and the outcome tells whether they are others, the
--- three parts of the energy there, and nothing else
+-- what was given is in order, one move from the start reached the labels, and the outcome tells
+-- whether they are others, the three parts of the energy there, and nothing else
 pub record IsMoveTold (a : CallArrays) (move : Move) (labels : List ℕ)
     (told : GcoOutcome) : Type 0 where
+  pub given : IsGiven a
   pub changed : Bool
   pub moved : IsMoved (instance_given a) move a.start labels (Ok changed)
   pub told_is : told ≡ move_told (energy_told (instance_given a) labels) changed

@@ -18,7 +18,7 @@ use Rattle.solvers.specs.declared.solve_error.SolveError.TheVariants.{OutOfMemor
 use Rattle.moves.specs.declared.error.MoveError.{MoveError}
 use Rattle.moves.specs.declared.error.MoveError.TheVariants as move_why
 use Rattle.labellings.specs.declared.cycles.Moves.{Moves}
-use Rattle.gco_c.specs.Calls.{CallArrays, AreLong, AreTables, IsGiven, IsMoveTold, IsRunTold}
+use Rattle.gco_c.specs.Calls.{CallArrays, AreLong, AreTables, IsGiven}
 use Rattle.gco_c.specs.Calls.{instance_given, list_given, moves_number}
 use Rattle.gco_c.specs.Outcomes.{refusal_told}
 use Rattle.gco_c.specs.Statuses.{status_of}
@@ -135,20 +135,3 @@ pub record IsMoveRefusalTold (a : CallArrays) (move : Move) (status : ℕ)
   pub refusal : Refusal
   pub is_told : IsTold refusal status told
   pub cause : IsMoveCause a move refusal
-
--- what a call answers that makes a run: status 0 and the run, of arrays that are in order; else a
--- refusal, and the labels as they were
-pub record AnswersRunCall (a : CallArrays) (number cycles status : ℕ) (labels : List ℕ)
-    (told : GcoOutcome) : Type 0 where
-  pub given : status ≡ 0 → IsGiven a
-  pub ran : status ≡ 0 → IsRunTold a number cycles labels told
-  pub unchanged : status ≢ 0 → labels ≡ a.start
-  pub refused : status ≢ 0 → IsRefusalTold a number cycles status told
-
--- what a call answers that makes one move
-pub record AnswersMoveCall (a : CallArrays) (move : Move) (status : ℕ) (labels : List ℕ)
-    (told : GcoOutcome) : Type 0 where
-  pub given : status ≡ 0 → IsGiven a
-  pub moved : status ≡ 0 → IsMoveTold a move labels told
-  pub unchanged : status ≢ 0 → labels ≡ a.start
-  pub refused : status ≢ 0 → IsMoveRefusalTold a move status told

@@ -1,9 +1,9 @@
 //! Runs of moves for C.
 ghost use Rattle.std.specs.Prelude.{◌≡◌, ◌≢◌, length, IfSome, IfOk, IfErr, None, Ok};
 ghost use Rattle.moves.specs.Runs.{AnswersRun};
-ghost use Rattle.gco_c.specs.Calls.{IsGiven, arrays_with, call_arrays, instance_given};
+ghost use Rattle.gco_c.specs.Calls.{IsGiven, IsRunTold, arrays_with, call_arrays, instance_given};
 ghost use Rattle.gco_c.specs.Calls.{moves_number};
-ghost use Rattle.gco_c.specs.Refusals.{AnswersRunCall, IsLabelRefusal};
+ghost use Rattle.gco_c.specs.Refusals.{IsLabelRefusal, IsRefusalTold};
 
 use crate::cost::{Number, wide_copy};
 use crate::outcome::{GcoOutcome, refuse, tell_run};
@@ -31,9 +31,13 @@ pub extern "C" fn gco_label(
     labels: &mut [u32],
     outcome: &mut GcoOutcome,
 ) -> u32
-    ensures { AnswersRunCall
+    ensures ran { result ≡ 0 → IsRunTold
         (call_arrays label_count data.now smooth.now label_costs.now pairs.now labels.old)
-        moves cycles result labels.new outcome.new }
+        moves cycles labels.new outcome.new }
+    ensures unchanged { result ≢ 0 → labels.new ≡ labels.old }
+    ensures refused { result ≢ 0 → IsRefusalTold
+        (call_arrays label_count data.now smooth.now label_costs.now pairs.now labels.old)
+        moves cycles result outcome.new }
 {
     let given = Arrays {
         label_count,
@@ -59,9 +63,13 @@ pub extern "C" fn gco_label_int32(
     labels: &mut [u32],
     outcome: &mut GcoOutcome,
 ) -> u32
-    ensures { AnswersRunCall
+    ensures ran { result ≡ 0 → IsRunTold
         (call_arrays label_count data.now smooth.now label_costs.now pairs.now labels.old)
-        moves cycles result labels.new outcome.new }
+        moves cycles labels.new outcome.new }
+    ensures unchanged { result ≢ 0 → labels.new ≡ labels.old }
+    ensures refused { result ≢ 0 → IsRefusalTold
+        (call_arrays label_count data.now smooth.now label_costs.now pairs.now labels.old)
+        moves cycles result outcome.new }
 {
     let given = Arrays {
         label_count,
@@ -82,8 +90,11 @@ fn label_over<N: Number>(
     labels: &mut [u32],
     outcome: &mut GcoOutcome,
 ) -> u32
-    ensures { AnswersRunCall (arrays_with N.value given.now labels.old)
-        moves cycles result labels.new outcome.new }
+    ensures ran { result ≡ 0 → IsRunTold (arrays_with N.value given.now labels.old)
+        moves cycles labels.new outcome.new }
+    ensures unchanged { result ≢ 0 → labels.new ≡ labels.old }
+    ensures refused { result ≢ 0 → IsRefusalTold (arrays_with N.value given.now labels.old)
+        moves cycles result outcome.new }
 {
     let Some(kind) = moves_of(moves) else {
         return refuse(outcome, Refusal::NoSuchMoves);

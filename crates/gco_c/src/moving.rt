@@ -1,5 +1,5 @@
 //! Single moves for C.
-ghost use Rattle.std.specs.Prelude.{◌≡◌, ◌+◌, ◌*◌, ◌<◌, ◌≤◌, All, Ok, IfOk, IfErr, length};
+ghost use Rattle.std.specs.Prelude.{◌≡◌, ◌≢◌, ◌+◌, ◌*◌, ◌<◌, ◌≤◌, All, Ok, IfOk, IfErr, length};
 ghost use Rattle.std.specs.Prelude.{map};
 ghost use Rattle.cost_store.specs.Limits.{data_limit, smooth_limit};
 ghost use Rattle.cost_store.specs.Promises.{IsCost, cost_in, entry_at};
@@ -9,10 +9,10 @@ ghost use Rattle.moves.specs.Instances.{instance_of};
 ghost use Rattle.cost_store.specs.Posed.{IsPosed, WhereMeant, FitsProblem, AreOfOneSize};
 ghost use Rattle.cost_store.specs.LabelCosts.{AreLabelCosts, costs_of};
 ghost use Rattle.moves.specs.Problems.{IsMoved};
-ghost use Rattle.gco_c.specs.Calls.{IsGiven, arrays_with, call_arrays, instance_given};
+ghost use Rattle.gco_c.specs.Calls.{IsGiven, IsMoveTold, arrays_with, call_arrays, instance_given};
 ghost use Rattle.gco_c.specs.Moved.{IsMovedTo};
 ghost use Rattle.gco_c.specs.Outcomes.{move_told, outcome_of_parts};
-ghost use Rattle.gco_c.specs.Refusals.{AnswersMoveCall, IsMoveCause};
+ghost use Rattle.gco_c.specs.Refusals.{IsMoveCause, IsMoveRefusalTold};
 
 use crate::cost::Number;
 use crate::label::copy_labels;
@@ -51,9 +51,13 @@ pub extern "C" fn gco_expand(
     labels: &mut [u32],
     outcome: &mut GcoOutcome,
 ) -> u32
-    ensures { AnswersMoveCall
+    ensures moved { result ≡ 0 → IsMoveTold
         (call_arrays label_count data.now smooth.now label_costs.now pairs.now labels.old)
-        (Expand alpha) result labels.new outcome.new }
+        (Expand alpha) labels.new outcome.new }
+    ensures unchanged { result ≢ 0 → labels.new ≡ labels.old }
+    ensures refused { result ≢ 0 → IsMoveRefusalTold
+        (call_arrays label_count data.now smooth.now label_costs.now pairs.now labels.old)
+        (Expand alpha) result outcome.new }
 {
     let given = Arrays {
         label_count,
@@ -81,9 +85,13 @@ pub extern "C" fn gco_swap(
     labels: &mut [u32],
     outcome: &mut GcoOutcome,
 ) -> u32
-    ensures { AnswersMoveCall
+    ensures moved { result ≡ 0 → IsMoveTold
         (call_arrays label_count data.now smooth.now label_costs.now pairs.now labels.old)
-        (Swap alpha beta) result labels.new outcome.new }
+        (Swap alpha beta) labels.new outcome.new }
+    ensures unchanged { result ≢ 0 → labels.new ≡ labels.old }
+    ensures refused { result ≢ 0 → IsMoveRefusalTold
+        (call_arrays label_count data.now smooth.now label_costs.now pairs.now labels.old)
+        (Swap alpha beta) result outcome.new }
 {
     let given = Arrays {
         label_count,
@@ -103,8 +111,11 @@ fn make<N: Number>(
     labels: &mut [u32],
     outcome: &mut GcoOutcome,
 ) -> u32
-    ensures { AnswersMoveCall (arrays_with N.value given.now labels.old)
-        change result labels.new outcome.new }
+    ensures moved { result ≡ 0 → IsMoveTold (arrays_with N.value given.now labels.old)
+        change labels.new outcome.new }
+    ensures unchanged { result ≢ 0 → labels.new ≡ labels.old }
+    ensures refused { result ≢ 0 → IsMoveRefusalTold (arrays_with N.value given.now labels.old)
+        change result outcome.new }
 {
     match move_call(alloc, given, change, labels) {
         Ok(moved) => {

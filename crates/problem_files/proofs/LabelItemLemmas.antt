@@ -14,7 +14,7 @@ use Rattle.problem_files.specs.PairFields.{pair_at, pairs_from, pairs_in}
 use Rattle.problem_files.specs.declared.label_fault.LabelKey.TheVariants.{Pairs}
 use Rattle.problem_files.specs.declared.label_fault.LabelFault.{LabelFault}
 use Rattle.problem_files.specs.declared.label_fault.LabelFault.TheVariants.{TooManyPairs}
-use Rattle.problem_files.proofs.Listed.{length_viewed, listed}
+use Rattle.problem_files.proofs.Listed.{items, length_viewed}
 
 -- the pairs that are in the list, and those that the items from place i on name
 abbrev pub with_rest : List Pair → Result (List Pair) LabelFault → Result (List Pair) LabelFault
@@ -60,11 +60,11 @@ pub pairs_found : (n : ℕ) (ms : Members) (d : Data) (vs : List Value) → Some
 unfolding pairs_in
 pairs_found n ms d vs at is few =
     let test : nat_le (length (map view vs)) pair_limit ≡ true = rw (length_viewed vs) (grind (arith, nat_tests)) in
-    rw (← at, ← is, listed vs, test) refl
+    rw (← at, ← is, items vs, test) refl
 
 pub too_many_pairs : (n : ℕ) (ms : Members) (d : Data) (vs : List Value) → Some d ≡ get_member (field_name Pairs) ms → Some (items_view vs) ≡ as_array d
     → pair_limit < length vs → pairs_in ms n ≡ Err TooManyPairs
 unfolding pairs_in
 too_many_pairs n ms d vs at is many =
     let test : nat_le (length (map view vs)) pair_limit ≡ false = rw (length_viewed vs) (grind (arith, nat_tests)) in
-    rw (← at, ← is, listed vs, test) refl
+    rw (← at, ← is, items vs, test) refl

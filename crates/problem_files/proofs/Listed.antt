@@ -12,8 +12,8 @@ back : (ds : List Data) → list_of (items_of ds) ≡ ds
 back [] = refl
 back (d ∷ ds) = ap (λ es. d ∷ es) (back ds)
 
-pub listed : (vs : List Value) → list_of (items_view vs) ≡ map view vs
-listed vs = back (map view vs)
+pub items : (vs : List Value) → list_of (items_view vs) ≡ map view vs
+items vs = back (map view vs)
 
 pub length_viewed : (vs : List Value) → length (map view vs) ≡ length vs
 length_viewed [] = refl

@@ -1,5 +1,5 @@
 -- The keys of a problem file, and the faults of its fields.
-use Rattle.std.specs.Prelude.{ℕ, List, Option, Some, None, Result, Ok, Err, codes}
+use Rattle.std.specs.Prelude.{◌≡◌, ◌≢◌, ℕ, List, Option, Some, None, Result, Ok, Err, codes}
 use Rattle.problem_files.specs.declared.label_fault.LabelKey.{LabelKey}
 use Rattle.problem_files.specs.declared.label_fault.LabelKey.TheVariants.{Sites, Labels, Data}
 use Rattle.problem_files.specs.declared.label_fault.LabelKey.TheVariants.{Smooth, Trunc, Pairs}
@@ -7,6 +7,7 @@ use Rattle.problem_files.specs.declared.label_fault.LabelKey.TheVariants.{Start,
 use Rattle.problem_files.specs.declared.label_fault.LabelKey.TheVariants.{LabelCosts}
 use Rattle.problem_files.specs.declared.label_fault.LabelFault.{LabelFault}
 use Rattle.problem_files.specs.declared.label_fault.LabelFault.TheVariants.{CostRange, NoSuchLabel}
+use Rattle.problem_files.specs.declared.label_fault.LabelFault.TheVariants.{OutOfMemory}
 
 abbrev pub field_name : LabelKey → List ℕ
 field_name Sites = codes "sites"
@@ -36,3 +37,7 @@ abbrev pub unless : {A : Type 0} → Option ℕ → (ℕ → LabelFault) → Res
     → Result A LabelFault
 unless (Some i) fault answer = Err (fault i)
 unless None fault answer = answer
+
+-- the fault is the one that was found first, unless memory was refused
+abbrev pub IsFirstFault : {A : Type 0} → Result A LabelFault → LabelFault → Type 0
+IsFirstFault found fault = fault ≢ OutOfMemory → found ≡ Err fault

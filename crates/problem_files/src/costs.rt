@@ -1,7 +1,7 @@
 //! The lists of costs in a labelling problem.
-ghost use Rattle.std.specs.Prelude.{◌≡◌, ◌≢◌, IfOk, IfErr};
+ghost use Rattle.std.specs.Prelude.{◌≡◌, IfOk, IfErr};
 ghost use Rattle.toml.specs.View.{table_view, view};
-ghost use Rattle.problem_files.specs.declared.label_fault.LabelFault.TheVariants.{OutOfMemory};
+ghost use Rattle.problem_files.specs.LabelFieldNames.{IsFirstFault};
 ghost use Rattle.problem_files.specs.LabelCostFields.{costs_told, label_costs_from, label_costs_in};
 ghost use Rattle.problem_files.specs.ListFields.{data_from, data_in};
 
@@ -16,8 +16,7 @@ use toml::{Table, Value};
 #[tactic(auto, unfolding(crate::specs::ListFields::data_in))]
 pub(crate) fn data_in(alloc: Global, table: &Table, count: usize) -> Result<Vec<u32>, LabelFault>
     ensures ok { IfOk result (λ costs. data_in (table_view table.now) count ≡ Ok costs.items) }
-    ensures refused { IfErr result (λ fault. fault ≢ OutOfMemory →
-        data_in (table_view table.now) count ≡ Err fault) }
+    ensures refused { IfErr result (IsFirstFault (data_in (table_view table.now) count)) }
 {
     match value_of(table, LabelKey::Data) {
         Some(value) => data_from(alloc, value, count),
@@ -28,8 +27,7 @@ pub(crate) fn data_in(alloc: Global, table: &Table, count: usize) -> Result<Vec<
 #[tactic(auto, unfolding(crate::specs::ListFields::data_from))]
 fn data_from(alloc: Global, value: &Value, count: usize) -> Result<Vec<u32>, LabelFault>
     ensures ok { IfOk result (λ costs. data_from count (view value.now) ≡ Ok costs.items) }
-    ensures refused { IfErr result (λ fault. fault ≢ OutOfMemory →
-        data_from count (view value.now) ≡ Err fault) }
+    ensures refused { IfErr result (IsFirstFault (data_from count (view value.now))) }
 {
     let items = list_from(value, LabelKey::Data, count, DATA_LIMIT)?;
     match numbers_of(alloc, items) {
@@ -47,8 +45,7 @@ pub(crate) fn label_costs_in(
 ) -> Result<Option<Vec<i64>>, LabelFault>
     ensures ok { IfOk result (λ costs.
         label_costs_in (table_view table.now) labels ≡ Ok (costs_told costs)) }
-    ensures refused { IfErr result (λ fault. fault ≢ OutOfMemory →
-        label_costs_in (table_view table.now) labels ≡ Err fault) }
+    ensures refused { IfErr result (IsFirstFault (label_costs_in (table_view table.now) labels)) }
 {
     match value_of(table, LabelKey::LabelCosts) {
         Some(value) => label_costs_from(alloc, value, labels),
@@ -64,8 +61,7 @@ fn label_costs_from(
 ) -> Result<Option<Vec<i64>>, LabelFault>
     ensures ok { IfOk result (λ costs.
         label_costs_from labels (view value.now) ≡ Ok (costs_told costs)) }
-    ensures refused { IfErr result (λ fault. fault ≢ OutOfMemory →
-        label_costs_from labels (view value.now) ≡ Err fault) }
+    ensures refused { IfErr result (IsFirstFault (label_costs_from labels (view value.now))) }
 {
     let items = list_from(
         value,

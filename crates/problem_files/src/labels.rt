@@ -2,6 +2,7 @@
 ghost use Rattle.std.specs.Prelude.{◌≡◌, ◌≢◌, IfOk, IfErr, IsUtf8};
 ghost use Rattle.toml.specs.View.{table_view};
 ghost use Rattle.label_field.specs.LabelFields.{AreSizes};
+ghost use Rattle.problem_files.specs.LabelFieldNames.{IsFirstFault};
 ghost use Rattle.problem_files.specs.declared.label_fault.LabelFault.TheVariants.{BadToml};
 ghost use Rattle.problem_files.specs.declared.label_fault.LabelFault.TheVariants.{OutOfMemory};
 ghost use Rattle.problem_files.specs.Limits.{AreCostsInLimits, IsInLimits};
@@ -79,8 +80,8 @@ fn rest_of(
         names_rest (table_view table.now) sites labels data.items smooth.items
         ≡ Ok (problem_view problem)) }
     ensures limits { IfOk result (λ problem. IsInLimits (problem_view problem)) }
-    ensures refused { IfErr result (λ fault. fault ≢ OutOfMemory →
-        names_rest (table_view table.now) sites labels data.items smooth.items ≡ Err fault) }
+    ensures refused { IfErr result
+        (IsFirstFault (names_rest (table_view table.now) sites labels data.items smooth.items)) }
 {
     let pairs = pairs_in(alloc, table, sites)?;
     let start = start_in(alloc, table, sites, labels)?;

@@ -10,7 +10,7 @@ use std::alloc::{AllocError, Global};
 use toml::Value;
 
 /// The list of numbers that a field's value is: so many, each from 0 to the most.
-#[tactic(auto, using(crate::proofs::Listed::listed), unfolding(crate::specs::ListFields::list_from))]
+#[tactic(auto, using(crate::proofs::Listed::items), unfolding(crate::specs::ListFields::list_from))]
 pub(crate) fn list_from<'a>(
     value: &'a Value,
     field: LabelKey,
@@ -33,7 +33,7 @@ pub(crate) fn list_from<'a>(
 
 /// Refuses a list of another length, then one with an element that is no integer, then one with an
 /// element that is out of range.
-#[tactic(auto, using(crate::proofs::Listed::length_viewed, crate::proofs::Listed::all_in_range), unfolding(crate::specs::ListFields::integers_or_fault))]
+#[tactic(auto, unfolding(crate::specs::ListFields::integers_or_fault))]
 fn check(items: &Vec<Value>, field: LabelKey, count: usize, most: u32) -> Result<(), LabelFault>
     ensures ok { IfOk result (λ _.
         integers_or_fault field count most (map view items.now.items)

@@ -1,9 +1,9 @@
 //! The pairs of a labelling problem.
-ghost use Rattle.std.specs.Prelude.{◌≡◌, ◌≢◌, ◌<◌, ◌≤◌, ℕ, pos, false, [], length, vec_len, map};
+ghost use Rattle.std.specs.Prelude.{◌≡◌, ◌<◌, ◌≤◌, ℕ, pos, false, [], length, vec_len, map};
 ghost use Rattle.std.specs.Prelude.{IfOk, IfErr, IfSome, OnOk, Ok, None};
 ghost use Rattle.toml.specs.View.{table_view, view};
 ghost use Rattle.label_field.specs.Limits.{pair_limit, site_limit};
-ghost use Rattle.problem_files.specs.declared.label_fault.LabelFault.TheVariants.{OutOfMemory};
+ghost use Rattle.problem_files.specs.LabelFieldNames.{IsFirstFault};
 ghost use Rattle.problem_files.specs.Gains.{Gains, refusal_of};
 ghost use Rattle.problem_files.specs.PairFields.{is_site, pair_at, pair_with, pairs_from, pairs_in};
 
@@ -19,8 +19,7 @@ use toml::{Table, Value};
 pub(crate) fn pairs_in(alloc: Global, table: &Table, sites: u32) -> Result<Pairs, LabelFault>
     requires { sites ≤ site_limit }
     ensures ok { IfOk result (λ pairs. pairs_in (table_view table.now) sites ≡ Ok pairs.list) }
-    ensures refused { IfErr result (λ fault. fault ≢ OutOfMemory →
-        pairs_in (table_view table.now) sites ≡ Err fault) }
+    ensures refused { IfErr result (IsFirstFault (pairs_in (table_view table.now) sites)) }
     ensures sites { IfOk result (λ pairs. pairs.sites ≡ sites) }
 {
     let mut pairs = Pairs::new(alloc, sites);
@@ -46,8 +45,8 @@ fn add_items(pairs: &mut Pairs, items: &Vec<Value>) -> Result<(), LabelFault>
     requires room { vec_len items.now ≤ pair_limit }
     ensures ok { OnOk result (pairs_from pairs.old.sites 0 (map view items.now.items)
         ≡ Ok pairs.new.list) }
-    ensures refused { IfErr result (λ fault. fault ≢ OutOfMemory →
-        pairs_from pairs.old.sites 0 (map view items.now.items) ≡ Err fault) }
+    ensures refused { IfErr result
+        (IsFirstFault (pairs_from pairs.old.sites 0 (map view items.now.items))) }
     ensures sites { pairs.new.sites ≡ pairs.old.sites }
 {
     for (place, item) in items.iter().enumerate() {
@@ -63,8 +62,7 @@ fn add_item(pairs: &mut Pairs, place: usize, item: &Value) -> Result<(), LabelFa
     requires room { length pairs.old.list < pair_limit }
     ensures ok { OnOk result (Gains pairs.old pairs.new
         (pair_at pairs.old.sites place (view item.now))) }
-    ensures refused { IfErr result (λ fault. fault ≢ OutOfMemory →
-        pair_at pairs.old.sites place (view item.now) ≡ Err fault) }
+    ensures refused { IfErr result (IsFirstFault (pair_at pairs.old.sites place (view item.now))) }
     ensures sites { pairs.new.sites ≡ pairs.old.sites }
 {
     let shape = LabelFault::BadElement(LabelKey::Pairs, place);
@@ -93,8 +91,8 @@ fn add(
     requires room { length pairs.old.list < pair_limit }
     ensures ok { OnOk result (Gains pairs.old pairs.new
         (pair_with pairs.old.sites place first second weight)) }
-    ensures refused { IfErr result (λ fault. fault ≢ OutOfMemory →
-        pair_with pairs.old.sites place first second weight ≡ Err fault) }
+    ensures refused { IfErr result
+        (IsFirstFault (pair_with pairs.old.sites place first second weight)) }
     ensures sites { pairs.new.sites ≡ pairs.old.sites }
 {
     let Some(first) = site_of(first) else {

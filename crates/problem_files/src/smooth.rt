@@ -1,7 +1,7 @@
 //! The smooth costs that a problem names, as a table.
-ghost use Rattle.std.specs.Prelude.{◌≡◌, ◌≢◌, ◌≤◌, IfOk, IfErr};
+ghost use Rattle.std.specs.Prelude.{◌≡◌, ◌≤◌, IfOk, IfErr};
 ghost use Rattle.toml.specs.View.{table_view, view};
-ghost use Rattle.problem_files.specs.declared.label_fault.LabelFault.TheVariants.{OutOfMemory};
+ghost use Rattle.problem_files.specs.LabelFieldNames.{IsFirstFault};
 ghost use Rattle.label_field.specs.Limits.{label_limit};
 ghost use Rattle.problem_files.specs.SmoothFields.{listed_from, smooth_from, smooth_in};
 ghost use Rattle.problem_files.specs.Smooths.{table_by};
@@ -28,8 +28,7 @@ pub(crate) fn smooth_in(alloc: Global, table: &Table, labels: u32) -> Result<Smo
     requires { labels ≤ label_limit }
     ensures ok { IfOk result (λ smooth.
         smooth_in (table_view table.now) labels ≡ Ok (table_by labels smooth)) }
-    ensures refused { IfErr result (λ fault. fault ≢ OutOfMemory →
-        smooth_in (table_view table.now) labels ≡ Err fault) }
+    ensures refused { IfErr result (IsFirstFault (smooth_in (table_view table.now) labels)) }
 {
     match value_of(table, LabelKey::Smooth) {
         Some(value) => smooth_from(alloc, value, labels),
@@ -42,8 +41,7 @@ fn smooth_from(alloc: Global, value: &Value, labels: u32) -> Result<Smooth, Labe
     requires { labels ≤ label_limit }
     ensures ok { IfOk result (λ smooth.
         smooth_from labels (view value.now) ≡ Ok (table_by labels smooth)) }
-    ensures refused { IfErr result (λ fault. fault ≢ OutOfMemory →
-        smooth_from labels (view value.now) ≡ Err fault) }
+    ensures refused { IfErr result (IsFirstFault (smooth_from labels (view value.now))) }
 {
     let Some(name) = value.as_str() else {
         return listed_in(alloc, value, labels);
@@ -60,8 +58,7 @@ fn listed_in(alloc: Global, value: &Value, labels: u32) -> Result<Smooth, LabelF
     requires { labels ≤ label_limit }
     ensures ok { IfOk result (λ smooth.
         listed_from labels (view value.now) ≡ Ok (table_by labels smooth)) }
-    ensures refused { IfErr result (λ fault. fault ≢ OutOfMemory →
-        listed_from labels (view value.now) ≡ Err fault) }
+    ensures refused { IfErr result (IsFirstFault (listed_from labels (view value.now))) }
 {
     let count = labels as usize * labels as usize;
     let items = list_from(value, LabelKey::Smooth, count, SMOOTH_LIMIT)?;

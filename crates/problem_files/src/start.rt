@@ -1,8 +1,8 @@
 //! The labels that a run starts from.
-ghost use Rattle.std.specs.Prelude.{◌≡◌, ◌≢◌, ◌<◌, length, vec_len, IfOk, IfErr, All, map};
+ghost use Rattle.std.specs.Prelude.{◌≡◌, ◌<◌, length, vec_len, IfOk, IfErr, All, map};
 ghost use Rattle.toml.specs.View.{table_view, view};
 ghost use Rattle.label_field.specs.LabelFields.{AreSizes};
-ghost use Rattle.problem_files.specs.declared.label_fault.LabelFault.TheVariants.{OutOfMemory};
+ghost use Rattle.problem_files.specs.LabelFieldNames.{IsFirstFault};
 ghost use Rattle.problem_files.specs.ListFields.{natural_of};
 ghost use Rattle.problem_files.specs.StartFields.{start_from, start_in};
 
@@ -23,8 +23,7 @@ pub(crate) fn start_in(
 ) -> Result<Labelling, LabelFault>
     requires { AreSizes sites labels }
     ensures ok { IfOk result (λ start. start_in (table_view table.now) sites labels ≡ Ok start) }
-    ensures refused { IfErr result (λ fault. fault ≢ OutOfMemory →
-        start_in (table_view table.now) sites labels ≡ Err fault) }
+    ensures refused { IfErr result (IsFirstFault (start_in (table_view table.now) sites labels)) }
     ensures sizes { IfOk result (λ start. (length start.at ≡ sites) × (start.labels ≡ labels)) }
 {
     let Ok(start) = Labelling::new(alloc, sites, labels) else {

@@ -1,16 +1,6 @@
 use Rattle.std.proofs.Common.{◌∙◌, w64}
 use Rattle.std.proofs.lemmas.Int.{to_z-of_z}
-use Rattle.cost_store.proofs.Meaning.{fits_still}
 use Rattle.gco_c.proofs.moving.move_problem.Goals as goal
-
-pub data_energy-data-requires-clause-fits : goal.data_energy-data-requires-clause-fits
-data_energy-data-requires-clause-fits g c = λ κs lives. fits_still _ _ _ c.requires.fits c.in-Ok.ensures.sizes
-
-pub smooth_energy-smooth-requires-clause-fits : goal.smooth_energy-smooth-requires-clause-fits
-smooth_energy-smooth-requires-clause-fits g c = λ κs lives. fits_still _ _ _ c.requires.fits c.in-Ok.ensures.sizes
-
-pub label_energy-label-requires-clause-fits : goal.label_energy-label-requires-clause-fits
-label_energy-label-requires-clause-fits g c = λ κs lives. fits_still _ _ _ c.requires.fits c.in-Ok.ensures.sizes
 
 pub returns-in-Ok-clause-moved : goal.returns-in-Ok-clause-moved
 returns-in-Ok-clause-moved g c = λ m meant. (
