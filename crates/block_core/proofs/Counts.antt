@@ -11,7 +11,7 @@ use Rattle.flow_network.specs.Cut.{Network, IsNet}
 use Rattle.block_events.specs.declared.message.Message.{Message}
 use Rattle.block_events.specs.Soundness.{opening_state}
 use Rattle.block_events.proofs.Opening.{map_at, opened_sound}
-use Rattle.block_net.specs.Split.{CanSplit}
+use Rattle.block_opening.specs.Split.{CanSplit}
 use Rattle.block_core.specs.AllWays.{room_at, IsHeld}
 use Rattle.block_events.specs.Effects.{BlocksView, opening_blocks, state_of}
 use Rattle.block_core.specs.Counting.{put_room, IsSquareOf, directions_between, IsCounted}

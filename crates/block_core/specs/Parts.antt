@@ -1,8 +1,8 @@
 -- A state, and the blocks that show it.
 use Rattle.std.specs.Prelude.{◌≡◌}
 use Rattle.block_events.specs.States as core
-use Rattle.block_net.specs.declared.parts.Parts.{Parts}
-use Rattle.block_net.specs.Whole.{whole_of}
+use Rattle.block_opening.specs.declared.parts.Parts.{Parts}
+use Rattle.block_opening.specs.Split.{whole_of}
 use Rattle.block_events.specs.Effects.{state_of}
 use Rattle.laid_blocks.specs.Views.{blocks_in, IsLaid}
 

@@ -3,7 +3,8 @@ use Rattle.std.specs.Prelude.{ℕ, ◌-◌, ◌==◌, slice_index}
 use Rattle.sums.specs.Sums.{sum_below, count_if}
 use Rattle.flow_network.specs.Cut.{nodes}
 use Rattle.block_events.specs.States as core
-use Rattle.block_net.specs.Whole.{Whole, node_block, whole_of}
+use Rattle.block_net.specs.Whole.{Whole, node_block}
+use Rattle.block_opening.specs.Split.{whole_of}
 use Rattle.block_core.specs.declared.pieces.Pieces.{Pieces}
 use Rattle.block_events.specs.Effects.{state_of}
 use Rattle.laid_blocks.specs.Views.{blocks_in}

@@ -2,7 +2,7 @@
 ghost use Rattle.std.specs.Prelude.{◌≡◌, IfOk, OnOk, OnErr};
 ghost use Rattle.block_events.specs.Events.{IsEnabled, Happens};
 ghost use Rattle.block_events.specs.Soundness.{opening_state};
-ghost use Rattle.block_net.specs.Split.{CanSplit};
+ghost use Rattle.block_opening.specs.Split.{CanSplit};
 
 use crate::state::State;
 use block_events::Event;

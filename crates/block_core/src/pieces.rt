@@ -4,12 +4,12 @@ ghost use Rattle.flow_network.specs.Cut.{nodes};
 ghost use Rattle.block_events.specs.States.{room_of};
 ghost use Rattle.laid_blocks.specs.Views.{blocks_in, IsLaid};
 ghost use Rattle.block_core.specs.AllWays.{IsHeld};
-ghost use Rattle.block_net.specs.Whole.{whole_of};
+ghost use Rattle.block_opening.specs.Split.{whole_of};
 ghost use Rattle.block_core.specs.Pieces.{state_in, given_by};
 
 use crate::all_ways::AllWays;
 use crate::state::State;
-use block_net::Parts;
+use block_opening::Parts;
 use flow_network::Net;
 
 /// A state in its pieces, so that each block can be worked on by itself, and the ways between them.

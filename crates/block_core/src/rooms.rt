@@ -3,7 +3,7 @@ ghost use Rattle.std.specs.Prelude.{◌≡◌, ◌+◌, ◌<◌, ◌≤◌, IfOk
 ghost use Rattle.std.specs.Prelude.{slice_index_or, []};
 ghost use Rattle.flow_network.specs.Cut.{nodes};
 ghost use Rattle.block_events.specs.States.{block_of};
-ghost use Rattle.block_net.specs.Split.{node_blocks_made};
+ghost use Rattle.block_opening.specs.Split.{node_blocks_made};
 ghost use Rattle.block_core.specs.AllWays.{room_at};
 ghost use Rattle.block_core.specs.Counting.{put_room, IsCounted};
 

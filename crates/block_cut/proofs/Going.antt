@@ -6,7 +6,8 @@ use Rattle.block_events.specs.States.{State}
 use Rattle.block_events.specs.Events.{IsQuiet}
 use Rattle.block_events.specs.Soundness.{IsSound, IsFinished, potential}
 use Rattle.block_net.specs.Views.{CellsView}
-use Rattle.block_net.specs.Whole.{Whole, no_block, block_at, whole_of, with_blocks}
+use Rattle.block_net.specs.Whole.{Whole, no_block, block_at, with_blocks}
+use Rattle.block_opening.specs.Split.{whole_of}
 use Rattle.block_events.specs.Effects.{state_of}
 use Rattle.laid_blocks.specs.Views.{IsLaid, blocks_in}
 use Rattle.block_core.specs.AllWays.{AllWaysView, HasRooms, IsHeld}

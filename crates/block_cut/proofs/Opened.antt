@@ -7,9 +7,10 @@ use Rattle.block_events.specs.declared.message.Message.{Message}
 use Rattle.block_events.specs.States.{State, label_of}
 use Rattle.block_events.specs.Events.{IsQuiet}
 use Rattle.block_events.specs.Soundness.{IsSound, opening_state}
-use Rattle.block_net.specs.declared.parts.Parts.{Parts}
 use Rattle.block_net.specs.Views.{CellsView, count, excess_in, label_in, room_in, lane_in, cells_after_push, cells_after_sink_push}
-use Rattle.block_net.specs.Whole.{Whole, no_block, block_at, node_block, place, whole_of, with_blocks}
+use Rattle.block_net.specs.Whole.{Whole, no_block, block_at, node_block, place, with_blocks}
+use Rattle.block_opening.specs.declared.parts.Parts.{Parts}
+use Rattle.block_opening.specs.Split.{whole_of}
 use Rattle.block_events.specs.Effects.{state_of}
 use Rattle.laid_blocks.specs.Views.{IsLaid, IsSpot, blocks_in}
 use Rattle.block_core.specs.AllWays.{HasRooms, IsHeld}

@@ -7,7 +7,8 @@ use Rattle.sums.proofs.SumLemmas.{counted-le}
 use Rattle.block_events.specs.States.{State}
 use Rattle.block_events.specs.Soundness.{IsFinished, potential}
 use Rattle.block_net.specs.Views.{CellsView}
-use Rattle.block_net.specs.Whole.{no_block, block_at, whole_of, with_blocks}
+use Rattle.block_net.specs.Whole.{no_block, block_at, with_blocks}
+use Rattle.block_opening.specs.Split.{whole_of}
 use Rattle.block_core.specs.AllWays.{AllWaysView}
 use Rattle.block_core.specs.declared.pieces.Pieces.{Pieces}
 use Rattle.block_core.specs.Pieces.{state_in}

@@ -11,9 +11,10 @@ use Rattle.block_events.specs.Directions.{IsDirection, near, far, backward}
 use Rattle.block_events.specs.States as core
 use Rattle.block_events.proofs.Ends.{near_in, far_in}
 use Rattle.block_events.specs.States.{residual_of, is_border, block_of}
-use Rattle.block_net.specs.declared.parts.Parts.{Parts}
 use Rattle.block_net.specs.Views.{CellsView, lane_in, border_in}
-use Rattle.block_net.specs.Whole.{Whole, no_block, block_at, node_block, slot, is_outer, whole_of}
+use Rattle.block_net.specs.Whole.{Whole, no_block, block_at, node_block, slot, is_outer}
+use Rattle.block_opening.specs.declared.parts.Parts.{Parts}
+use Rattle.block_opening.specs.Split.{whole_of}
 use Rattle.laid_blocks.specs.Views.{blocks_in, IsRow}
 use Rattle.block_core.specs.Parts.{IsIn}
 use Rattle.global_relabel.specs.NodeBlocks.{AreNodeBlocks}

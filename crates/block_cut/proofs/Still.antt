@@ -16,7 +16,8 @@ use Rattle.block_events.specs.Events.{IsActive, IsRunOfEvents}
 use Rattle.block_events.proofs.Ends.{far_in, block_in}
 use Rattle.block_events.specs.Workers.{MayStart}
 use Rattle.block_net.specs.Views.{CellsView, border_in}
-use Rattle.block_net.specs.Whole.{Whole, block_at, node_block, whole_of, with_blocks}
+use Rattle.block_net.specs.Whole.{Whole, block_at, node_block, with_blocks}
+use Rattle.block_opening.specs.Split.{whole_of}
 use Rattle.block_events.specs.Effects.{BlocksView, state_of}
 use Rattle.laid_blocks.specs.Views.{IsLaid, blocks_in}
 use Rattle.block_core.specs.AllWays.{AllWaysView, HasRooms, room_at}

@@ -5,7 +5,8 @@ use Rattle.block_events.specs.States.{State, excess_of, label_of, room_of}
 use Rattle.block_events.specs.Soundness.{IsSound}
 use Rattle.flow_network.specs.Cut.{nodes}
 use Rattle.block_net.specs.Views.{CellsView, count, excess_in, label_in, room_in}
-use Rattle.block_net.specs.Whole.{Whole, no_block, block_at, whole_of, with_blocks}
+use Rattle.block_net.specs.Whole.{Whole, no_block, block_at, with_blocks}
+use Rattle.block_opening.specs.Split.{whole_of}
 use Rattle.laid_blocks.specs.Views.{IsLaid}
 use Rattle.block_core.specs.declared.pieces.Pieces.{Pieces}
 use Rattle.block_cut.specs.Loose.{IsInPlace}

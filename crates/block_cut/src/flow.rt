@@ -9,7 +9,7 @@ ghost use Rattle.block_events.specs.Flows.{shown_flow};
 ghost use Rattle.global_relabel.specs.NodeBlocks.{AreNodeBlocks};
 
 use block_core::State;
-use block_net::Parts;
+use block_opening::Parts;
 use flow_network::Net;
 use global_relabel::write_node_blocks;
 use std::alloc::{AllocError, Global};

@@ -1,7 +1,8 @@
 //! In which order the nodes pass on their excess after a search.
 ghost use Rattle.std.specs.Prelude.{◌≤◌, length};
 
-use block_net::{Cells, Parts};
+use block_net::Cells;
+use block_opening::Parts;
 use std::alloc::{AllocError, Global};
 
 /// In a round, the nodes that first pass on what they have together hold this many times what the

@@ -10,7 +10,6 @@ use Rattle.block_events.specs.declared.direction.Direction.{Direction}
 use Rattle.block_events.specs.declared.message.Message.{Message}
 use Rattle.block_events.specs.Directions.{IsDirection, forward, backward, near, far, opposite}
 use Rattle.block_events.specs.States as core
-use Rattle.block_net.specs.declared.parts.Parts.{Parts}
 use Rattle.block_net.specs.declared.lanes.InnerLane.{InnerLane}
 use Rattle.block_net.specs.declared.lanes.Border.{Border}
 use Rattle.block_net.specs.Views.{CellsView, count, excess_in, label_in, room_in, lane_in}
@@ -25,18 +24,6 @@ pub record Whole : Type 0 where
   pub blocks : List CellsView
   pub ways : List (List (List Message))
   pub got : ℕ
-
--- the blocks of a net, with no message on the way
-abbrev pub whole_of : Network → Parts → Whole
-whole_of net parts =
-    record {
-      net = net;
-      firsts = parts.firsts.items;
-      slots = parts.slots.items;
-      blocks = parts.blocks.items;
-      ways = [];
-      got = 0;
-    }
 
 -- the same net in other blocks
 abbrev pub with_blocks : Whole → List CellsView → Whole

@@ -5,24 +5,20 @@ ghost use Rattle.flow_network.specs.Limits.{node_limit};
 ghost use Rattle.flow_network.specs.Progress.{top_label};
 ghost use Rattle.block_events.specs.declared.message.Message.TheVariants.{Accepted, Refused};
 ghost use Rattle.block_events.specs.Directions.{opposite};
-ghost use Rattle.block_net.specs.Split.{CanSplit, starts_made, rows_made, block_rows, block_made};
+ghost use Rattle.block_net.specs.Lists.{cells_of};
 ghost use Rattle.block_net.specs.Views.{CellsView, count, excess_in, label_in, room_in, lane_in};
 ghost use Rattle.block_net.specs.Views.{border_in, first_lane, first_border, out_of, MayPush};
+ghost use Rattle.block_net.specs.Views.{IsBlock};
 ghost use Rattle.block_net.specs.Views.{MaySend, cells_after_push, cells_after_sink_push};
 ghost use Rattle.block_net.specs.Views.{cells_after_relabel, cells_after_send, cells_after_accept};
 ghost use Rattle.block_net.specs.Views.{cells_after_delivery, cells_after_return, cells_with_known};
 ghost use Rattle.block_net.specs.Views.{parcel_of, lane_allows, border_allows, highest};
 
-use crate::buckets::Buckets;
-use crate::by_node::outer_starts;
 use crate::compact::CompactBorder;
-use crate::ends::bounds;
-use crate::leaving::Leaving;
-use crate::make::starts_from;
-use crate::opening::nodes_from;
+use crate::nodes::Nodes;
 use crate::{Border, InnerLane, opposite_of};
 use block_events::{Flight, Message};
-use flow_network::Net;
+use node_buckets::Buckets;
 use std::alloc::{AllocError, Global};
 use std::marker::Model;
 
@@ -54,31 +50,27 @@ impl Model for Cells {
 }
 
 impl Cells {
-    /// A block of a net as it is at the opening, with the directions that leave its nodes: each
-    /// node has what its source sends it.
-    pub(crate) fn at_opening(
+    /// A block of its nodes and of the directions that leave them, within the block and to other
+    /// blocks, each with the places where those of a node begin. It has room for the rows of its
+    /// nodes. Refuses only where memory runs out.
+    pub fn new(
         alloc: Global,
-        net: &Net,
-        blocks: usize,
-        starts: &[u32],
-        block: usize,
-        leaving: Leaving,
+        top: u32,
+        nodes: Nodes,
+        starts: Vec<u32>,
+        lanes: Vec<InnerLane>,
+        border_starts: Vec<u32>,
+        borders: Vec<CompactBorder>,
     ) -> Result<Cells, AllocError>
-        requires split { CanSplit net.now blocks }
-        requires starts { starts.now ≡ starts_made net.now blocks }
-        requires block { block < blocks }
-        requires leaving { leaving ≡ block_rows net.now blocks (rows_made net.now blocks) block }
-        ensures { IfOk result (λ cells.
-            cells ≡ block_made net.now blocks (rows_made net.now blocks) block) }
+        requires { IsBlock (cells_of top nodes starts.items lanes.items
+            border_starts.items borders.items) }
+        ensures { IfOk result (λ cells. cells
+            ≡ cells_of top nodes starts.items lanes.items border_starts.items borders.items) }
     {
-        let (first, next) = bounds(net, blocks, block);
-        let nodes = nodes_from(alloc, net, first, next)?;
-        let border_starts = starts_from(alloc, outer_starts(net, starts), first, next)?;
-        let starts = starts_from(alloc, starts, first, next)?;
-        let (lanes, borders) = leaving.into_parts();
-        let rows = Buckets::new(alloc, next - first, (next - first) as u32 + 2)?;
+        let count = nodes.excess.len();
+        let rows = Buckets::new(alloc, count, count as u32 + 2)?;
         Ok(Cells {
-            top: net.nodes() as u32 + 2,
+            top,
             excess: nodes.excess,
             labels: nodes.labels,
             rooms: nodes.rooms,

@@ -9,7 +9,7 @@ use std::marker::Model;
 /// A direction to another block as a block keeps it, in 48 bytes: an arc's place is below
 /// `ARC_LIMIT`, and a block below `BLOCK_LIMIT`.
 #[derive(Drop)]
-pub(crate) struct CompactBorder {
+pub struct CompactBorder {
     capacity: u64,
     residual: u64,
     /// The amount and the label of the parcel that is out, where one is.
@@ -72,7 +72,7 @@ impl CompactBorder {
 
     /// What it can still carry, the label that is known of the far end and the parcel that is out
     /// are these from now on.
-    pub fn set(&mut self, residual: u64, known: u32, flight: Option<Flight>)
+    pub(crate) fn set(&mut self, residual: u64, known: u32, flight: Option<Flight>)
         ensures { self.new ≡ record self.old
             { residual = residual; known = known; flight = flight } }
     {
@@ -86,7 +86,7 @@ impl CompactBorder {
     }
 
     /// The direction to another block that is kept.
-    pub fn border(&self) -> Border
+    pub(crate) fn border(&self) -> Border
         ensures value { result ≡ self.now }
         ensures arc { result.direction.arc < 2 ^ 32 }
     {

@@ -1,11 +1,13 @@
 //! Nodes in buckets and set aside.
 ghost use Rattle.std.specs.Prelude.{◌≡◌, IfOk};
 ghost use Rattle.discharge.specs.Views.{count};
-ghost use Rattle.block_net.specs.Standing.{row_count};
+ghost use Rattle.node_buckets.specs.Standing.{row_count};
 
 use crate::building::net_of;
-use block_net::{ARC_LIMIT, Buckets, Cells, Parts};
+use block_net::{ARC_LIMIT, Cells};
+use block_opening::Parts;
 use block_turns::Bucketed;
+use node_buckets::Buckets;
 use std::alloc::AllocError;
 use std::process::Abort;
 use std::test::Fail;

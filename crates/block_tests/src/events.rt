@@ -3,7 +3,8 @@
 use crate::building::{Row, net_of};
 use crate::ends::OneLetter;
 use crate::rows::expect;
-use block_net::{ARC_LIMIT, BLOCK_LIMIT, Cells, Parts};
+use block_net::{ARC_LIMIT, BLOCK_LIMIT, Cells};
+use block_opening::Parts;
 use discharge::{Block, end_flight, push_inner, push_sink, receive, relabel, send, turn};
 use parcel::{Direction, Flight, Letter, Message};
 use std::alloc::AllocError;

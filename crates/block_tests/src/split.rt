@@ -2,7 +2,8 @@
 
 use crate::building::net_of;
 use crate::rows::expect;
-use block_net::{ARC_LIMIT, BLOCK_LIMIT, Parts};
+use block_net::{ARC_LIMIT, BLOCK_LIMIT};
+use block_opening::Parts;
 use std::alloc::AllocError;
 use std::process::Abort;
 use std::test::Fail;

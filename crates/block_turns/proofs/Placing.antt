@@ -4,8 +4,8 @@ use Rattle.std.proofs.lemmas.Bool.{cases_eq, cases_lt}
 use Rattle.std.proofs.lemmas.List.{length-set}
 use Rattle.std.proofs.lemmas.List.Sums.{sum_by-set}
 use Rattle.std.proofs.lemmas.Bool.Decides.{nat_tests}
+use Rattle.node_buckets.specs.Standing.{BucketsView, row_count, row_in, aside, nowhere, bucket_of, with_node_in_row, AreBucketsEmpty, IsHighest}
 use Rattle.block_net.specs.Views.{CellsView, count, excess_in, label_in}
-use Rattle.block_net.specs.Standing.{BucketsView, row_count, row_in, aside, nowhere, bucket_of, with_node_in_row, AreBucketsEmpty, IsHighest}
 use Rattle.block_turns.specs.Active.{IsActiveInBlock}
 use Rattle.block_turns.specs.Standing.{bucket_in, MayStand, Nowhere, Aside, InBucket, IsRight, IsFit, IsStanding, IsRenewed}
 

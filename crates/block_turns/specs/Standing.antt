@@ -1,7 +1,7 @@
 -- A block whose active nodes stand in buckets by their labels.
 use Rattle.std.specs.Prelude.{◌≡◌, ℕ, ◌+◌, ◌<◌, ◌≤◌, min, cond, nat_lt, sum_by}
+use Rattle.node_buckets.specs.Standing.{BucketsView, row_count, row_in, aside, nowhere, bucket_of}
 use Rattle.block_net.specs.Views.{CellsView, count, label_in}
-use Rattle.block_net.specs.Standing.{BucketsView, row_count, row_in, aside, nowhere, bucket_of}
 use Rattle.block_turns.specs.Active.{IsActiveInBlock}
 
 -- a block, and where its nodes stand

@@ -4,7 +4,8 @@ ghost use Rattle.block_net.specs.Views.{count};
 ghost use Rattle.block_turns.specs.Active.{IsActiveInBlock};
 ghost use Rattle.block_turns.specs.Standing.{MayStand, IsFit, IsRenewed};
 
-use block_net::{Buckets, Cells};
+use block_net::Cells;
+use node_buckets::Buckets;
 
 /// Whether a node has excess and is not cut off.
 pub fn is_active(cells: &Cells, v: usize) -> bool

@@ -5,19 +5,20 @@ ghost use Rattle.flow_network.specs.Limits.{node_limit};
 ghost use Rattle.flow_network.specs.Progress.{top_label};
 ghost use Rattle.block_events.specs.declared.message.Message.TheVariants.{Accepted};
 ghost use Rattle.block_events.specs.Directions.{opposite};
+ghost use Rattle.node_buckets.specs.Standing.{row_count};
 ghost use Rattle.block_net.specs.Views.{count, excess_in, label_in, room_in, lane_in, border_in};
 ghost use Rattle.block_net.specs.Views.{first_lane, first_border, out_of, highest};
 ghost use Rattle.block_net.specs.Views.{cells_after_push, cells_after_sink_push};
 ghost use Rattle.block_net.specs.Views.{cells_after_relabel, cells_after_send, cells_after_accept};
 ghost use Rattle.block_net.specs.Views.{cells_after_delivery, cells_after_return, parcel_of};
-ghost use Rattle.block_net.specs.Standing.{row_count};
 ghost use Rattle.block_turns.specs.Active.{IsActiveInBlock};
 ghost use Rattle.block_turns.specs.Standing.{IsAside, HasHighestBucket, KeepsAside, StaysAside};
 ghost use Rattle.block_turns.specs.Standing.{waiting_count};
 
 use crate::bucket_places::{is_active, move_up, renew};
 use block_events::Message;
-use block_net::{Border, Buckets, Cells, InnerLane};
+use block_net::{Border, Cells, InnerLane};
+use node_buckets::Buckets;
 use std::alloc::{AllocError, Global};
 use std::marker::Model;
 

@@ -1,11 +1,11 @@
 //! One block's work: a list of its own enabled events.
 //!
-//! A `Bucketed` is a block of a net (`Cells` of `block_net`) and rows of its nodes (`Buckets`).
-//! Each node that has excess and is not cut off stands in the bucket of its label, or is set aside,
-//! and no other node stands anywhere: the type keeps that, and each call that sets a label or an
-//! excess. The rows stand in the room that the block brings and takes with it, which is made where
-//! a net is split. What opens a state, raises its labels or does its events one by one goes over
-//! `Cells`, and keeps no rows.
+//! A `Bucketed` is a block of a net (`Cells` of `block_net`) and rows of its nodes (`Buckets` of
+//! `node_buckets`). Each node that has excess and is not cut off stands in the bucket of its
+//! label, or is set aside, and no other node stands anywhere: the type keeps that, and each call
+//! that sets a label or an excess. The rows stand in the room that the block brings and takes with
+//! it, which is made where a net is split. What opens a state, raises its labels or does its events
+//! one by one goes over `Cells`, and keeps no rows.
 //!
 //! A `Block` is such a block, and `Ways` are its ends of the ways to and from the other blocks.
 //! `push_inner`, `push_sink`, `relabel`, `send`, `receive` and `end_flight` are its events, one at

@@ -11,9 +11,10 @@ use Rattle.block_events.specs.Reach.{ReachesSinkIn, ReachesSink, AreExact}
 use Rattle.block_events.specs.Events.{IsQuiet, Happens, after_raise_all}
 use Rattle.block_events.specs.Soundness.{IsFinished}
 use Rattle.block_events.proofs.Raising.{told_is}
-use Rattle.block_net.specs.declared.parts.Parts.{Parts}
 use Rattle.block_net.specs.Views.{count, excess_in}
-use Rattle.block_net.specs.Whole.{Whole, LiesAt, block_at, node_block, place, whole_of}
+use Rattle.block_net.specs.Whole.{Whole, LiesAt, block_at, node_block, place}
+use Rattle.block_opening.specs.declared.parts.Parts.{Parts}
+use Rattle.block_opening.specs.Split.{whole_of}
 use Rattle.laid_blocks.specs.Views.{blocks_in}
 use Rattle.block_core.specs.Parts.{IsIn}
 use Rattle.laid_blocks.proofs.Steps.{excess_read}

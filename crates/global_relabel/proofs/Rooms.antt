@@ -5,9 +5,10 @@ use Rattle.flow_network.specs.Cut.{nodes}
 use Rattle.sink_distances.specs.Search.{Search, search_label, Grows, AreStarts}
 use Rattle.sink_distances.proofs.Order.{grows_falls}
 use Rattle.block_events.specs.States.{State, room_of}
-use Rattle.block_net.specs.declared.parts.Parts.{Parts}
 use Rattle.block_net.specs.Views.{CellsView, count, room_in}
-use Rattle.block_net.specs.Whole.{Whole, LiesAt, block_at, node_block, place, whole_of}
+use Rattle.block_net.specs.Whole.{Whole, LiesAt, block_at, node_block, place}
+use Rattle.block_opening.specs.declared.parts.Parts.{Parts}
+use Rattle.block_opening.specs.Split.{whole_of}
 use Rattle.laid_blocks.specs.Views.{blocks_in}
 use Rattle.block_core.specs.Parts.{IsIn}
 use Rattle.laid_blocks.proofs.Steps.{room_read}

@@ -5,7 +5,8 @@ ghost use Rattle.std.specs.Prelude.{slice_index, slice_index_or};
 ghost use Rattle.std.specs.List.Sorted.{IsNonDecreasingBy};
 ghost use Rattle.flow_network.specs.Cut.{nodes};
 ghost use Rattle.block_net.specs.Views.{count, lane_in, room_in};
-ghost use Rattle.block_net.specs.Whole.{block_at, whole_of};
+ghost use Rattle.block_net.specs.Whole.{block_at};
+ghost use Rattle.block_opening.specs.Split.{whole_of};
 ghost use Rattle.laid_blocks.specs.Views.{IsLaid};
 ghost use Rattle.sink_distances.specs.Search.{found_of};
 ghost use Rattle.global_relabel.specs.Lowering.{whole_in};
@@ -18,7 +19,8 @@ ghost use Rattle.global_relabel.specs.Lowering.{IsReadyFor, IsTightBehind, IsTig
 ghost use Rattle.global_relabel.specs.Lowering.{StepsWithin};
 
 use crate::exactness::{NetBlocks, far_node};
-use block_net::{Cells, Parts};
+use block_net::Cells;
+use block_opening::Parts;
 use flow_network::Net;
 use std::alloc::{AllocError, Global};
 use std::marker::Model;

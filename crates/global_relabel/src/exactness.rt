@@ -10,7 +10,8 @@ ghost use Rattle.global_relabel.specs.Local.{AreLocallyExactIn, IsLeastStep, IsL
 
 use crate::search::Spot;
 use block_core::State;
-use block_net::{Border, Cells, Parts};
+use block_net::{Border, Cells};
+use block_opening::Parts;
 use flow_network::Net;
 
 /// A net and its blocks.

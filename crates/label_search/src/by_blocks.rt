@@ -3,12 +3,12 @@ ghost use Rattle.std.specs.Prelude.{◌≡◌, ◌↔◌, ◌<◌, ℕ, IfOk, If
 ghost use Rattle.std.specs.Prelude.{slice_index_or};
 ghost use Rattle.flow_network.specs.Cut.{nodes};
 ghost use Rattle.block_events.specs.Reach.{AreExact};
-ghost use Rattle.block_net.specs.Whole.{whole_of};
+ghost use Rattle.block_opening.specs.Split.{whole_of};
 ghost use Rattle.laid_blocks.specs.Views.{IsLaid};
 ghost use Rattle.label_search.specs.LabelSearches.{AreQuiet, AreSharesOf, AreTested};
 
 use block_core::State;
-use block_net::Parts;
+use block_opening::Parts;
 use flow_network::Net;
 use global_relabel::{BlockLabels, is_block_exact};
 use std::alloc::{AllocError, Global};
@@ -187,11 +187,13 @@ pub(crate) fn search_by_blocks<R: Threads + Sync>(
     false
 }
 
-/// Lists for the labels of each block.
-pub(crate) fn reserve_shares(alloc: Global, parts: &Parts) -> Result<Vec<Share>, AllocError> {
+/// Lists for the labels of each block. The only error is that memory runs out.
+pub(crate) fn reserve_shares(alloc: Global, parts: &Parts) -> Result<Vec<Share>, AllocError>
+    ensures { IfOk result (λ shares. AreSharesOf parts.now.blocks.items shares.items) }
+{
     let mut shares = Vec::with_capacity(alloc, parts.blocks.len())?;
-    for cells in &parts.blocks {
-        let labels = BlockLabels::reserve(alloc, cells)?;
+    for b in 0..parts.blocks.len() {
+        let labels = BlockLabels::reserve(alloc, &parts.blocks[b])?;
         shares.push(Share {
             labels,
             has_news: false,

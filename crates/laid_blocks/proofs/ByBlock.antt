@@ -16,7 +16,7 @@ use Rattle.block_net.specs.Views as block
 use Rattle.block_net.specs.Views.{CellsView, border_in, count}
 use Rattle.block_net.specs.Whole.{Whole, block_at, block_with, node_block, place, near_node_block, slot, is_outer, border_of, put_block, no_block}
 use Rattle.block_net.proofs.Tables.{table_at}
-use Rattle.block_net.proofs.Spans.{length_range, range_at}
+use Rattle.block_opening.proofs.Spans.{length_range, range_at}
 use Rattle.block_events.specs.Effects.{BlocksView}
 use Rattle.laid_blocks.specs.Views.{blocks_in, IsLaid, IsSpot, IsRow}
 use Rattle.block_events.specs.Effects.{blocks_with_known_labels, told_lane}

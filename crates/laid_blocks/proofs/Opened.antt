@@ -2,10 +2,10 @@
 use Rattle.std.proofs.Common.{◌≡◌, ℕ, length, ap, subst, arith}
 use Rattle.flow_network.specs.Cut.{Network, nodes, IsNet}
 use Rattle.block_events.specs.States as core
-use Rattle.block_net.specs.Whole.{Whole, whole_of}
-use Rattle.block_net.specs.declared.parts.Parts.{Parts}
-use Rattle.block_net.specs.Split.{CanSplit, IsSplit}
+use Rattle.block_net.specs.Whole.{Whole}
 use Rattle.block_net.proofs.Tables.{length_table}
+use Rattle.block_opening.specs.declared.parts.Parts.{Parts}
+use Rattle.block_opening.specs.Split.{CanSplit, IsSplit, whole_of}
 use Rattle.block_events.specs.Effects.{BlocksView, opening_blocks}
 use Rattle.laid_blocks.specs.Views.{blocks_in, IsLaid, IsLong}
 

@@ -12,8 +12,8 @@ ghost use Rattle.block_events.specs.States.{lane_at, block_of, is_border};
 ghost use Rattle.block_events.specs.Soundness.{amount_out};
 ghost use Rattle.block_events.specs.Events.{highest_label};
 ghost use Rattle.block_net.specs.Limits.{arc_limit, block_limit};
-ghost use Rattle.block_net.specs.Split.{CanSplit, node_blocks_made};
-ghost use Rattle.block_net.specs.Whole.{index_of, is_outer, whole_of};
+ghost use Rattle.block_net.specs.Whole.{index_of, is_outer};
+ghost use Rattle.block_opening.specs.Split.{CanSplit, node_blocks_made, whole_of};
 ghost use Rattle.block_events.specs.Effects.{state_of, opening_blocks, blocks_after_sink_push};
 ghost use Rattle.block_events.specs.Effects.{blocks_after_relabel, blocks_after_push};
 ghost use Rattle.block_events.specs.Effects.{blocks_after_send, blocks_after_accept};
@@ -25,7 +25,8 @@ ghost use Rattle.laid_blocks.specs.ByBlock.{IsToldFrom, IsRelabelled};
 
 use crate::by_block::{label_block, tell_block};
 use block_events::{Direction, Lane, Message};
-use block_net::{Parts, node_blocks_of, opposite_of};
+use block_net::opposite_of;
+use block_opening::{Parts, node_blocks_of};
 use flow_network::Net;
 use std::alloc::{AllocError, Global};
 use std::marker::Model;
@@ -44,7 +45,7 @@ pub struct Blocks {
 }
 
 impl Model for Blocks {
-    ghost use Rattle.block_net.specs.Whole.{whole_of};
+    ghost use Rattle.block_opening.specs.Split.{whole_of};
     ghost use Rattle.block_events.specs.Effects.{BlocksView};
     ghost use Rattle.laid_blocks.specs.Views.{blocks_in, IsLaid};
 

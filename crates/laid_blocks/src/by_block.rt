@@ -3,12 +3,14 @@ ghost use Rattle.std.specs.Prelude.{◌≡◌, ◌<◌, ◌≤◌, ℕ, true, le
 ghost use Rattle.flow_network.specs.Cut.{nodes};
 ghost use Rattle.flow_network.specs.Progress.{top};
 ghost use Rattle.block_events.specs.Directions.{far};
-ghost use Rattle.block_net.specs.Whole.{block_at, whole_of};
+ghost use Rattle.block_net.specs.Whole.{block_at};
+ghost use Rattle.block_opening.specs.Split.{whole_of};
 ghost use Rattle.laid_blocks.specs.Views.{blocks_in, IsLaid, IsRow};
 ghost use Rattle.laid_blocks.specs.ByBlock.{direction_at, told_at, IsTelling, HasLabelsInBlock};
 
 use crate::blocks::near_of;
-use block_net::{Parts, opposite_of};
+use block_net::opposite_of;
+use block_opening::Parts;
 use flow_network::Net;
 
 /// The label of the far end of the direction at a place of a block, among those to other blocks.

@@ -1,7 +1,8 @@
 use Rattle.std.proofs.Common.{◌≡◌, ◌∙◌, ◌+◌, ◌-◌, ◌<◌, ◌≤◌, ℕ, List, length, slice_index, sum, refl, ap, add-one, arith}
 use Rattle.sums.specs.Sums.{sum_below}
 use Rattle.block_net.specs.Views.{CellsView, count}
-use Rattle.block_net.specs.Whole.{Whole, block_at, whole_of}
+use Rattle.block_net.specs.Whole.{Whole, block_at}
+use Rattle.block_opening.specs.Split.{whole_of}
 use Rattle.laid_blocks.specs.Views.{blocks_in}
 use Rattle.block_core.specs.Pieces.{given_at}
 use Rattle.block_core.proofs.Given.{read_node, in_a_row, some_nodes}

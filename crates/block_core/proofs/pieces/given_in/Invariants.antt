@@ -1,6 +1,6 @@
 use Rattle.std.proofs.Common.{◌≡◌, ◌+◌, slice_index}
 use Rattle.sums.specs.Sums.{sum_below}
-use Rattle.block_net.specs.Whole.{whole_of}
+use Rattle.block_opening.specs.Split.{whole_of}
 use Rattle.block_core.specs.Pieces.{given_at}
 use Rattle.block_core.proofs.pieces.given_in.Given as goal
 

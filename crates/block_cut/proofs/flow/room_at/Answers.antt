@@ -2,7 +2,7 @@ use Rattle.std.proofs.Common.{◌≡◌, ◌<◌, ◌∙◌, length, slice_index
 use Rattle.std.proofs.lemmas.List.{get_or_read}
 use Rattle.block_events.specs.States.{State, room_of}
 use Rattle.laid_blocks.specs.Views.{blocks_in}
-use Rattle.block_net.specs.Whole.{whole_of}
+use Rattle.block_opening.specs.Split.{whole_of}
 use Rattle.laid_blocks.proofs.Steps.{at_read, room_read}
 use Rattle.global_relabel.specs.NodeBlocks.{AreNodeBlocks}
 use Rattle.global_relabel.proofs.Homing.{spot_of_node_block}

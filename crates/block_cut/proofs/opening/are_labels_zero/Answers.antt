@@ -1,7 +1,7 @@
 use Rattle.std.proofs.Common.{◌≡◌, ◌<◌, ◌∙◌, IsTrue, length, refl, sym, subst, inl, inr, arith}
 use Rattle.std.proofs.lemmas.Bool.{cases_lt, true≢false}
 use Rattle.laid_blocks.specs.Views.{blocks_in}
-use Rattle.block_net.specs.Whole.{whole_of}
+use Rattle.block_opening.specs.Split.{whole_of}
 use Rattle.laid_blocks.proofs.Steps.{at_read}
 use Rattle.block_cut.specs.Opening.{IsFlat}
 use Rattle.block_cut.proofs.Opened.{zeros_of_flat, flat_of_zeros}

@@ -1,5 +1,5 @@
 use Rattle.std.proofs.Common.{◌≡◌}
-use Rattle.block_net.specs.Standing.{row_count}
+use Rattle.node_buckets.specs.Standing.{row_count}
 use Rattle.block_tests.proofs.buckets.put_all.Given as goal
 
 abbrev pub invariant-loop-node : goal.invariant-loop-node

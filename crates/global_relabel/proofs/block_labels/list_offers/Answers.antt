@@ -1,7 +1,8 @@
 use Rattle.std.proofs.Common.{◌≡◌, ◌<◌, [], ◌∷◌, ◌++◌, length, slice_index, ap, subst, refl, inl, inr, arith}
 use Rattle.std.proofs.lemmas.Bool.{cases_lt, true≢false}
 use Rattle.block_net.specs.Views.{CellsView}
-use Rattle.block_net.specs.Whole.{Whole, block_at, whole_of}
+use Rattle.block_net.specs.Whole.{Whole, block_at}
+use Rattle.block_opening.specs.Split.{whole_of}
 use Rattle.laid_blocks.specs.Views.{blocks_in}
 use Rattle.laid_blocks.proofs.Steps.{at_read}
 use Rattle.global_relabel.specs.Lowering.{AreOffersTold, IsAboveTold, IsAllowedBy, IsBorderOffered, IsOfferAt}

@@ -3,7 +3,8 @@ use Rattle.std.proofs.lemmas.Bool.{true≢false, cases_lt}
 use Rattle.std.proofs.lemmas.List.{get_or_read}
 use Rattle.flow_network.specs.Cut.{Network}
 use Rattle.block_net.specs.Views.{CellsView, count}
-use Rattle.block_net.specs.Whole.{block_at, state_shown, whole_of}
+use Rattle.block_net.specs.Whole.{block_at, state_shown}
+use Rattle.block_opening.specs.Split.{whole_of}
 use Rattle.laid_blocks.specs.Views.{blocks_in, IsSpot}
 use Rattle.laid_blocks.proofs.Steps.{at_read}
 use Rattle.global_relabel.specs.Local.{IsLocallyExact}

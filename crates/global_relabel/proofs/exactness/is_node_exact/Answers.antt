@@ -1,7 +1,8 @@
 use Rattle.std.proofs.Common.{◌≡◌, ◌≤◌, ◌⊎◌, inl, inr, refl, ◌∙◌, arith}
 use Rattle.flow_network.specs.Progress.{top}
 use Rattle.block_events.specs.States.{State}
-use Rattle.block_net.specs.Whole.{Whole, state_shown, whole_of}
+use Rattle.block_net.specs.Whole.{Whole, state_shown}
+use Rattle.block_opening.specs.Split.{whole_of}
 use Rattle.laid_blocks.specs.Views.{blocks_in}
 use Rattle.laid_blocks.proofs.Steps.{at_read, room_read, top_read}
 use Rattle.global_relabel.specs.Local.{GivesSink}
@@ -10,7 +11,6 @@ use Rattle.global_relabel.proofs.exactness.is_node_exact.Goals as goal
 
 pub is_label-requires : goal.is_label-requires
 is_label-requires c =
-    let w : Whole = whole_of c.args.split.now.net.now c.args.split.now.parts.now in
     omega (arith, c.sink_label-start.ensures.below, c.least_within-within.ensures.below, c.least_beyond-least.ensures.below, c.top.ensures.value)
 
 pub returns : goal.returns

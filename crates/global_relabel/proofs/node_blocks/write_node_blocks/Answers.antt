@@ -3,7 +3,8 @@ use Rattle.std.proofs.lemmas.List.{get_or_read}
 use Rattle.flow_network.specs.Cut.{nodes}
 use Rattle.block_events.specs.States.{State, block_of}
 use Rattle.block_net.specs.Views.{CellsView, count}
-use Rattle.block_net.specs.Whole.{block_at, whole_of}
+use Rattle.block_net.specs.Whole.{block_at}
+use Rattle.block_opening.specs.Split.{whole_of}
 use Rattle.laid_blocks.specs.Views.{blocks_in}
 use Rattle.laid_blocks.proofs.Steps.{at_read}
 use Rattle.global_relabel.proofs.Homing.{number_below, node_blocks_more}

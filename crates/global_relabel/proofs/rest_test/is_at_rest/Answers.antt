@@ -2,7 +2,8 @@ use Rattle.std.proofs.Common.{◌≡◌, ◌<◌, length, slice_index, refl, sym
 use Rattle.std.proofs.lemmas.Bool.{true≢false}
 use Rattle.std.proofs.lemmas.List.{get_or_read}
 use Rattle.block_net.specs.Views.{CellsView, count}
-use Rattle.block_net.specs.Whole.{block_at, whole_of}
+use Rattle.block_net.specs.Whole.{block_at}
+use Rattle.block_opening.specs.Split.{whole_of}
 use Rattle.laid_blocks.specs.Views.{blocks_in}
 use Rattle.laid_blocks.proofs.Steps.{at_read}
 use Rattle.global_relabel.specs.Rest.{IsAtRest}

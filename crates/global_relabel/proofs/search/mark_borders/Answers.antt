@@ -4,7 +4,8 @@ use Rattle.flow_network.specs.Progress.{top_label}
 use Rattle.sink_distances.specs.Search.{found_of}
 use Rattle.sink_distances.proofs.Order.{count-le-length}
 use Rattle.block_net.specs.Views.{CellsView, border_in}
-use Rattle.block_net.specs.Whole.{Whole, no_block, block_at, whole_of}
+use Rattle.block_net.specs.Whole.{Whole, no_block, block_at}
+use Rattle.block_opening.specs.Split.{whole_of}
 use Rattle.laid_blocks.specs.Views.{blocks_in}
 use Rattle.laid_blocks.proofs.Steps.{at_read}
 use Rattle.global_relabel.proofs.Places.{IsBorderEnd, border_at_place, border_place}
@@ -23,8 +24,6 @@ index-first-requires c =
     let found = border_at_place w b B u p at c.requires.spot j (omega (arith, c.loop-j.auto.j, c.border_range-range.ensures.first))
     (omega (arith, c.loop-j-test.true, c.border_range-range.ensures.end)) in
     let end : IsBorderEnd w c.border-border.result found.0 = rw c.border-border.ensures.value found.2 in
-    let to = c.border-border.result.to in
-    let o = c.border-border.result.opposite in
     omega (arith, end.block, c.requires.laid.placed.firsts_len)
 
 pub index-requires : goal.index-requires
@@ -39,8 +38,6 @@ index-requires c =
     let found = border_at_place w b B u p at c.requires.spot j (omega (arith, c.loop-j.auto.j, c.border_range-range.ensures.first))
     (omega (arith, c.loop-j-test.true, c.border_range-range.ensures.end)) in
     let end : IsBorderEnd w c.border-border.result found.0 = rw c.border-border.ensures.value found.2 in
-    let to = c.border-border.result.to in
-    let o = c.border-border.result.opposite in
     omega (arith, end.block)
 
 pub mark_border-count-requires-clause-place : goal.mark_border-count-requires-clause-place
@@ -56,11 +53,8 @@ mark_border-count-requires-clause-place c =
     (omega (arith, c.loop-j-test.true, c.border_range-range.ensures.end)) in
     let end : IsBorderEnd w c.border-border.result found.0 = rw c.border-border.ensures.value found.2 in
     let to = c.border-border.result.to in
-    let o = c.border-border.result.opposite in
     let there : block_at w to ≡ c.index.result.now = sym (get_or_read w.blocks to c.index.result.now end.block c.index.ensures no_block) in
     let count = ap (λ (q : CellsView). length q.borders) there in
-    let near = ap (λ (q : CellsView). (border_in q o).near) there in
-    let can = ap (λ (q : CellsView). (border_in q o).residual) there in
     omega (arith, end.back, count)
 
 pub mark_border-count-requires-clause-node : goal.mark_border-count-requires-clause-node
@@ -80,9 +74,7 @@ mark_border-count-requires-clause-node c =
     let first : c.index-first.result.now ≡ slice_index w.firsts to =
     get_or_read w.firsts to c.index-first.result.now (omega (arith, end.block, c.requires.laid.placed.firsts_len)) c.index-first.ensures 0 in
     let there : block_at w to ≡ c.index.result.now = sym (get_or_read w.blocks to c.index.result.now end.block c.index.ensures no_block) in
-    let count = ap (λ (q : CellsView). length q.borders) there in
     let near = ap (λ (q : CellsView). (border_in q o).near) there in
-    let can = ap (λ (q : CellsView). (border_in q o).residual) there in
     omega (arith, first, near, end.stands, end.node, c.requires.len, c.loop-j.invariant.grows.len)
 
 pub loop-j-init : goal.loop-j-init
@@ -113,7 +105,6 @@ loop-j-preserved c =
     let first : c.index-first.result.now ≡ slice_index w.firsts to =
     get_or_read w.firsts to c.index-first.result.now (omega (arith, end.block, c.requires.laid.placed.firsts_len)) c.index-first.ensures 0 in
     let there : block_at w to ≡ c.index.result.now = sym (get_or_read w.blocks to c.index.result.now end.block c.index.ensures no_block) in
-    let count = ap (λ (q : CellsView). length q.borders) there in
     let near = ap (λ (q : CellsView). (border_in q o).near) there in
     let can = ap (λ (q : CellsView). (border_in q o).residual) there in
     let fits : c.args.label ≤ top_label (length c.loop-j.labels) =

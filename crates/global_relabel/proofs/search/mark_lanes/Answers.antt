@@ -4,7 +4,8 @@ use Rattle.flow_network.specs.Progress.{top_label}
 use Rattle.sink_distances.specs.Search.{found_of}
 use Rattle.sink_distances.proofs.Order.{count-le-length}
 use Rattle.block_net.specs.Views.{lane_in}
-use Rattle.block_net.specs.Whole.{Whole, whole_of}
+use Rattle.block_net.specs.Whole.{Whole}
+use Rattle.block_opening.specs.Split.{whole_of}
 use Rattle.laid_blocks.specs.Views.{blocks_in}
 use Rattle.laid_blocks.proofs.Steps.{at_read}
 use Rattle.global_relabel.proofs.Places.{lane_at_place, lane_place}

@@ -2,7 +2,8 @@ use Rattle.std.proofs.Common.{◌≡◌, sym, ◌∙◌, refl, ap, subst, arith}
 use Rattle.std.proofs.lemmas.List.{get_or_read}
 use Rattle.block_events.specs.Directions.{IsDirection, near, far}
 use Rattle.block_events.proofs.Lanes.{near_opposite}
-use Rattle.block_net.specs.Whole.{Whole, whole_of}
+use Rattle.block_net.specs.Whole.{Whole}
+use Rattle.block_opening.specs.Split.{whole_of}
 use Rattle.laid_blocks.specs.Views.{blocks_in}
 use Rattle.laid_blocks.proofs.ByBlock.{far_read}
 use Rattle.laid_blocks.proofs.Steps.{at_read, node_below, label_read, top_read}

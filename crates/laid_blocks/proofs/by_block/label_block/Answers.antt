@@ -2,8 +2,9 @@ use Rattle.std.proofs.lemmas.Grind.{common_steps}
 use Rattle.std.proofs.Common.{◌≡◌, ◌≤◌, ◌+◌, ℕ, List, sym, ◌∙◌, ap, subst, refl, arith, length, slice_range, slice_index}
 use Rattle.std.proofs.lemmas.List.{get_or_default}
 use Rattle.block_net.specs.Views.{CellsView, count}
-use Rattle.block_net.specs.Whole.{Whole, block_at, put_block, whole_of}
-use Rattle.block_net.proofs.Spans.{length_range, range_at}
+use Rattle.block_net.specs.Whole.{Whole, block_at, put_block}
+use Rattle.block_opening.proofs.Spans.{length_range, range_at}
+use Rattle.block_opening.specs.Split.{whole_of}
 use Rattle.laid_blocks.specs.Views.{blocks_in}
 use Rattle.laid_blocks.specs.ByBlock.{HasLabelsInBlock}
 use Rattle.laid_blocks.proofs.Steps.{at_read, top_read}

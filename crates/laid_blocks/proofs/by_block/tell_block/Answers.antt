@@ -1,6 +1,7 @@
 use Rattle.std.proofs.Common.{◌≡◌, ap, subst, refl, arith, length}
 use Rattle.block_net.specs.Views.{CellsView}
-use Rattle.block_net.specs.Whole.{Whole, block_at, whole_of}
+use Rattle.block_net.specs.Whole.{Whole, block_at}
+use Rattle.block_opening.specs.Split.{whole_of}
 use Rattle.laid_blocks.specs.Views.{blocks_in}
 use Rattle.laid_blocks.specs.ByBlock.{IsTelling}
 use Rattle.laid_blocks.proofs.Steps.{at_read}

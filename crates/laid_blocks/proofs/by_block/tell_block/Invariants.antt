@@ -1,4 +1,4 @@
-use Rattle.block_net.specs.Whole.{whole_of}
+use Rattle.block_opening.specs.Split.{whole_of}
 use Rattle.laid_blocks.specs.ByBlock.{IsTelling}
 use Rattle.laid_blocks.proofs.by_block.tell_block.Given as goal
 

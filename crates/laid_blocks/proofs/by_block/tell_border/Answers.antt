@@ -1,7 +1,8 @@
 use Rattle.std.proofs.Common.{◌≡◌, sym, ◌∙◌, ap, subst, refl, slice_index}
 use Rattle.block_events.specs.Directions.{far}
 use Rattle.block_net.specs.Views.{CellsView, cells_with_known}
-use Rattle.block_net.specs.Whole.{Whole, block_at, put_block, whole_of}
+use Rattle.block_net.specs.Whole.{Whole, block_at, put_block}
+use Rattle.block_opening.specs.Split.{whole_of}
 use Rattle.laid_blocks.specs.Views.{IsLaid, blocks_in}
 use Rattle.laid_blocks.specs.ByBlock.{direction_at}
 use Rattle.laid_blocks.proofs.Steps.{at_read}

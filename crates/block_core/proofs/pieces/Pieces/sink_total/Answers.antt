@@ -1,6 +1,7 @@
 use Rattle.std.proofs.Common.{◌≡◌, ◌∙◌, ◌+◌, ◌≤◌, length, sum, ap, add-one, arith}
 use Rattle.sums.specs.Sums.{sum_below}
-use Rattle.block_net.specs.Whole.{Whole, whole_of}
+use Rattle.block_net.specs.Whole.{Whole}
+use Rattle.block_opening.specs.Split.{whole_of}
 use Rattle.block_core.specs.Pieces.{state_in, given_by}
 use Rattle.block_core.proofs.Given.{some_blocks, given_all}
 use Rattle.block_core.proofs.pieces.Pieces.sink_total.Goals as goal

@@ -1,6 +1,6 @@
 use Rattle.std.proofs.Common.{◌≡◌}
 use Rattle.sums.specs.Sums.{sum_below}
-use Rattle.block_net.specs.Whole.{whole_of}
+use Rattle.block_opening.specs.Split.{whole_of}
 use Rattle.block_core.specs.Pieces.{given_by}
 use Rattle.block_core.proofs.pieces.Pieces.sink_total.Given as goal
 

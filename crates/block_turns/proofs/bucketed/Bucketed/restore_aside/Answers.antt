@@ -1,5 +1,5 @@
 use Rattle.std.proofs.Common.{◌∙◌, ℕ, ap}
-use Rattle.block_net.specs.Standing.{with_node_in_row, bucket_of}
+use Rattle.node_buckets.specs.Standing.{with_node_in_row, bucket_of}
 use Rattle.block_turns.proofs.Placing.{put_stands}
 use Rattle.block_turns.proofs.bucketed.Bucketed.restore_aside.Goals as goal
 

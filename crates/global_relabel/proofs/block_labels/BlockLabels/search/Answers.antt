@@ -1,6 +1,7 @@
 use Rattle.std.proofs.Common.{rules, ℕ, ◌<◌, List, [], drop, length, replicate, subst, refl, sym, arith}
 use Rattle.block_net.specs.Views.{CellsView, count, room_in}
-use Rattle.block_net.specs.Whole.{Whole, block_at, whole_of}
+use Rattle.block_net.specs.Whole.{Whole, block_at}
+use Rattle.block_opening.specs.Split.{whole_of}
 use Rattle.laid_blocks.specs.Views.{blocks_in}
 use Rattle.laid_blocks.proofs.Steps.{at_read}
 use Rattle.sink_distances.specs.Search.{found_of}

@@ -2,7 +2,8 @@ use Rattle.std.proofs.Common.{rules, vec_len, ◌+◌, ◌<◌, ◌≤◌, ℕ, 
 use Rattle.std.proofs.lemmas.Bool.{cases_lt, true≢false}
 use Rattle.std.proofs.lemmas.List.Sorted.{All-permutation, IsPermutation-sym, IsNonDecreasingBy-from_sort_by_key}
 use Rattle.block_net.specs.Views.{border_in}
-use Rattle.block_net.specs.Whole.{Whole, block_at, whole_of}
+use Rattle.block_net.specs.Whole.{Whole, block_at}
+use Rattle.block_opening.specs.Split.{whole_of}
 use Rattle.global_relabel.specs.declared.block_labels.Offer.{Offer}
 use Rattle.global_relabel.specs.Lowering.{AreOffersMet, AreOffersTold, AreTight, ComeDown, IsLowerSomewhere, IsAboveTold, IsAllowedBy, IsOffered, far_number}
 use Rattle.global_relabel.proofs.Falling.{take_whole, tight_start, down_more, down_for}
@@ -65,7 +66,6 @@ returns-clause-down c =
 
 pub returns-clause-lower : goal.returns-clause-lower
 returns-clause-lower c =
-    let labels = c.list_offers-has_taken.new.labels in
     let new = c.spread.new.labels in
     let offers = c.list_offers-has_taken.new.offers.items in
     let sorted = c.sort_unstable_by_key.new.self.items in

@@ -7,7 +7,8 @@ use Rattle.block_events.specs.Directions.{opposite}
 use Rattle.block_events.specs.Soundness.{amount_out}
 use Rattle.block_events.proofs.Lanes.{border_opposite}
 use Rattle.block_net.specs.Views.{CellsView, border_in}
-use Rattle.block_net.specs.Whole.{Whole, put_block, is_outer, whole_of}
+use Rattle.block_net.specs.Whole.{Whole, put_block, is_outer}
+use Rattle.block_opening.specs.Split.{whole_of}
 use Rattle.block_events.specs.Effects.{blocks_after_accept}
 use Rattle.laid_blocks.specs.Views.{blocks_in, IsLaid, IsRow}
 use Rattle.laid_blocks.proofs.Steps.{at_read, border_read, border_capacity, row_as, back_spot, back_names, out_same, accepted_at}

@@ -1,6 +1,7 @@
 use Rattle.std.proofs.Common.{◌≡◌, min, slice_index, sym, ◌∙◌, ap, subst}
 use Rattle.block_net.specs.Views.{CellsView, excess_in, room_in}
-use Rattle.block_net.specs.Whole.{Whole, put_block, whole_of}
+use Rattle.block_net.specs.Whole.{Whole, put_block}
+use Rattle.block_opening.specs.Split.{whole_of}
 use Rattle.block_events.specs.Effects.{blocks_after_sink_push}
 use Rattle.laid_blocks.specs.Views.{blocks_in, IsLaid}
 use Rattle.laid_blocks.proofs.Steps.{at_read, given_amount, gave_at}

@@ -1,5 +1,6 @@
 use Rattle.std.proofs.Common.{◌∙◌, arith}
-use Rattle.block_net.specs.Whole.{Whole, whole_of}
+use Rattle.block_net.specs.Whole.{Whole}
+use Rattle.block_opening.specs.Split.{whole_of}
 use Rattle.laid_blocks.proofs.Steps.{at_read, label_read, top_read}
 use Rattle.laid_blocks.proofs.Opened.{laid_long}
 use Rattle.laid_blocks.proofs.blocks.Blocks.label.Goals as goal

@@ -1,6 +1,7 @@
 use Rattle.std.proofs.lemmas.Grind.{common_steps}
 use Rattle.std.proofs.Common.{true, false, sym, ◌∙◌, ap, arith}
-use Rattle.block_net.specs.Whole.{Whole, shown_lane, shown_border, whole_of}
+use Rattle.block_net.specs.Whole.{Whole, shown_lane, shown_border}
+use Rattle.block_opening.specs.Split.{whole_of}
 use Rattle.laid_blocks.proofs.Steps.{at_read, inner_read, border_read, row_as}
 use Rattle.laid_blocks.proofs.blocks.Blocks.lane.Goals as goal
 

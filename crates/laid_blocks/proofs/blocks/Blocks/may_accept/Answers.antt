@@ -3,7 +3,8 @@ use Rattle.block_events.specs.declared.direction.Direction.{Direction}
 use Rattle.block_events.specs.Directions.{opposite}
 use Rattle.block_events.proofs.Lanes.{border_opposite}
 use Rattle.block_net.specs.Views.{border_in}
-use Rattle.block_net.specs.Whole.{Whole, is_outer, whole_of}
+use Rattle.block_net.specs.Whole.{Whole, is_outer}
+use Rattle.block_opening.specs.Split.{whole_of}
 use Rattle.laid_blocks.specs.Views.{IsRow}
 use Rattle.laid_blocks.proofs.Steps.{at_read, label_read, row_as, back_spot}
 use Rattle.laid_blocks.proofs.blocks.Blocks.may_accept.Goals as goal

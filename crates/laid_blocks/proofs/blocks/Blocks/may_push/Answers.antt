@@ -1,6 +1,7 @@
 use Rattle.std.proofs.Common.{false, ap, arith}
 use Rattle.block_events.specs.declared.lane.Lane.{Lane}
-use Rattle.block_net.specs.Whole.{Whole, whole_of}
+use Rattle.block_net.specs.Whole.{Whole}
+use Rattle.block_opening.specs.Split.{whole_of}
 use Rattle.laid_blocks.proofs.Steps.{at_read, label_read, inner_read, row_as, spot_as, far_spot}
 use Rattle.laid_blocks.proofs.blocks.Blocks.may_push.Goals as goal
 

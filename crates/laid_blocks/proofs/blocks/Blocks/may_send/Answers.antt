@@ -1,6 +1,7 @@
 use Rattle.std.proofs.Common.{true, sym, ◌∙◌, ap, arith}
 use Rattle.block_events.specs.declared.lane.Lane.{Lane}
-use Rattle.block_net.specs.Whole.{Whole, whole_of}
+use Rattle.block_net.specs.Whole.{Whole}
+use Rattle.block_opening.specs.Split.{whole_of}
 use Rattle.laid_blocks.proofs.Steps.{at_read, label_read, border_read, row_as, spot_as}
 use Rattle.laid_blocks.proofs.blocks.Blocks.may_send.Goals as goal
 

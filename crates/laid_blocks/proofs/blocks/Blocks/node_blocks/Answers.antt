@@ -1,7 +1,7 @@
 use Rattle.std.proofs.lemmas.Grind.{common_steps}
 use Rattle.std.proofs.Common.{◌≡◌, ℕ, length, subst, arith}
 use Rattle.std.specs.Prelude.{IfOk}
-use Rattle.block_net.specs.Split.{node_blocks_made}
+use Rattle.block_opening.specs.Split.{node_blocks_made}
 use Rattle.block_events.specs.Effects.{BlocksView}
 use Rattle.laid_blocks.proofs.blocks.Blocks.node_blocks.Goals as goal
 

@@ -2,7 +2,8 @@ use Rattle.std.proofs.Common.{◌≡◌, false, min, slice_index, sym, ◌∙◌
 use Rattle.block_events.specs.Directions.{near}
 use Rattle.block_events.specs.States as core
 use Rattle.block_net.specs.Views.{CellsView, excess_in, lane_in}
-use Rattle.block_net.specs.Whole.{Whole, put_block, whole_of}
+use Rattle.block_net.specs.Whole.{Whole, put_block}
+use Rattle.block_opening.specs.Split.{whole_of}
 use Rattle.block_events.specs.Effects.{blocks_after_push}
 use Rattle.laid_blocks.specs.Views.{blocks_in, IsLaid}
 use Rattle.laid_blocks.proofs.Steps.{at_read, row_as, spot_as, pushed_amount, far_spot, back_row, far_other, pushed_at}

@@ -1,6 +1,7 @@
 use Rattle.std.proofs.Common.{◌≡◌, sym, subst}
 use Rattle.block_net.specs.Views.{CellsView}
-use Rattle.block_net.specs.Whole.{Whole, put_block, whole_of}
+use Rattle.block_net.specs.Whole.{Whole, put_block}
+use Rattle.block_opening.specs.Split.{whole_of}
 use Rattle.block_events.specs.Effects.{blocks_after_relabel}
 use Rattle.laid_blocks.specs.Views.{blocks_in, IsLaid}
 use Rattle.laid_blocks.proofs.Steps.{at_read, labelled_at}

@@ -1,5 +1,6 @@
 use Rattle.std.proofs.Common.{subst}
-use Rattle.block_net.specs.Whole.{Whole, whole_of}
+use Rattle.block_net.specs.Whole.{Whole}
+use Rattle.block_opening.specs.Split.{whole_of}
 use Rattle.block_events.specs.Effects.{BlocksView}
 use Rattle.laid_blocks.specs.Views.{blocks_in}
 use Rattle.laid_blocks.specs.ByBlock.{IsRelabelled}

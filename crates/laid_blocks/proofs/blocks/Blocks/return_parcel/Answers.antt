@@ -3,7 +3,8 @@ use Rattle.std.proofs.Common.{◌≡◌, true, sym, ap, subst, arith}
 use Rattle.block_events.specs.declared.lane.Lane.{Lane}
 use Rattle.block_events.specs.Soundness.{amount_out}
 use Rattle.block_net.specs.Views.{CellsView, border_in}
-use Rattle.block_net.specs.Whole.{Whole, put_block, whole_of}
+use Rattle.block_net.specs.Whole.{Whole, put_block}
+use Rattle.block_opening.specs.Split.{whole_of}
 use Rattle.block_events.specs.Effects.{blocks_after_return}
 use Rattle.laid_blocks.specs.Views.{blocks_in, IsLaid}
 use Rattle.laid_blocks.proofs.Steps.{at_read, top_read, border_read, row_as, border_spot, out_same, returned_at}

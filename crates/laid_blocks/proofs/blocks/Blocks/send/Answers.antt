@@ -4,7 +4,8 @@ use Rattle.block_events.specs.declared.lane.Lane.{Lane}
 use Rattle.block_events.specs.Directions.{near}
 use Rattle.block_events.specs.States as core
 use Rattle.block_net.specs.Views.{CellsView, excess_in, border_in}
-use Rattle.block_net.specs.Whole.{Whole, put_block, whole_of}
+use Rattle.block_net.specs.Whole.{Whole, put_block}
+use Rattle.block_opening.specs.Split.{whole_of}
 use Rattle.block_events.specs.Effects.{blocks_after_send}
 use Rattle.laid_blocks.specs.Views.{blocks_in, IsLaid}
 use Rattle.laid_blocks.proofs.Steps.{at_read, border_read, row_as, spot_as, sent_amount, sent_parcel, sent_at}

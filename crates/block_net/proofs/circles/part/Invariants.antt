@@ -1,5 +1,0 @@
-use Rattle.std.proofs.Common.{ℕ, ◌≡◌, ◌<◌, slice_index}
-use Rattle.block_net.proofs.circles.part.Given as goal
-
-abbrev pub invariant-loop-place : goal.invariant-loop-place
-invariant-loop-place l = (x : ℕ) → x < l.place → slice_index l.places x ≡ x

@@ -1,6 +1,0 @@
-use Rattle.block_net.proofs.Linking.{unlinked_circles}
-use Rattle.block_net.proofs.circles.relink.Goals as goal
-
-pub link-requires-clause-circles : goal.link-requires-clause-circles
-link-requires-clause-circles c =
-    rw (c.unlink.ensures.next, c.unlink.ensures.prev) (unlinked_circles c.args.next.now c.args.prev.now c.args.place c.requires.place c.requires.circles)

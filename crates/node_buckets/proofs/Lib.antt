@@ -1,0 +1,2 @@
+mod Linking
+mod Moving
