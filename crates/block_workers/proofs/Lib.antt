@@ -3,3 +3,4 @@ pub mod Looking
 pub mod Working
 pub mod Passing
 pub mod Places
+pub mod RingEnds

@@ -1,3 +1,4 @@
+pub mod RingEnds
 pub mod Ports
 pub mod Seeing
 pub mod Ends

@@ -1,12 +1,13 @@
 //! Two rings between two blocks, and what is left in them at the end.
-ghost use Rattle.std.specs.Prelude.{◌≡◌, ◌≤◌, ◌++◌, IfOk, length, vec_len, vec_capacity};
-ghost use Rattle.block_workers.specs.Ports.{IsNewPort, LeadsTo, Looks, TakesAll, capacity};
+ghost use Rattle.std.specs.Prelude.{◌≡◌, ◌≤◌, ◌++◌, IfOk, IfNone, IfSome, length};
+ghost use Rattle.std.specs.Prelude.{vec_len, vec_capacity};
+ghost use Rattle.block_workers.specs.Ports.{CanServeRound, IsNewPort, LeadsTo, Looks, TakesAll};
+ghost use Rattle.block_workers.specs.Ports.{capacity, other};
 ghost use Rattle.block_workers.specs.Ports.{letters_put, letters_taken, letters_waiting};
 
 use crate::port::Port;
-use crate::rule::Fair;
+use crate::ring_end::Inlet;
 use block_turns::Letter;
-use rtrb::RingBuffer;
 use std::alloc::{AllocError, Global};
 
 /// Two new rings, one each way between two blocks, with room for so many letters each; the port of
@@ -22,8 +23,8 @@ pub fn join_blocks(
     ensures there { IfOk result (λ ports. LeadsTo ports.0 ports.1) }
     ensures back { IfOk result (λ ports. LeadsTo ports.1 ports.0) }
 {
-    let (to_second, from_first) = RingBuffer::with_protocol::<Global, Fair>(alloc, ring)?;
-    let (to_first, from_second) = RingBuffer::with_protocol::<Global, Fair>(alloc, ring)?;
+    let (to_second, from_first) = Inlet::join(alloc, ring)?;
+    let (to_first, from_second) = Inlet::join(alloc, ring)?;
     let first_port = Port {
         other: second,
         to_ring: to_second,
@@ -37,6 +38,28 @@ pub fn join_blocks(
     Ok((first_port, second_port))
 }
 
+/// The ports of two blocks to one another, for a new round, with the rings that they have: exactly
+/// where both are empty, have room for so many letters, and so many more can be counted. Takes no
+/// memory.
+pub fn join_again(first: Port, second: Port, ring: usize) -> Option<(Port, Port)>
+    requires there { LeadsTo first second }
+    requires back { LeadsTo second first }
+    ensures first { IfSome result (λ ports. IsNewPort (other first) ring ports.0) }
+    ensures second { IfSome result (λ ports. IsNewPort (other second) ring ports.1) }
+    ensures there { IfSome result (λ ports. LeadsTo ports.0 ports.1) }
+    ensures back { IfSome result (λ ports. LeadsTo ports.1 ports.0) }
+    ensures refused { IfNone result (CanServeRound ring first second
+        → CanServeRound ring second first → ⊥) }
+{
+    let (mut first, mut second) = (first, second);
+    if second.from_ring.begin(&mut first.to_ring, ring)
+        && first.from_ring.begin(&mut second.to_ring, ring)
+    {
+        return Some((first, second));
+    }
+    None
+}
+
 /// Looks at what is left in the ring from one port to another, once neither is in use elsewhere:
 /// how many letters wait there. What was put is then what was taken, followed by what was seen.
 /// Takes no memory.
@@ -48,8 +71,7 @@ pub fn see_left(from: &mut Port, to: &mut Port) -> usize
     ensures from { Looks from.old from.new }
     ensures to { Looks to.old to.new }
 {
-    from.to_ring.slots_beside(&mut to.from_ring);
-    to.from_ring.slots_beside(&mut from.to_ring)
+    to.from_ring.see_left(&mut from.to_ring)
 }
 
 /// Takes all that is left in the ring from one port to another into a list with room for a full
@@ -64,6 +86,6 @@ pub fn take_left(from: &mut Port, to: &mut Port, left: &mut Vec<Letter>)
 {
     let count = see_left(from, to);
     for _ in 0..count {
-        left.push_reserved(to.from_ring.pop_known());
+        left.push_reserved(to.from_ring.take());
     }
 }

@@ -2,17 +2,15 @@
 ghost use Rattle.std.specs.Prelude.{◌≡◌, ◌<◌, ◌↔◌, IsSome, IsTrue};
 ghost use Rattle.block_events.specs.Workers.{IsFair};
 
-use crate::rule::Fair;
+use crate::ring_end::{Inlet, Outlet};
 use block_turns::Letter;
-use rtrb::{Consumer, Producer};
-use std::alloc::Global;
 
 /// A block's ends of the rings to and from another block.
 #[derive(Drop)]
 pub struct Port {
     pub(crate) other: u32,
-    pub(crate) to_ring: Producer<Letter, Global, Fair>,
-    pub(crate) from_ring: Consumer<Letter, Global, Fair>,
+    pub(crate) to_ring: Inlet,
+    pub(crate) from_ring: Outlet,
 }
 
 impl Port {
@@ -31,7 +29,7 @@ impl Port {
         ensures look { Looks self.old self.new }
         ensures value { IsTrue result ↔ (0 < free self.new) }
     {
-        self.to_ring.slots() > 0
+        self.to_ring.has_room()
     }
 
     /// Puts a letter, for which room was seen. Takes no memory.
@@ -40,7 +38,7 @@ impl Port {
         requires fair { IsFair letter.message }
         ensures { PutsLetter letter self.old self.new }
     {
-        self.to_ring.push_reserved(letter);
+        self.to_ring.put(letter);
     }
 
     /// The letter that is to be taken next, where one is seen. One may have come by now where none
@@ -49,10 +47,7 @@ impl Port {
         ensures look { Looks self.old self.new }
         ensures value { result ≡ first self.new }
     {
-        if self.from_ring.slots() == 0 {
-            return None;
-        }
-        Some(*self.from_ring.peek_known())
+        self.from_ring.front()
     }
 
     /// Takes the letter in front, which was seen there. Takes no memory.
@@ -61,6 +56,6 @@ impl Port {
         ensures taken { TakesLetter result self.old self.new }
         ensures fair { IsFair result.message }
     {
-        self.from_ring.pop_known()
+        self.from_ring.take()
     }
 }

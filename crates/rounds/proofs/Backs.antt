@@ -162,7 +162,7 @@ module _ (blocks : List CellsView) (ring : ℕ) (ends : List Ends) (old new : Li
       let most = through_most ring (λ (p : Port). capacity p) (port_to lists' b c) (λ p' is.
       let back = alike_back (port_to lists b c) (port_to lists' b c) p' (alike b c) is in
       let was = (fresh_ports b c back.0 back.1).capacity in
-      let same = back.2.to_ring.1 in
+      let same = back.2.to_ring.0.1 in
       omega (arith, was, same)) in
       subst (λ k. k ≤ ring) (sym (read_through 0 (λ (p : Port). capacity p) (get_or lists' b []) c)) most
 

@@ -1,6 +1,7 @@
 pub mod Pairs
 pub mod Pushing
 pub mod Joining
+pub mod Keeping
 pub mod Scanning
 pub mod Dealing
 pub mod Filling

@@ -1,11 +1,14 @@
 -- A message more leaves a ring for its way.
-use Rattle.std.proofs.Common.{◌≡◌, ℕ, suc, ◌+◌, ◌<◌, List, [], ◌∷◌, ◌++◌, length, set, get_or, sym, ◌∙◌, ap, subst, arith, get_or-set_same}
+use Rattle.std.proofs.Common.{◌≡◌, ℕ, suc, ◌+◌, ◌<◌, List, [], ◌∷◌, ◌++◌, length, set, get_or, slice_get, IsSome, refl, sym, ◌∙◌, ap, subst, arith, get_or-set_same}
 use Rattle.std.proofs.lemmas.List.{append-nil, map-append, nil_from_length, set-set, append_assoc, length_push}
+use Rattle.std.proofs.lemmas.Grind.{common_steps}
 use Rattle.block_events.specs.declared.message.Message.{Message}
 use Rattle.block_events.specs.States.{way_at, put_way, put_message}
 use Rattle.block_events.specs.Soundness.{IsSquare}
 use Rattle.block_events.proofs.Ways.{way_same, way_other, square_put}
 use Rattle.block_turns.specs.declared.letter.Letter.{Letter}
+use Rattle.block_workers.specs.declared.port.Port.{Port}
+use Rattle.block_workers.specs.Ports.{IsSamePort}
 use Rattle.block_workers.specs.Seeing.{messages}
 use Rattle.rounds.specs.Left.{AreKeptByWays, rest_of}
 use Rattle.rounds.proofs.Leaving.{rest_is}
@@ -61,3 +64,28 @@ moved_all first new b c rest all sent taken kept left none is =
 pub way_back : (first new : List (List (List Message))) (b c : ℕ) (way : List Message) → IsSquare (length first) first → b < length first → (c ≡ b → ⊥) → new ≡ put_way first b c way
     → way_at new c b ≡ way_at first c b
 way_back first new b c way sq low off is = ap (λ (ways : List (List (List Message))). way_at ways c b) is ∙ way_other (length first) first b c way c b sq low (λ e f. off e)
+
+-- a letter that was taken no longer waits
+pub taken_on : (taken taken' waiting waiting' all : List Letter) (l : Letter) → taken' ≡ taken ++ l ∷ [] → waiting ≡ l ∷ waiting' → taken ++ waiting ≡ all → taken' ++ waiting' ≡ all
+taken_on taken taken' waiting waiting' all l more front before =
+    ap (λ (t : List Letter). t ++ waiting') more ∙ (append_assoc taken (l ∷ []) waiting' ∙ (ap (λ (w : List Letter). taken ++ w) (sym front) ∙ before))
+
+-- where nothing waits, what was put was taken
+pub all_out : (put put' first taken taken' seen waiting : List Letter) → put' ≡ put → put ≡ first ++ seen → taken ≡ first → taken' ++ waiting ≡ taken ++ seen → length waiting ≡ 0 → put' ≡ taken'
+all_out put put' first taken taken' seen waiting same left is all none =
+    same
+    ∙ (left
+    ∙ (ap (λ (t : List Letter). t ++ seen) (sym is)
+    ∙ (sym all ∙ (ap (λ (w : List Letter). taken' ++ w) (nil_from_length waiting none) ∙ append-nil taken'))))
+
+-- what is left of what was put
+pub left_is : (put taken seen : List Letter) → put ≡ taken ++ seen → rest_of (messages put) (messages taken) ≡ messages seen
+left_is put taken seen all =
+    rest_is (messages put) (messages taken) (messages seen) (ap (λ (l : List Letter). messages l) all ∙ map-append (λ (l : Letter). l.message) taken seen)
+
+pub some_first : (letters : List Letter) → 0 < length letters → IsSome (slice_get letters 0)
+some_first [] some = absurd (omega (arith, some))
+some_first (l ∷ letters) some = grind (arith, common_steps)
+
+pub same_port : (p : Port) → IsSamePort p p
+same_port p = record { to_ring = grind (arith, common_steps); from_ring = grind (arith, common_steps); other = refl }

@@ -23,9 +23,9 @@ pub record IsPaired (p : Port) (other : Option Port) : Type 0 where
   pub there : LeadsTo p mate
   pub back : LeadsTo mate p
 
--- of each block the ports to others: new ends of rings, by rising numbers of the others, joined in
--- pairs, one to each other block to which a direction of the block leads or from which one leads to
--- it, and no more
+-- of each block the ports to others: ends of empty rings, by rising numbers of the others, joined
+-- in pairs, one to each other block to which a direction of the block leads or from which one leads
+-- to it, and no more
 pub record AreJoined (ring : ℕ) (cells : List CellsView) (lists : List (List Port)) : Type 0 where
   pub len : length lists ≡ length cells
   pub rising : (b : ℕ) → AreRising (length cells) (slice_index_or lists b [])

@@ -8,7 +8,7 @@ use Rattle.block_workers.specs.Ports.{IsNewPort, LeadsTo}
 use Rattle.block_workers.specs.Seeing.{AreRising}
 use Rattle.rounds.specs.Joined.{port_to, IsPaired, BordersOn}
 
--- blocks b and c have a port to one another more, the ends of new rings
+-- blocks b and c have a port to one another more, the ends of empty rings
 pub record HasPair (ring b c : ℕ) (old new : List (List Port)) : Type 0 where
   pub first : Port
   pub second : Port

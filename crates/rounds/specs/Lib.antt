@@ -9,6 +9,7 @@ pub mod Mated
 pub mod Left
 pub mod Links
 pub mod Draining
+pub mod Kept
 pub mod Pairing
 pub mod PartCounts
 pub mod Seated

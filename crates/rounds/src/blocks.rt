@@ -11,7 +11,7 @@ use crate::join::join_by;
 use crate::round_space::{Came, Space, gather_seats};
 use crate::round_work::{Shares, work_on};
 use crate::seats::seats_of;
-use crate::stock::{Piles, Stock};
+use crate::stock::Stock;
 use block_net::Cells;
 use block_workers::{Job, RoundError, Seat, TurnBook};
 use std::alloc::{AllocError, Global};
@@ -27,11 +27,11 @@ pub(crate) struct Blanks {
     pub(crate) drawn: Blank,
 }
 
-/// The blocks before their first turn, with rings between them, and lists of these piles. The only
-/// error is that memory runs out.
+/// The blocks before their first turn, with rings between them, and lists and rings of a stock. The
+/// only error is that memory runs out.
 fn seats_for(
     alloc: Global,
-    piles: &mut Piles,
+    stock: &mut Stock,
     blocks: Vec<Cells>,
     ring: usize,
 ) -> Result<Vec<Seat>, AllocError>
@@ -42,13 +42,13 @@ fn seats_for(
     ensures joined { IfOk result
         (λ seats. AreJoined ring blocks.items (ports_of (ends_of_seats seats.items))) }
 {
-    let ends = join_by(alloc, piles, blocks.as_slice(), ring)?;
-    seats_of(alloc, &mut piles.others, blocks, ends)
+    let ends = join_by(alloc, stock, blocks.as_slice(), ring)?;
+    seats_of(alloc, &mut stock.piles.others, blocks, ends)
 }
 
 /// The blocks are moved to workers, which do their turns, and come back. All growths come before
-/// the first worker starts. Each blank becomes one of the ledgers of the turns. The lists of the
-/// stock serve.
+/// the first worker starts. Each blank becomes one of the ledgers of the turns. The lists and
+/// rings of the stock serve.
 pub(crate) fn run_blocks<J: Job + Sync, R: Threads + Wait + Sync, G: Gate>(
     rt: &R,
     alloc: Global,
@@ -74,7 +74,7 @@ pub(crate) fn run_blocks<J: Job + Sync, R: Threads + Wait + Sync, G: Gate>(
     let Blanks { budget, drawn } = blanks;
     let mut stock = stock;
     let count = blocks.len();
-    let seats = seats_for(alloc, &mut stock.piles, blocks, options.ring as usize)?;
+    let seats = seats_for(alloc, &mut stock, blocks, options.ring as usize)?;
     let space = Space::new(alloc, count, stock)?;
     let (book, whole, share) = TurnBook::<J>::new(
         alloc,

@@ -6,16 +6,20 @@ ghost use Rattle.block_workers.specs.Seeing.{AreRising};
 ghost use Rattle.rounds.specs.Joined.{AreJoined};
 ghost use Rattle.rounds.specs.Joining.{AreBegun, AreSquare, HasPair};
 
+use crate::kept_rings::ports_between;
 use crate::linked_blocks::{all_scanned, are_linked};
+use crate::pair::PortPair;
 use crate::pile::Pile;
-use crate::stock::Piles;
+use crate::stock::Stock;
 use block_net::Cells;
-use block_workers::{Ends, Port, join_blocks};
+use block_workers::{Ends, Port};
 use std::alloc::{AllocError, Global};
 
-/// Two blocks get rings to one another: each a port more. The only error is that memory runs out.
+/// Two blocks get rings to one another, of the kept ones or new: each a port more. The only error
+/// is that memory runs out.
 fn join_two(
     alloc: Global,
+    kept: &mut Vec<PortPair>,
     lists: &mut Vec<Vec<Port>>,
     b: u32,
     c: u32,
@@ -26,7 +30,7 @@ fn join_two(
     ensures { OnOk result (HasPair ring b c (map (λ l. l.items) lists.old.items)
         (map (λ l. l.items) lists.new.items)) }
 {
-    let (first, second) = join_blocks(alloc, b, c, ring)?;
+    let (first, second) = ports_between(alloc, kept, b, c, ring)?;
     lists[b as usize].push(first)?;
     lists[c as usize].push(second)?;
     Ok(())
@@ -35,6 +39,7 @@ fn join_two(
 /// Block b gets rings to those blocks after it to which or from which a direction of it leads.
 fn join_row(
     alloc: Global,
+    kept: &mut Vec<PortPair>,
     rows: &Vec<Vec<bool>>,
     lists: &mut Vec<Vec<Port>>,
     b: u32,
@@ -51,7 +56,7 @@ fn join_row(
 {
     for c in b + 1..rows.len() as u32 {
         if are_linked(rows, b as usize, c as usize) {
-            join_two(alloc, lists, b, c, ring)?;
+            join_two(alloc, kept, lists, b, c, ring)?;
         }
     }
     Ok(())
@@ -72,10 +77,11 @@ fn empty_lists(
     Ok(lists)
 }
 
-/// The ports of all blocks: two rings for each two between which a direction leads.
+/// The ports of all blocks: two rings for each two between which a direction leads. The lists and
+/// what rings serve again are of the stock.
 fn join_rows(
     alloc: Global,
-    pile: &mut Pile<Port>,
+    stock: &mut Stock,
     rows: &Vec<Vec<bool>>,
     ring: usize,
 ) -> Result<Vec<Vec<Port>>, AllocError>
@@ -85,9 +91,9 @@ fn join_rows(
         AreBegun ring blocks blocks (blocks + 1) (map (λ row. row.items) rows.now.items)
         (map (λ l. l.items) lists.items)) }
 {
-    let mut lists = empty_lists(alloc, pile, rows.len())?;
+    let mut lists = empty_lists(alloc, &mut stock.piles.ports, rows.len())?;
     for b in 0..rows.len() as u32 {
-        join_row(alloc, rows, &mut lists, b, ring)?;
+        join_row(alloc, &mut stock.pairs, rows, &mut lists, b, ring)?;
     }
     Ok(lists)
 }
@@ -120,7 +126,7 @@ pub fn join_all(alloc: Global, cells: &[Cells], ring: usize) -> Result<Vec<Ends>
     requires { length cells.now < 2 ^ 32 }
     ensures { IfOk result (λ ends. AreJoined ring cells.now (map (λ e. ports e) ends.items)) }
 {
-    join_by(alloc, &mut Piles::none(alloc), cells, ring)
+    join_by(alloc, &mut Stock::none(alloc), cells, ring)
 }
 
 /// The lists of flags go to their pile. Takes no memory.
@@ -130,19 +136,19 @@ fn keep_flags(pile: &mut Pile<bool>, rows: Vec<Vec<bool>>) {
     }
 }
 
-/// The same by lists of these piles.
+/// The same by lists and rings of a stock.
 pub(crate) fn join_by(
     alloc: Global,
-    piles: &mut Piles,
+    stock: &mut Stock,
     cells: &[Cells],
     ring: usize,
 ) -> Result<Vec<Ends>, AllocError>
     requires { length cells.now < 2 ^ 32 }
     ensures { IfOk result (λ ends. AreJoined ring cells.now (map (λ e. ports e) ends.items)) }
 {
-    let rows = all_scanned(alloc, &mut piles.flags, cells)?;
-    let lists = join_rows(alloc, &mut piles.ports, &rows, ring)?;
-    let ends = ends_of(alloc, &mut piles.places, lists, cells.len() as u32)?;
-    keep_flags(&mut piles.flags, rows);
+    let rows = all_scanned(alloc, &mut stock.piles.flags, cells)?;
+    let lists = join_rows(alloc, stock, &rows, ring)?;
+    let ends = ends_of(alloc, &mut stock.piles.places, lists, cells.len() as u32)?;
+    keep_flags(&mut stock.piles.flags, rows);
     Ok(ends)
 }

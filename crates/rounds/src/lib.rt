@@ -17,6 +17,7 @@ mod final_state;
 mod gates;
 mod hands;
 mod join;
+mod kept_rings;
 pub mod laws;
 mod linked_blocks;
 mod pair;

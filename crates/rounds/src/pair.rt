@@ -8,7 +8,7 @@ ghost use Rattle.block_workers.specs.Seeing.{messages};
 ghost use Rattle.rounds.specs.Left.{AreKeptByWays, rest_of};
 
 use block_core::AllWays;
-use block_workers::{Port, see_left};
+use block_workers::{Port, join_again, see_left};
 
 /// Two blocks' ports to one another: what the one puts the other takes.
 #[derive(Drop)]
@@ -38,6 +38,7 @@ fn move_left(from: &mut Port, to: &mut Port, ways: &mut AllWays, b: usize, c: us
     ensures from { Looks from.old from.new }
     ensures to { IsSamePort to.old to.new }
     ensures put { letters_put to.new ≡ letters_put to.old }
+    ensures drained { letters_put from.new ≡ letters_taken to.new }
 {
     let count = see_left(from, to);
     for _ in 0..count {
@@ -46,8 +47,33 @@ fn move_left(from: &mut Port, to: &mut Port, ways: &mut AllWays, b: usize, c: us
 }
 
 impl PortPair {
+    ghost use Rattle.std.specs.Prelude.{◌↔◌, IfNone, IfSome, IsTrue};
+    ghost use Rattle.block_workers.specs.Ports.{IsNewPort};
+    ghost use Rattle.rounds.specs.Kept.{CanServePair, IsOfBlocks, IsDrained};
     ghost use Rattle.rounds.specs.Links.{IsLinkSeen, link};
     ghost use Rattle.rounds.specs.Draining.{IsFitting, ways_after_drain};
+
+    /// Whether it is the pair of block b and a block c of a higher number.
+    pub(crate) fn is_of_blocks(&self, b: u32, c: u32) -> bool
+        ensures { IsTrue result ↔ IsOfBlocks b c self.now }
+    {
+        self.first.other() == b && self.second.other() == c
+    }
+
+    /// The two ports for a new round of block b and a block c of a higher number, first that of
+    /// block b: exactly where the pair is theirs, and its rings can serve. Takes no memory.
+    pub(crate) fn again(self, b: u32, c: u32, ring: usize) -> Option<(Port, Port)>
+        ensures first { IfSome result (λ ports. IsNewPort c ring ports.0) }
+        ensures second { IfSome result (λ ports. IsNewPort b ring ports.1) }
+        ensures there { IfSome result (λ ports. LeadsTo ports.0 ports.1) }
+        ensures back { IfSome result (λ ports. LeadsTo ports.1 ports.0) }
+        ensures refused { IfNone result (IsOfBlocks b c self → CanServePair ring self → ⊥) }
+    {
+        if !self.is_of_blocks(b, c) {
+            return None;
+        }
+        join_again(self.second, self.first, ring)
+    }
 
     /// Looks at what is left in both rings. Takes no memory.
     pub(crate) fn see(&mut self)
@@ -67,6 +93,7 @@ impl PortPair {
         requires room { IsFitting ways.old.rooms ways.old.messages (link self.old) }
         ensures messages { ways.new.messages ≡ ways_after_drain (link self.old) ways.old.messages }
         ensures rooms { ways.new.rooms ≡ ways.old.rooms }
+        ensures drained { IsDrained self.new }
     {
         let b = self.second.other() as usize;
         let c = self.first.other() as usize;

@@ -6,6 +6,7 @@ ghost use Rattle.rounds.specs.Left.{AreWaysEmpty, AreFitting, AreLeft, HaveRoomF
 ghost use Rattle.rounds.specs.Links.{AreLinks, AreWithinRoom, IsLinkSeen, links_of, ring_room};
 ghost use Rattle.rounds.specs.Links.{sent_in, taken_in};
 ghost use Rattle.rounds.specs.Draining.{AreDraining, HaveRoom};
+ghost use Rattle.rounds.specs.Kept.{IsDrained};
 
 use crate::pair::PortPair;
 use crate::pile::Pile;
@@ -50,6 +51,7 @@ fn drain_all(pairs: &mut Vec<PortPair>, ways: &mut AllWays)
     ensures messages { AreDraining (length ways.old.messages) (links_of pairs.old.items) []
         ways.new.messages }
     ensures rooms { ways.new.rooms ≡ ways.old.rooms }
+    ensures drained { All IsDrained pairs.new.items }
 {
     let count = pairs.len();
     for k in 0..count {
@@ -102,7 +104,8 @@ impl Rings {
     }
 
     /// What is left in the rings goes to the ways, which are empty and have room for it: on each
-    /// way no more messages than the ring had room for. Takes no memory, and answers the rings.
+    /// way no more messages than the ring had room for. Takes no memory, and answers the
+    /// rings, which are empty.
     pub(crate) fn drain(mut self, ways: &mut AllWays) -> Vec<PortPair>
         requires square { IsSquare self.blocks ways.old.messages }
         requires empty { AreWaysEmpty self.blocks ways.old.messages }
@@ -111,6 +114,7 @@ impl Rings {
         ensures left { AreLeft self.blocks (sent_in self) (taken_in self) ways.new.messages }
         ensures few { HaveRoomFor self.blocks (ring_room self) ways.new.messages }
         ensures rooms { ways.new.rooms ≡ ways.old.rooms }
+        ensures drained { All IsDrained result.items }
     {
         self.see();
         let mut pairs = self.pairs;

@@ -2,11 +2,11 @@
 ghost use Rattle.std.specs.Prelude.{◌≡◌};
 ghost use Rattle.laid_blocks.specs.Views.{IsLaid};
 ghost use Rattle.block_core.specs.AllWays.{IsHeld};
-ghost use Rattle.block_net.specs.Whole.{whole_of};
+ghost use Rattle.block_opening.specs.Split.{whole_of};
 ghost use Rattle.rounds.specs.Together.{gathered_state};
 
 use block_core::{AllWays, Pieces, State};
-use block_net::Parts;
+use block_opening::Parts;
 use flow_network::Net;
 
 /// The state that the blocks show with the messages on the way. What the sink got is what the rooms

@@ -14,7 +14,8 @@ pub(crate) struct Piles {
     pub(crate) others: Pile<u32>,
 }
 
-/// What a round leaves for the next: lists, which serve for their room.
+/// What a round leaves for the next: its rings, which are empty, and lists, which serve for their
+/// room.
 #[derive(Drop)]
 pub(crate) struct Stock {
     pub(crate) pairs: Vec<PortPair>,

@@ -2,7 +2,7 @@ use Rattle.std.proofs.Common.{◌≡◌, ◌+◌, ◌≤◌, ◌++◌, length}
 use Rattle.block_events.specs.States.{way_at, put_way}
 use Rattle.block_events.specs.Soundness.{IsSquare}
 use Rattle.block_core.specs.AllWays.{room_at}
-use Rattle.block_workers.specs.Ports.{IsSamePort, letters_put, letters_waiting}
+use Rattle.block_workers.specs.Ports.{IsSamePort, letters_put, letters_taken, letters_waiting}
 use Rattle.block_workers.specs.Seeing.{messages}
 use Rattle.rounds.specs.Left.{AreKeptByWays}
 use Rattle.rounds.proofs.pair.move_left.Given as goal
@@ -19,4 +19,5 @@ invariant-loop l = record {
   arcs : AreKeptByWays (messages (letters_waiting l.to));
   same : IsSamePort l.initial.to l.to;
   put : letters_put l.to ≡ letters_put l.initial.to;
+  all : letters_taken l.to ++ letters_waiting l.to ≡ letters_taken l.initial.to ++ letters_waiting l.initial.to;
 }

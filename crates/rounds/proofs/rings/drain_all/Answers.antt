@@ -1,10 +1,11 @@
-use Rattle.std.proofs.Common.{◌≡◌, ◌+◌, ◌<◌, ◌∷◌, List, length, map, drop, sym, ◌∙◌, subst, arith}
+use Rattle.std.proofs.Common.{◌+◌, ◌<◌, List, length, map, drop, sym, ◌∙◌, subst, arith}
 use Rattle.std.proofs.lemmas.Grind.{common_steps}
 use Rattle.block_events.specs.declared.message.Message.{Message}
 use Rattle.rounds.specs.declared.pair.PortPair.{PortPair}
 use Rattle.rounds.specs.Links.{Link, link, AreLinks}
-use Rattle.rounds.specs.Draining.{AreDraining, HaveRoom}
+use Rattle.rounds.specs.Draining.{AreDraining}
 use Rattle.rounds.proofs.Draining.{fitting, draining_more}
+use Rattle.rounds.proofs.Keeping.{drained_more}
 use Rattle.rounds.proofs.Seeing.{links_from, links_behind, same_behind}
 use Rattle.rounds.proofs.rings.drain_all.Goals as goal
 
@@ -54,4 +55,5 @@ loop-k-preserved c =
           (draining_more n c.args.ways.now.rooms first (drop (k + 1) (links now)) (link p) c.loop-k.ways.messages
           (subst (λ (ls : List Link). AreDraining n first ls c.loop-k.ways.messages) (links_from now k p low c.index_mut.ensures.value) was.draining)));
       rooms = c.drain.ensures.rooms ∙ was.rooms;
+      drained = drained_more now k c.drain.new.self low c.drain.ensures.drained was.drained;
     }

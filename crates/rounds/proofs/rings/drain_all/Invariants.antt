@@ -1,5 +1,7 @@
-use Rattle.std.proofs.Common.{◌≡◌, length, map, drop}
+use Rattle.std.proofs.Common.{◌≡◌, ℕ, ◌<◌, length, map, drop, get_or}
+use Rattle.rounds.specs.declared.pair.PortPair.{PortPair}
 use Rattle.rounds.specs.Links.{link}
+use Rattle.rounds.specs.Kept.{IsDrained}
 use Rattle.rounds.specs.Draining.{AreDraining}
 use Rattle.rounds.proofs.rings.drain_all.Given as goal
 
@@ -9,4 +11,5 @@ invariant-loop-k l = record {
   long : length l.pairs.items ≡ length l.initial.pairs.items;
   draining : AreDraining (length l.initial.ways.messages) (map (λ p. link p) l.initial.pairs.items) (drop l.k (map (λ p. link p) l.pairs.items)) l.ways.messages;
   rooms : l.ways.rooms ≡ l.initial.ways.rooms;
+  drained : (i : ℕ) (d : PortPair) → i < l.k → IsDrained (get_or l.pairs.items i d);
 }

@@ -1,4 +1,4 @@
-use Rattle.std.proofs.Common.{List, sym, ap, subst}
+use Rattle.std.proofs.Common.{List, sym, ◌∙◌, ap, subst}
 use Rattle.block_turns.specs.declared.letter.Letter.{Letter}
 use Rattle.block_workers.specs.Ports.{letters_put, letters_taken}
 use Rattle.block_workers.specs.Seeing.{messages}
@@ -32,3 +32,9 @@ returns-clause-messages c =
     let one = c.move_left.ensures in
     second_drained (link c.args.self.now) c.args.ways.now.messages c.move_left.new.ways.messages c.other-b.result c.other-c.result _ _ was.square was.order was.blocks
     c.other-b.ensures c.other-c.ensures (ap (λ ls. messages ls) one.put) (ap (λ ls. messages ls) one.from.taken) one.messages _ c.move_left-2.ensures.messages
+
+pub returns-clause-drained : goal.returns-clause-drained
+returns-clause-drained c =
+    let one = c.move_left.ensures in
+    let two = c.move_left-2.ensures in
+    record { down = two.put ∙ (one.drained ∙ sym two.from.taken); up = two.drained }
