@@ -1,4 +1,6 @@
 //! The lists of a solver, kept from one net to the next.
+ghost use Rattle.std.specs.Prelude.{◌≡◌};
+
 use crate::work::Work;
 use sink_distances::Spare;
 use std::alloc::Global;
@@ -37,7 +39,9 @@ impl Workspace {
     }
 
     /// Takes out what the rows of the last net stood in.
-    pub fn take_rows(&mut self, alloc: Global) -> Spare {
+    pub fn take_rows(&mut self, alloc: Global) -> Spare
+        ensures { result ≡ self.old.rows }
+    {
         replace(&mut self.rows, Spare::new(alloc))
     }
 

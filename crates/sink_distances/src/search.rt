@@ -4,7 +4,8 @@ ghost use Rattle.flow_network.specs.Cut.{nodes, IsNet};
 ghost use Rattle.flow_network.specs.Preflow.{arc_at, flow_by, sink_flows, AreRooms};
 ghost use Rattle.sink_distances.specs.Adjacency.{IsAdjacency};
 ghost use Rattle.sink_distances.specs.Distances.{AreDistances};
-ghost use Rattle.sink_distances.specs.Rows.{carried_flow, IsRows};
+ghost use Rattle.sink_distances.specs.Rows.{carried_flow, head_at, opposite_at, residual_at};
+ghost use Rattle.sink_distances.specs.Rows.{IsRows};
 ghost use Rattle.sink_distances.specs.Search.{found_of, AreStartsButZeros, AreUnlabelledOrZero};
 ghost use Rattle.sink_distances.specs.Search.{IsBefore, IsNextLabel, Grows};
 
@@ -255,6 +256,37 @@ pub fn write_distances(
     }
 }
 
+/// Labels the node to which the direction at a place leads, where what its way back can carry is
+/// not used up. A node that has a label is passed over before the way back is looked up.
+#[inline]
+fn mark_back(
+    rows: &Rows,
+    labels: &mut [u32],
+    order: &mut [u32],
+    count: usize,
+    p: usize,
+    label: u32,
+) -> usize
+    requires place { p < length rows.now.cells.items }
+    requires opposite { opposite_at rows.now p < length rows.now.cells.items }
+    requires head { head_at rows.now p < length labels.old }
+    requires ready { IsNextLabel label (found_of labels.old order.old count) }
+    ensures grows { Grows label
+        (λ v. (v ≡ head_at rows.now p) × (0 < residual_at rows.now (opposite_at rows.now p)))
+        (found_of labels.old order.old count) (found_of labels.new order.new result) }
+    ensures marked { 0 < residual_at rows.now (opposite_at rows.now p) →
+        slice_index labels.new (head_at rows.now p) ≤ label }
+{
+    let head = rows.cell(p).head;
+    if labels[head as usize] as usize != labels.len() + 2 {
+        return count;
+    }
+    if rows.back(p) == 0 {
+        return count;
+    }
+    mark(labels, order, count, head, label)
+}
+
 /// Labels the nodes that have a residual direction to the node: those to which its row leads, where
 /// what the way back can carry is not used up.
 fn mark_row(
@@ -277,9 +309,7 @@ fn mark_row(
         → slice_index labels.new v ≤ label }
 {
     'row: for p in rows.starts[w]..rows.starts[w + 1] {
-        if rows.back(p as usize) > 0 {
-            count = mark(labels, order, count, rows.cell(p as usize).head, label);
-        }
+        count = mark_back(rows, labels, order, count, p as usize, label);
     }
     count
 }

@@ -15,3 +15,4 @@ pub mod Numbering
 pub mod Ranges
 pub mod Views
 pub mod Weighing
+pub mod Sizes

@@ -3,7 +3,7 @@ use Rattle.std.proofs.Common.{◌≡◌, ℕ, ◌≤◌, Bool, List, length, map
 use Rattle.std.proofs.lemmas.List.{length-map}
 use Rattle.flow_network.specs.Cut.{Network, network_of, nodes, capacity_of, total_capacity, IsArc, IsNet}
 use Rattle.sink_distances.specs.declared.laid.Laid.{Laid}
-use Rattle.sink_distances.specs.Laid.{laid_net}
+use Rattle.sink_distances.specs.Laid.{laid_net, arcs_standing}
 use Rattle.sink_distances.specs.Laying.{ArePartLaid}
 use Rattle.sink_distances.specs.Standing.{AreLaid}
 use Rattle.sink_distances.proofs.Making.{ends_len}
@@ -12,12 +12,8 @@ use Rattle.compile_cut.specs.Quadratics.{quadratic_value}
 use Rattle.compile_cut.specs.Weights.{source_part, sink_part}
 use Rattle.compile_cut.proofs.CapacityLemmas.{capacities_size, compiled_value, is_net}
 use Rattle.strips.specs.declared.material.RowForm.{RowForm}
-use Rattle.strips.specs.RowForms.{arcs_in, form_in}
+use Rattle.strips.specs.RowForms.{arcs_in, form_in, row_net}
 use Rattle.strips.specs.Strips.{IsRowForm}
-
--- the net of the form
-abbrev pub row_net : RowForm → Network
-row_net form = network_of (map source_part form.weights.items) (map sink_part form.weights.items) (arcs_in form)
 
 pub row_nodes : (form : RowForm) → nodes (row_net form) ≡ vec_len form.weights
 row_nodes form = length-map form.weights.items source_part ∙ sym form.weights.ok.0
@@ -32,6 +28,11 @@ row_total n ends form h = omega (arith, capacities_size form.weights.items, h.si
 
 pub row_value : (form : RowForm) (x : ℕ → Bool) → pos (capacity_of (row_net form) x) +ℤ (pos 0 -ℤ pos (sum (map sink_part form.weights.items))) ≡ quadratic_value (form_in form) x
 row_value form x = compiled_value form.weights.items (arcs_in form) (pos 0) x
+
+-- what is laid in the lists of the form, with the capacities of its weights, is its network
+pub net_same : (form : RowForm) (laid : Laid) → laid.sources.items ≡ map source_part form.weights.items → laid.sinks.items ≡ map sink_part form.weights.items
+    → laid.cells ≡ form.laying.cells → laid.firsts ≡ form.laying.firsts → laid_net laid ≡ row_net form
+net_same form laid sources sinks cells firsts = λ i. network_of (sources i) (sinks i) (arcs_standing (cells i).items (firsts i).items)
 
 pub row_laid : (n : ℕ) (ends : List ℕ) (form : RowForm) (laid : Laid) → IsRowForm n ends form → laid.starts ≡ form.laying.nexts → laid.cells ≡ form.laying.cells
     → laid.firsts ≡ form.laying.firsts → laid_net laid ≡ row_net form → AreLaid laid

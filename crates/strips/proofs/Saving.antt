@@ -14,6 +14,7 @@ use Rattle.compile_cut.specs.Weights.{weights_value, weights_size, arcs_value, a
 use Rattle.compile_cut.proofs.WeightLemmas.{weights_value-add}
 use Rattle.move_energy.specs.Built.{AddsCost}
 use Rattle.grouping.proofs.Ranks.{rank-lt}
+use Rattle.sink_distances.specs.declared.rows.Cell.{Cell}
 use Rattle.sink_distances.specs.Rows.{arc_ends}
 use Rattle.sink_distances.specs.Laying.{ArePartLaid}
 use Rattle.sink_distances.proofs.Making.{ends_len}
@@ -26,19 +27,18 @@ pub next_of : (ends : List ℕ) (arcs : List Arc) (a b : ℕ) → IsFirstPart (a
 next_of ends arcs a b begins =
     ap (λ (k : ℕ). take k ends) (let e : 2 * length arcs + 2 ≡ length (arc_ends arcs ++ a ∷ b ∷ []) = omega (arith, length-append (arc_ends arcs) (a ∷ b ∷ []), ends_len arcs) in e) ∙ begins
 
-pub near_room : (n a b : ℕ) (ends : List ℕ) (form : RowForm) → IsLaidTo n ends form → IsFirstPart (arc_ends (arcs_in form) ++ a ∷ b ∷ []) ends → a < n
-    → slice_index form.laying.nexts.items (a + 1) < length form.laying.cells.items
-near_room n a b ends form h begins l =
-    let arcs = arcs_in form in
-    let p = next_pair ends arcs a b h.laid.begins (next_of ends arcs a b begins) in
-    omega (arith, near_is n a b ends arcs form.laying.nexts.items form.laying.cells.items form.laying.firsts.items h.laid p l, rank-lt ends (2 * length arcs) (omega (arith, p.long)), h.laid.cells_len)
+-- both ends of the next pair have a place
+pub near_place : (n a b : ℕ) (ends : List ℕ) (arcs : List Arc) (nexts : List ℕ) (cells : List Cell) (firsts : List ℕ) → ArePartLaid n ends arcs nexts cells firsts
+    → take (2 * length arcs + 2) ends ≡ arc_ends arcs ++ a ∷ b ∷ [] → a < n → slice_index nexts (a + 1) < length cells
+near_place n a b ends arcs nexts cells firsts h next l =
+    let p = next_pair ends arcs a b h.begins next in
+    omega (arith, near_is n a b ends arcs nexts cells firsts h p l, rank-lt ends (2 * length arcs) (omega (arith, p.long)), h.cells_len)
 
-pub far_room : (n a b : ℕ) (ends : List ℕ) (form : RowForm) → IsLaidTo n ends form → IsFirstPart (arc_ends (arcs_in form) ++ a ∷ b ∷ []) ends → a ≢ b → b < n
-    → slice_index form.laying.nexts.items (b + 1) < length form.laying.cells.items
-far_room n a b ends form h begins off l =
-    let arcs = arcs_in form in
-    let p = next_pair ends arcs a b h.laid.begins (next_of ends arcs a b begins) in
-    omega (arith, far_is n a b ends arcs form.laying.nexts.items form.laying.cells.items form.laying.firsts.items h.laid p off l, rank-lt ends (2 * length arcs + 1) p.long, h.laid.cells_len)
+pub far_place : (n a b : ℕ) (ends : List ℕ) (arcs : List Arc) (nexts : List ℕ) (cells : List Cell) (firsts : List ℕ) → ArePartLaid n ends arcs nexts cells firsts
+    → take (2 * length arcs + 2) ends ≡ arc_ends arcs ++ a ∷ b ∷ [] → a ≢ b → b < n → slice_index nexts (b + 1) < length cells
+far_place n a b ends arcs nexts cells firsts h next off l =
+    let p = next_pair ends arcs a b h.begins next in
+    omega (arith, far_is n a b ends arcs nexts cells firsts h p off l, rank-lt ends (2 * length arcs + 1) p.long, h.cells_len)
 
 -- how many pairs there are at most
 pub few_firsts : (n : ℕ) (ends : List ℕ) (form : RowForm) → IsLaidTo n ends form → 2 * length form.laying.firsts.items ≤ length ends

@@ -3,6 +3,7 @@ use Rattle.std.specs.Prelude.{◌≡◌, ◌≢◌, ℕ, zero, suc, ◌+◌, ◌
 use Rattle.std.specs.Prelude.{[], ◌∷◌}
 use Rattle.std.specs.Prelude.{length}
 use Rattle.std.specs.List.{flat_map}
+use Rattle.label_field.specs.declared.pair.Pair.{Pair}
 use Rattle.label_field.specs.PairLists.{IsPair}
 use Rattle.move_energy.specs.BySite.{degree, neighbours_start, pair_beside}
 use Rattle.move_energy.specs.Choices.{choice_at, open_rank}
@@ -38,6 +39,13 @@ ends_at material sites site = ends_below material sites site (degree material.en
 -- the nodes of all pairs of a strip
 abbrev pub strip_ends : Material → StripSites → List ℕ
 strip_ends material sites = flat_map (ends_at material sites) sites.opened.now
+
+-- the pair at this place, of two sites in the strip
+pub record IsPairInside (material : Material) (sites : StripSites) (site place : ℕ) (pair : Pair)
+    : Type 0 where
+  pub beside : pair ≡ pair_beside material.ends.now site place
+  pub valid : IsPair material.pairs.now.sites pair
+  pub both : are_open (choice_at (view_by sites material)) pair ≡ true
 
 -- a pair that is met, with its two nodes
 pub record IsMet (material : Material) (sites : StripSites) (site place : ℕ) (met : Met)

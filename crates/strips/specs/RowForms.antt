@@ -1,5 +1,5 @@
 -- The form of a strip whose pairs stand in rows.
-use Rattle.flow_network.specs.Cut.{IsArc}
+use Rattle.flow_network.specs.Cut.{IsArc, Network, network_of}
 use Rattle.std.specs.Prelude.{All, ◌≡◌, ℕ, ◌*◌, ◌≤◌, List, length, take, map, pos}
 use Rattle.std.specs.Prelude.{vec_len}
 use Rattle.std.specs.Global.{Vec}
@@ -9,7 +9,7 @@ use Rattle.flow_network.specs.declared.arc.Arc.{Arc}
 use Rattle.sink_distances.specs.Laid.{arc_standing, arcs_standing}
 use Rattle.sink_distances.specs.Laying.{ArePartLaid}
 use Rattle.compile_cut.specs.declared.quadratic.Quadratic.{Quadratic}
-use Rattle.compile_cut.specs.Weights.{weights_size, arcs_size}
+use Rattle.compile_cut.specs.Weights.{weights_size, arcs_size, source_part, sink_part}
 use Rattle.move_energy.specs.Limits.{surplus_limit}
 use Rattle.strips.specs.declared.material.RowForm.{RowForm}
 
@@ -36,6 +36,11 @@ form_in form = record {
   weights = form.weights;
   arcs = vec_made (arc_standing form.laying.cells.items) form.laying.firsts;
 }
+
+-- its network: a weight above 0 comes from the source, and one below 0 goes to the sink
+abbrev pub row_net : RowForm → Network
+row_net form = network_of (map source_part form.weights.items) (map sink_part form.weights.items)
+    (arcs_in form)
 
 -- the list is the beginning of another
 abbrev pub IsFirstPart : List ℕ → List ℕ → Type 0

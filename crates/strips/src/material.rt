@@ -1,4 +1,5 @@
 //! What strips are built from: values that are lent, so that steps pass them on as one.
+ghost use Rattle.std.specs.Prelude.{◌≡◌};
 
 use label_field::Pairs;
 use move_energy::{Choice, Neighbours};
@@ -72,7 +73,10 @@ impl Room {
     }
 
     /// The rows of the next strip stand in what those of the last one stood in.
-    pub(crate) fn stand_again(&mut self, alloc: Global) {
+    pub(crate) fn stand_again(&mut self, alloc: Global)
+        ensures starts { self.new.form.laying.nexts ≡ self.old.space.rows.starts }
+        ensures cells { self.new.form.laying.cells ≡ self.old.space.rows.cells }
+    {
         let rows = self.space.take_rows(alloc);
         self.form.laying.nexts = rows.starts;
         self.form.laying.cells = rows.cells;

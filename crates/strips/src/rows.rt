@@ -4,7 +4,7 @@ ghost use Rattle.std.specs.Prelude.{◌≡◌, ◌<◌, ◌≤◌, ◌+◌, ◌*
 ghost use Rattle.std.specs.Prelude.{true, not, pos, map, length, vec_len, sum, sum_by, All};
 ghost use Rattle.std.specs.Prelude.{unsigned_abs, IfOk, OnOk, MatchOption, false, ◌++◌, ℕ, List};
 ghost use Rattle.std.specs.Prelude.{◌≢◌};
-ghost use Rattle.std.specs.Prelude.{slice_set};
+ghost use Rattle.std.specs.Prelude.{slice_index, slice_set};
 ghost use Rattle.sums.specs.Sums.{count_if};
 ghost use Rattle.label_field.specs.Limits.{pair_limit};
 ghost use Rattle.pseudo_bool.specs.Energies.{IsValue};
@@ -12,10 +12,12 @@ ghost use Rattle.pseudo_bool.specs.Limits.{term_limit};
 ghost use Rattle.regular.specs.Regularity.{IsRegularTable};
 ghost use Rattle.compile_cut.specs.Quadratics.{IsQuadraticBounded};
 ghost use Rattle.compile_cut.specs.Weights.{weights_size};
-ghost use Rattle.move_energy.specs.BySite.{degree, neighbours_start};
+ghost use Rattle.move_energy.specs.BySite.{degree, neighbour_at, neighbours_start};
 ghost use Rattle.move_energy.specs.BySite.{pair_beside as beside_at};
 ghost use Rattle.move_energy.specs.Built.{AddsCost, IsLonger};
-ghost use Rattle.move_energy.specs.Choices.{choice_at, open_at};
+ghost use Rattle.move_energy.specs.Choices.{choice_at, open_at, open_rank};
+ghost use Rattle.move_energy.specs.Weights.{are_open};
+ghost use Rattle.move_energy.specs.declared.choice.Choice.TheVariants.{Open};
 ghost use Rattle.move_energy.specs.Limits.{surplus_limit, weights_limit};
 ghost use Rattle.move_energy.specs.Weights.{pair_surplus as surplus_between};
 ghost use Rattle.closing_in.specs.Borders.{border_at, is_beyond as beyond_of, not_ones, range_of};
@@ -28,7 +30,7 @@ ghost use Rattle.sink_distances.specs.Rows.{arc_ends};
 ghost use Rattle.compile_cut.specs.Weights.{source_part};
 ghost use Rattle.pseudo_bool.specs.Energies.{entry};
 ghost use Rattle.strips.specs.RowForms.{arcs_in, form_in, IsFirstPart, IsLaidTo};
-ghost use Rattle.strips.specs.Meeting.{is_met, ends_at, ends_met, strip_ends, IsMet};
+ghost use Rattle.strips.specs.Meeting.{is_met, ends_at, ends_met, strip_ends, IsPairInside, IsMet};
 ghost use Rattle.strips.specs.Building.{counts_in, met_inside, unsaved_in, unsaved_at};
 ghost use Rattle.strips.specs.Building.{border_of_site, weight_by_now};
 ghost use Rattle.strips.specs.Limits.{borders_limit};
@@ -40,27 +42,6 @@ use move_energy::{Choice, pair_beside};
 use sink_distances::Laying;
 use std::alloc::AllocError;
 
-/// Whether a site that was open at the start is at 1 by now.
-#[inline]
-fn is_one(start: &[Choice], known: &[Choice], site: u32) -> bool
-    requires { (site < length start.now) × (site < length known.now) }
-    ensures { result ≡ beyond_of (choice_at start.now) (not_ones (choice_at known.now)) site }
-{
-    match known[site as usize] {
-        Choice::One => start[site as usize].is_open(),
-        Choice::Open | Choice::Zero => false,
-    }
-}
-
-/// Whether an open site lies outside the strip.
-#[inline]
-fn is_beyond(known: &[Choice], from: u32, to: u32, site: u32) -> bool
-    requires { site < length known.now }
-    ensures { result ≡ beyond_of (choice_at known.now) (range_of from to) site }
-{
-    known[site as usize].is_open() && !(site >= from && site < to)
-}
-
 /// Whether a site is an open one of the strip.
 #[inline]
 fn is_inside(known: &[Choice], from: u32, to: u32, site: u32) -> bool
@@ -68,6 +49,77 @@ fn is_inside(known: &[Choice], from: u32, to: u32, site: u32) -> bool
     ensures { result ≡ inside_of (choice_at known.now) (range_of from to) site }
 {
     known[site as usize].is_open() && (site >= from && site < to)
+}
+
+/// Whether the pair to a neighbour counts in one of the two borders of a site of the strip.
+#[derive(Clone, Copy)]
+struct Counts {
+    /// The neighbour was open at the start and is at 1 by now.
+    one: bool,
+    /// It is open and lies outside the strip.
+    beyond: bool,
+}
+
+/// In which border the pair to a neighbour counts. It is looked at once.
+#[inline]
+fn counts_of(material: &Material, sites: &StripSites, head: u32) -> Counts
+    requires start { head < length material.now.start.now }
+    requires known { head < length material.now.known.now }
+    ensures one { result.one ≡ beyond_of (choice_at material.now.start.now)
+        (not_ones (choice_at material.now.known.now)) head }
+    ensures beyond { result.beyond ≡ beyond_of (choice_at material.now.known.now)
+        (range_of sites.now.from sites.now.to) head }
+{
+    match material.known[head as usize] {
+        Choice::Zero => Counts {
+            one: false,
+            beyond: false,
+        },
+        Choice::One => Counts {
+            one: material.start[head as usize].is_open(),
+            beyond: false,
+        },
+        Choice::Open => Counts {
+            one: false,
+            beyond: !(head >= sites.from && head < sites.to),
+        },
+    }
+}
+
+/// The open site of the strip that is listed at a place.
+#[inline]
+fn site_at(material: &Material, sites: &StripSites, index: usize) -> u32
+    requires can { CanBuild material.now }
+    requires opened { AreStripSites material.now sites.now }
+    requires index { index < length sites.now.opened.now }
+    ensures value { result ≡ slice_index sites.now.opened.now index }
+    ensures site { (result < material.now.pairs.now.sites)
+        × (open_at (view_by sites.now material.now) result ≡ true) }
+{
+    sites.opened[index]
+}
+
+/// Where the neighbours of a site begin, which is where those of the site before it end.
+#[inline]
+fn row_start(material: &Material, site: u32) -> u32
+    requires can { CanBuild material.now }
+    requires site { site ≤ material.now.pairs.now.sites }
+    ensures { result ≡ neighbours_start material.now.ends.now site }
+{
+    material.ends.starts[site as usize]
+}
+
+/// The neighbour of a site at a place.
+#[inline]
+fn head_beside(material: &Material, site: u32, place: u32) -> u32
+    requires can { CanBuild material.now }
+    requires site { site < material.now.pairs.now.sites }
+    requires place { (neighbours_start material.now.ends.now site ≤ place)
+        × (place < neighbours_start material.now.ends.now (site + 1)) }
+    ensures head { result ≡ neighbour_at material.now.ends.now place }
+    ensures inside { result < material.now.pairs.now.sites }
+{
+    material.ends.heads[place as usize]
 }
 
 /// The surplus of the pair of a site and a neighbour where it counts. Where it does not, 0, and it
@@ -95,6 +147,35 @@ fn counted_surplus<S: Fn(Pair) -> i64>(
     }
     let pair = pair_beside(material.pairs, material.ends, site, place);
     savings(pair)
+}
+
+/// The pair of a site of the strip and a neighbour, where that is in the strip as well.
+#[inline]
+fn pair_inside(material: &Material, sites: &StripSites, site: u32, place: u32) -> Option<Pair>
+    requires can { CanBuild material.now }
+    requires site { (site < material.now.pairs.now.sites)
+        × (open_at (view_by sites.now material.now) site ≡ true) }
+    requires place { (neighbours_start material.now.ends.now site ≤ place)
+        × (place < neighbours_start material.now.ends.now (site + 1)) }
+    ensures { MatchOption result (are_open (choice_at (view_by sites.now material.now))
+        (beside_at material.now.ends.now site place) ≡ false)
+        (λ pair. IsPairInside material.now sites.now site place pair) }
+{
+    let head = head_beside(material, site, place);
+    if !is_inside(material.known, sites.from, sites.to, head) {
+        return None;
+    }
+    Some(pair_beside(material.pairs, material.ends, site, place))
+}
+
+/// The node of an open site of the strip. `numbers` has the node of each site of the strip.
+#[inline]
+fn node_of(material: &Material, sites: &StripSites, numbers: &[u32], site: u32) -> u32
+    requires numbering { IsStripNumbering material.now.known.now sites.now numbers.now }
+    requires open { choice_at (view_by sites.now material.now) site ≡ Open }
+    ensures { result ≡ open_rank (view_by sites.now material.now) site }
+{
+    numbers[(site - sites.from) as usize]
 }
 
 /// A pair of the strip that is met at its first site, and the nodes of its two sites.
@@ -125,21 +206,21 @@ fn met_beside(
     ensures { MatchOption result (is_met material.now sites.now site place ≡ false)
         (λ met. IsMet material.now sites.now site place met) }
 {
-    let head = material.ends.heads[place as usize];
-    if !is_inside(material.known, sites.from, sites.to, head) {
-        return None;
+    match pair_inside(material, sites, site, place) {
+        None => None,
+        Some(pair) => {
+            if pair.first != site {
+                return None;
+            }
+            let first = node_of(material, sites, numbers, pair.first);
+            let second = node_of(material, sites, numbers, pair.second);
+            Some(Met {
+                pair,
+                first,
+                second,
+            })
+        }
     }
-    let pair = pair_beside(material.pairs, material.ends, site, place);
-    if pair.first != site {
-        return None;
-    }
-    let first = numbers[(pair.first - sites.from) as usize];
-    let second = numbers[(pair.second - sites.from) as usize];
-    Some(Met {
-        pair,
-        first,
-        second,
-    })
 }
 
 /// Counts the ends of the pairs that are met at a site.
@@ -162,7 +243,7 @@ fn count_row(
         AreEndsCounted (length sites.now.opened.now) (ends ++ ends_at material.now sites.now site)
         laying.new.nexts.items }
 {
-    for place in material.ends.starts[site as usize]..material.ends.starts[site as usize + 1] {
+    for place in row_start(material, site)..row_start(material, site + 1) {
         if let Some(met) = met_beside(material, sites, numbers, site, place) {
             laying.count(met.first, met.second);
         }
@@ -184,7 +265,8 @@ pub(crate) fn count_rows(
         laying.new.nexts.items }
 {
     for index in 0..sites.opened.len() {
-        count_row(material, sites, numbers, laying, sites.opened[index]);
+        let site = site_at(material, sites, index);
+        count_row(material, sites, numbers, laying, site);
     }
 }
 
@@ -328,12 +410,11 @@ fn add_row<S: Fn(Pair) -> i64>(
 {
     let mut ones = 0i64;
     let mut beyond = 0i64;
-    for place in material.ends.starts[site as usize]..material.ends.starts[site as usize + 1] {
-        let head = material.ends.heads[place as usize];
-        let one = is_one(material.start, material.known, head);
-        let past = is_beyond(material.known, sites.from, sites.to, head);
-        ones += counted_surplus(savings, material, site, place, one);
-        beyond += counted_surplus(savings, material, site, place, past);
+    for place in row_start(material, site)..row_start(material, site + 1) {
+        let head = head_beside(material, site, place);
+        let counts = counts_of(material, sites, head);
+        ones += counted_surplus(savings, material, site, place, counts.one);
+        beyond += counted_surplus(savings, material, site, place, counts.beyond);
         add_inside(savings, material, sites, form, numbers, site, place)?;
     }
     Ok(SiteBorders { ones, beyond })
@@ -381,7 +462,7 @@ pub(crate) fn add_rows<S: Fn(Pair) -> i64>(
     list.reserve(sites.opened.len())?;
     borders.reserve(sites.opened.len())?;
     for index in 0..sites.opened.len() {
-        let site = sites.opened[index];
+        let site = site_at(material, sites, index);
         let found = add_row(savings, material, sites, form, numbers, site)?;
         list.push_reserved(sites.weights[index] - found.ones);
         borders.push_reserved(found.beyond.unsigned_abs());

@@ -1,13 +1,16 @@
 //! The two cuts of a strip's form.
-ghost use Rattle.std.specs.Prelude.{◌≡◌, ◌+◌, ◌≤◌, IfOk, OnOk, Bool, List, ℕ, length, sum, vec_len};
+ghost use Rattle.std.specs.Prelude.{◌≡◌, ◌+◌, ◌≤◌, IfOk, OnOk, Bool, List, ℕ, length, sum};
+ghost use Rattle.std.specs.Prelude.{vec_len};
 ghost use Rattle.label_field.specs.Limits.{site_limit, label_limit};
 ghost use Rattle.pseudo_bool.specs.Energies.{assignment};
 ghost use Rattle.pseudo_bool.specs.Limits.{term_limit};
 ghost use Rattle.compile_cut.specs.declared.quadratic.Quadratic.{Quadratic as Form};
 ghost use Rattle.compile_cut.specs.Quadratics.{quadratic_value, IsQuadraticBounded};
 ghost use Rattle.deciding.specs.Decisions.{IsSmallestLeast};
+ghost use Rattle.sink_distances.specs.Laid.{laid_net};
+ghost use Rattle.sink_distances.specs.Standing.{AreLaid};
 ghost use Rattle.strips.specs.Limits.{borders_limit};
-ghost use Rattle.strips.specs.RowForms.{form_in};
+ghost use Rattle.strips.specs.RowForms.{form_in, row_net};
 ghost use Rattle.strips.specs.Sides.{IsLessBorder};
 ghost use Rattle.strips.specs.Strips.{IsRowForm};
 
@@ -45,6 +48,23 @@ pub fn least_sides(
     Ok(sides)
 }
 
+/// The network of a form in rows, which it takes over.
+fn take_net(alloc: Global, form: &mut RowForm) -> Result<Laid, AllocError>
+    requires laid { (n : ℕ) × (ends : List ℕ) × IsRowForm n ends form.old }
+    ensures laid { IfOk result AreLaid }
+    ensures net { IfOk result (λ laid. laid_net laid ≡ row_net form.old) }
+{
+    let sources = source_capacities(alloc, form.weights.as_slice())?;
+    let sinks = sink_capacities(alloc, form.weights.as_slice())?;
+    Ok(Laid {
+        starts: replace(&mut form.laying.nexts, Vec::new(alloc)),
+        cells: replace(&mut form.laying.cells, Vec::new(alloc)),
+        firsts: replace(&mut form.laying.firsts, Vec::new(alloc)),
+        sources,
+        sinks,
+    })
+}
+
 /// What `least_sides` tells, of a form in rows.
 pub(crate) fn row_sides(
     alloc: Global,
@@ -66,15 +86,7 @@ pub(crate) fn row_sides(
         IsSmallestLeast (vec_len form.old.weights) (quadratic_value less)
         (assignment sides.upper.items)) }
 {
-    let sources = source_capacities(alloc, form.weights.as_slice())?;
-    let sinks = sink_capacities(alloc, form.weights.as_slice())?;
-    let laid = Laid {
-        starts: replace(&mut form.laying.nexts, Vec::new(alloc)),
-        cells: replace(&mut form.laying.cells, Vec::new(alloc)),
-        firsts: replace(&mut form.laying.firsts, Vec::new(alloc)),
-        sources,
-        sinks,
-    };
+    let laid = take_net(alloc, form)?;
     let both = both_sides_of(alloc, laid, borders, cutting)?;
     Ok(both)
 }

@@ -4,32 +4,21 @@ use Rattle.std.specs.Prelude.{slice_index}
 use Rattle.std.proofs.lemmas.List.{get_or-map}
 use Rattle.closing_in.specs.Borders.{border_at, range_of}
 use Rattle.move_energy.specs.Choices.{choice_at}
-use Rattle.move_energy.proofs.Opened.{opened_few}
 use Rattle.strips.specs.Building.{IsStripNumbering}
-use Rattle.strips.specs.Views.{strip_view}
-use Rattle.strips.proofs.Views.{view_length}
+use Rattle.strips.proofs.Sizes.{sites_few, strip_ends_few}
 use Rattle.strips.proofs.Laying.{IsLaid, rows_stand}
 use Rattle.strips.proofs.Numbering.{listed_from, listed_to}
 use Rattle.sink_distances.proofs.Putting.{counts_sum}
 use Rattle.strips.specs.declared.material.RowForm.{RowForm}
 use Rattle.strips.specs.Meeting.{strip_ends}
 use Rattle.strips.specs.RowForms.{form_in}
-use Rattle.strips.proofs.Meeting.{rows_few}
 use Rattle.strips.proofs.Saving.{few_firsts}
 use Rattle.strips.proofs.RowForms.{begun_laid, begun_ends, begun_constant, laid_rows}
-use Rattle.strips.proofs.Borders.{degrees_few}
 use Rattle.strips.proofs.building.build_strip.Goals as goal
 
 pub number_sites-requires-clause-few : goal.number_sites-requires-clause-few
 number_sites-requires-clause-few g c =
-    let a = c.args in
-    omega (
-      arith,
-      opened_few (strip_view a.material.now.known.now a.sites.now.from a.sites.now.to) a.sites.now.opened.now c.requires.opened,
-      view_length a.material.now.known.now a.sites.now.from a.sites.now.to,
-      c.requires.can.count,
-      c.requires.can.pairs_are.sites,
-    )
+    sites_few c.args.material.now c.args.sites.now c.requires.can c.requires.opened
 
 pub number_sites-requires-clause-from : goal.number_sites-requires-clause-from
 number_sites-requires-clause-from g c =
@@ -43,14 +32,7 @@ number_sites-requires-clause-to g c =
 
 pub begin_form-requires : goal.begin_form-requires
 begin_form-requires g c =
-    let a = c.args in
-    omega (
-      arith,
-      opened_few (strip_view a.material.now.known.now a.sites.now.from a.sites.now.to) a.sites.now.opened.now c.requires.opened,
-      view_length a.material.now.known.now a.sites.now.from a.sites.now.to,
-      c.requires.can.count,
-      c.requires.can.pairs_are.sites,
-    )
+    sites_few c.args.material.now c.args.sites.now c.requires.can c.requires.opened
 
 pub count_rows-requires-clause-numbering : goal.count_rows-requires-clause-numbering
 count_rows-requires-clause-numbering g c =
@@ -61,15 +43,12 @@ count_rows-requires-clause-numbering g c =
 pub open-requires-clause-small : goal.open-requires-clause-small
 open-requires-clause-small g c =
     let a = c.args in
-    let v = strip_view a.material.now.known.now a.sites.now.from a.sites.now.to in
     let counted = c.count_rows.ensures in
     omega (
       arith,
       counts_sum (length a.sites.now.opened.now) (strip_ends a.material.now a.sites.now) c.count_rows.new.laying.nexts.items counted,
       counted.all,
-      rows_few a.material.now a.sites.now a.sites.now.opened.now,
-      degrees_few a.material.now.pairs.now a.material.now.ends.now v a.sites.now.opened.now c.requires.can.by_site (view_length a.material.now.known.now a.sites.now.from a.sites.now.to ∙ c.requires.can.count) c.requires.opened,
-      c.requires.can.pairs_are.count,
+      strip_ends_few a.material.now a.sites.now c.requires.can c.requires.opened,
     )
 
 pub add_rows-requires-clause-laid : goal.add_rows-requires-clause-laid
@@ -91,42 +70,26 @@ add_rows-requires-clause-none g c =
 pub add_weights-requires-clause-room : goal.add_weights-requires-clause-room
 add_weights-requires-clause-room g c =
     let a = c.args in
-    let v = strip_view a.material.now.known.now a.sites.now.from a.sites.now.to in
     let rows = c.in_ok-add_rows.ensures in
-    let form = c.add_rows.new.form in
     omega (
       arith,
       ap (λ (ws : List ℤ). weights_size ws) c.deref-3.ensures.value,
       rows.size,
       rows.laid.weights,
-      few_firsts (length a.sites.now.opened.now) (strip_ends a.material.now a.sites.now) form rows.laid,
-      rows_few a.material.now a.sites.now a.sites.now.opened.now,
-      degrees_few a.material.now.pairs.now a.material.now.ends.now v a.sites.now.opened.now c.requires.can.by_site (view_length a.material.now.known.now a.sites.now.from a.sites.now.to ∙ c.requires.can.count) c.requires.opened,
-      c.requires.can.pairs_are.count,
+      few_firsts (length a.sites.now.opened.now) (strip_ends a.material.now a.sites.now) c.add_rows.new.form rows.laid,
+      strip_ends_few a.material.now a.sites.now c.requires.can c.requires.opened,
     )
 
 pub returns-clause-sized : goal.returns-clause-sized
 returns-clause-sized g c =
     let a = c.args in
-    let v = strip_view a.material.now.known.now a.sites.now.from a.sites.now.to in
     let rows = c.in_ok-add_rows.ensures in
     let old = c.add_rows.new.form in
     let list = c.add_rows.new.list in
     let new : RowForm = record { weights = c.add_weights.new.weights; laying = old.laying } in
     let S : List ℤ → Type 0 = λ ys. weights_size new.weights.items ≤ weights_size old.weights.items + weights_size ys in
-    let many : length (strip_ends a.material.now a.sites.now) ≤ 16777216 = omega (
-      arith,
-      rows_few a.material.now a.sites.now a.sites.now.opened.now,
-      degrees_few a.material.now.pairs.now a.material.now.ends.now v a.sites.now.opened.now c.requires.can.by_site (view_length a.material.now.known.now a.sites.now.from a.sites.now.to ∙ c.requires.can.count) c.requires.opened,
-      c.requires.can.pairs_are.count,
-    ) in
-    let few : length a.sites.now.opened.now ≤ 1048576 = omega (
-      arith,
-      opened_few v a.sites.now.opened.now c.requires.opened,
-      view_length a.material.now.known.now a.sites.now.from a.sites.now.to,
-      c.requires.can.count,
-      c.requires.can.pairs_are.sites,
-    ) in
+    let many = strip_ends_few a.material.now a.sites.now c.requires.can c.requires.opened in
+    let few = sites_few a.material.now a.sites.now c.requires.can c.requires.opened in
     record {
       ends = strip_ends a.material.now a.sites.now;
       rows = laid_rows (length a.sites.now.opened.now) (strip_ends a.material.now a.sites.now) old new list.items rows.laid refl c.add_weights.ensures.len

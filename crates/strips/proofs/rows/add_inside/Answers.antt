@@ -1,4 +1,4 @@
-use Rattle.std.proofs.Common.{◌≡◌, ◌∙◌, ◌++◌, ℕ, List, length, ap, sym, subst, arith}
+use Rattle.std.proofs.Common.{◌≡◌, ◌∙◌, ◌++◌, ℕ, List, length, ap, sym, subst}
 use Rattle.std.proofs.lemmas.List.{append-nil}
 use Rattle.std.proofs.lemmas.Result.{on_ok_weaker}
 use Rattle.sums.specs.Sums.{count_if}
@@ -14,9 +14,9 @@ use Rattle.sink_distances.specs.Rows.{arc_ends}
 use Rattle.strips.specs.Meeting.{strip_ends}
 use Rattle.strips.specs.RowForms.{arcs_in, form_in, IsFirstPart}
 use Rattle.strips.specs.Views.{strip_view}
-use Rattle.strips.proofs.Views.{view_length}
-use Rattle.strips.proofs.Borders.{regular_beside, degrees_few}
-use Rattle.strips.proofs.Meeting.{ends_none, ends_some, rows_few, unmet_adds, part_counted}
+use Rattle.strips.proofs.Sizes.{strip_ends_few}
+use Rattle.strips.proofs.Borders.{regular_beside}
+use Rattle.strips.proofs.Meeting.{ends_none, ends_some, unmet_adds, part_counted}
 use Rattle.strips.proofs.rows.add_inside.Goals as goal
 
 pub savings-surplus-requires : goal.savings-surplus-requires
@@ -33,8 +33,6 @@ returns-in-None-clause-ends g c =
 pub put_saving-requires-clause-laid : goal.put_saving-requires-clause-laid
 put_saving-requires-clause-laid g c =
     let a = c.args in
-    let known = a.material.now.known.now in
-    let v = strip_view known a.sites.now.from a.sites.now.to in
     let met = c.in-Some.ensures in
     let opened = a.sites.now.opened.now in
     let all = strip_ends a.material.now a.sites.now in
@@ -45,12 +43,7 @@ put_saving-requires-clause-laid g c =
       subst (λ (xs : List ℕ). IsFirstPart (arc_ends (arcs_in a.form.now) ++ xs) all) some c.requires.begins,
       met.first_node,
       met.second_node,
-      omega (
-        arith,
-        rows_few a.material.now a.sites.now opened,
-        degrees_few a.material.now.pairs.now a.material.now.ends.now v opened c.requires.can.by_site (view_length known a.sites.now.from a.sites.now.to ∙ c.requires.can.count) c.requires.opened,
-        c.requires.can.pairs_are.count,
-      ),
+      strip_ends_few a.material.now a.sites.now c.requires.can c.requires.opened,
     )
 
 pub returns-in-None-clause-adds : goal.returns-in-None-clause-adds

@@ -3,44 +3,18 @@ use Rattle.label_field.specs.declared.pair.Pair.{Pair}
 use Rattle.move_energy.specs.BySite.{degree, neighbours_start}
 use Rattle.move_energy.specs.Choices.{choice_at, open_at, open_rank}
 use Rattle.move_energy.specs.Weights.{unsaved_surplus}
-use Rattle.move_energy.proofs.Parts.{start_read, starts_rise, head_read}
+use Rattle.move_energy.proofs.Parts.{starts_rise}
 use Rattle.deciding.proofs.Left.{degree_most}
 use Rattle.closing_in.specs.Borders.{not_ones, range_of}
 use Rattle.closing_in.proofs.Rooms.{total_is, total_all}
 use Rattle.strips.specs.Views.{strip_view}
-use Rattle.strips.proofs.Borders.{border_none, border_more, border_small, head_inside}
+use Rattle.strips.proofs.Borders.{border_none, border_more, border_small}
 use Rattle.strips.proofs.Inside.{row_adds, row_adds_all, nothing_adds_yet}
 use Rattle.sink_distances.specs.Rows.{arc_ends}
 use Rattle.strips.specs.Meeting.{ends_below, strip_ends}
 use Rattle.strips.specs.RowForms.{arcs_in, form_in}
 use Rattle.strips.proofs.Meeting.{next_begins, ends_on, row_unmet}
 use Rattle.strips.proofs.rows.add_row.Goals as goal
-
-pub is_one-one-requires : goal.is_one-one-requires
-is_one-one-requires g c =
-    let a = c.args in
-    let p = c.loop-place.place in
-    let inside : a.site < a.material.now.pairs.now.sites = omega (arith, c.requires.site.0) in
-    let start = start_read a.material.now.pairs.now a.material.now.ends.now a.site _ c.requires.can.by_site (omega (arith, inside)) c.index-place.ensures in
-    let end = start_read a.material.now.pairs.now a.material.now.ends.now (a.site + 1) _ c.requires.can.by_site (omega (arith, inside)) c.index-place-end.ensures in
-    let from : neighbours_start a.material.now.ends.now a.site ≤ p = omega (arith, start, c.loop-place.auto.place) in
-    let to : p < neighbours_start a.material.now.ends.now (a.site + 1) = omega (arith, end, c.loop-place-test.true) in
-    let head = head_read a.material.now.pairs.now a.material.now.ends.now a.site p _ c.requires.can.by_site inside to c.index-head.ensures in
-    let within = head_inside a.material.now.pairs.now a.material.now.ends.now a.site p c.requires.can.pairs_are.each c.requires.can.by_site inside from to in
-    (omega (arith, head, within, c.requires.can.starts), omega (arith, head, within, c.requires.can.count))
-
-pub is_beyond-past-requires : goal.is_beyond-past-requires
-is_beyond-past-requires g c =
-    let a = c.args in
-    let p = c.loop-place.place in
-    let inside : a.site < a.material.now.pairs.now.sites = omega (arith, c.requires.site.0) in
-    let start = start_read a.material.now.pairs.now a.material.now.ends.now a.site _ c.requires.can.by_site (omega (arith, inside)) c.index-place.ensures in
-    let end = start_read a.material.now.pairs.now a.material.now.ends.now (a.site + 1) _ c.requires.can.by_site (omega (arith, inside)) c.index-place-end.ensures in
-    let from : neighbours_start a.material.now.ends.now a.site ≤ p = omega (arith, start, c.loop-place.auto.place) in
-    let to : p < neighbours_start a.material.now.ends.now (a.site + 1) = omega (arith, end, c.loop-place-test.true) in
-    let head = head_read a.material.now.pairs.now a.material.now.ends.now a.site p _ c.requires.can.by_site inside to c.index-head.ensures in
-    let within = head_inside a.material.now.pairs.now a.material.now.ends.now a.site p c.requires.can.pairs_are.each c.requires.can.by_site inside from to in
-    omega (arith, head, within, c.requires.can.count)
 
 pub add_inside-requires-clause-site : goal.add_inside-requires-clause-site
 add_inside-requires-clause-site g c = c.requires.site
@@ -52,19 +26,15 @@ pub add_inside-requires-clause-begins : goal.add_inside-requires-clause-begins
 add_inside-requires-clause-begins g c =
     let a = c.args in
     let p = c.loop-place.place in
-    let inside : a.site < a.material.now.pairs.now.sites = omega (arith, c.requires.site.0) in
-    let start = start_read a.material.now.pairs.now a.material.now.ends.now a.site _ c.requires.can.by_site (omega (arith, inside)) c.index-place.ensures in
-    let end = start_read a.material.now.pairs.now a.material.now.ends.now (a.site + 1) _ c.requires.can.by_site (omega (arith, inside)) c.index-place-end.ensures in
-    let from : neighbours_start a.material.now.ends.now a.site ≤ p = omega (arith, start, c.loop-place.auto.place) in
-    let to : p < neighbours_start a.material.now.ends.now (a.site + 1) = omega (arith, end, c.loop-place-test.true) in
+    let from : neighbours_start a.material.now.ends.now a.site ≤ p = omega (arith, c.row_start-place.ensures, c.loop-place.auto.place) in
+    let to : p < neighbours_start a.material.now.ends.now (a.site + 1) = omega (arith, c.row_start-place-end.ensures, c.loop-place-test.true) in
     next_begins a.material.now a.sites.now a.site p (arc_ends (arcs_in a.form.now)) (arc_ends (arcs_in c.loop-place.form)) (strip_ends a.material.now a.sites.now) from to
     c.requires.begins c.loop-place.invariant.ends
 
 pub loop-place-init : goal.loop-place-init
 loop-place-init g c =
     let a = c.args in
-    let inside : a.site < a.material.now.pairs.now.sites = omega (arith, c.requires.site.0) in
-    let start = start_read a.material.now.pairs.now a.material.now.ends.now a.site _ c.requires.can.by_site (omega (arith, inside)) c.index-place.ensures in
+    let start = c.row_start-place.ensures in
     let v = strip_view a.material.now.known.now a.sites.now.from a.sites.now.to in
     record {
       ones_small = omega arith;
@@ -81,14 +51,11 @@ pub loop-place-preserved : goal.loop-place-preserved
 loop-place-preserved g c =
     let a = c.args in
     let p = c.loop-place.place in
-    let inside : a.site < a.material.now.pairs.now.sites = omega (arith, c.requires.site.0) in
-    let start = start_read a.material.now.pairs.now a.material.now.ends.now a.site _ c.requires.can.by_site (omega (arith, inside)) c.index-place.ensures in
-    let end = start_read a.material.now.pairs.now a.material.now.ends.now (a.site + 1) _ c.requires.can.by_site (omega (arith, inside)) c.index-place-end.ensures in
-    let from : neighbours_start a.material.now.ends.now a.site ≤ p = omega (arith, start, c.loop-place.auto.place) in
-    let to : p < neighbours_start a.material.now.ends.now (a.site + 1) = omega (arith, end, c.loop-place-test.true) in
+    let from : neighbours_start a.material.now.ends.now a.site ≤ p = omega (arith, c.row_start-place.ensures, c.loop-place.auto.place) in
+    let to : p < neighbours_start a.material.now.ends.now (a.site + 1) = omega (arith, c.row_start-place-end.ensures, c.loop-place-test.true) in
     let few : p - neighbours_start a.material.now.ends.now a.site ≤ 4294967296 =
-    omega (arith, degree_most a.material.now.pairs.now a.material.now.ends.now a.site c.requires.can.by_site inside, from, to, c.requires.can.pairs_are.count) in
-    let head = head_read a.material.now.pairs.now a.material.now.ends.now a.site p _ c.requires.can.by_site inside to c.index-head.ensures in
+    omega (arith, degree_most a.material.now.pairs.now a.material.now.ends.now a.site c.requires.can.by_site c.requires.site.0, from, to, c.requires.can.pairs_are.count) in
+    let head = c.head_beside-head.ensures.head in
     let i = c.loop-place.invariant in
     let v = strip_view a.material.now.known.now a.sites.now.from a.sites.now.to in
     let one = c.counted_surplus-ones in
@@ -100,12 +67,12 @@ loop-place-preserved g c =
       beyond_small = border_small (to_z w64 c.loop-place.beyond-bits) past.result _ (neighbours_start a.material.now.ends.now a.site) p from i.beyond_small past.ensures.range past_is;
       ones = λ m move f gives over.
           border_more m move f (choice_at a.material.now.start.now) (not_ones (choice_at a.material.now.known.now))
-          a.material.now.pairs.now a.material.now.ends.now a.site p _ c.is_one-one.result (to_z w64 c.loop-place.ones-bits) one.result _
-          c.requires.can.pairs_are.each c.requires.can.by_site inside from to head c.is_one-one.ensures ones_is (i.ones m move f gives over) (one.ensures.value m move f gives over);
+          a.material.now.pairs.now a.material.now.ends.now a.site p _ c.counts_of-counts.result.one (to_z w64 c.loop-place.ones-bits) one.result _
+          c.requires.can.pairs_are.each c.requires.can.by_site c.requires.site.0 from to head c.counts_of-counts.ensures.one ones_is (i.ones m move f gives over) (one.ensures.value m move f gives over);
       beyond = λ m move f gives over.
           border_more m move f (choice_at a.material.now.known.now) (range_of a.sites.now.from a.sites.now.to)
-          a.material.now.pairs.now a.material.now.ends.now a.site p _ c.is_beyond-past.result (to_z w64 c.loop-place.beyond-bits) past.result _
-          c.requires.can.pairs_are.each c.requires.can.by_site inside from to head c.is_beyond-past.ensures past_is (i.beyond m move f gives over) (past.ensures.value m move f gives over);
+          a.material.now.pairs.now a.material.now.ends.now a.site p _ c.counts_of-counts.result.beyond (to_z w64 c.loop-place.beyond-bits) past.result _
+          c.requires.can.pairs_are.each c.requires.can.by_site c.requires.site.0 from to head c.counts_of-counts.ensures.beyond past_is (i.beyond m move f gives over) (past.ensures.value m move f gives over);
       laid = c.in_ok-add_inside.ensures.laid;
       ends = ends_on a.material.now a.sites.now a.site p (arc_ends (arcs_in a.form.now)) (arc_ends (arcs_in c.loop-place.form)) (arc_ends (arcs_in c.add_inside.new.form)) from i.ends c.in_ok-add_inside.ensures.ends;
       adds = λ m move f gives over.
@@ -117,45 +84,33 @@ pub returns-clause-ones : goal.returns-clause-ones
 returns-clause-ones g c =
     λ m move f gives over.
     let a = c.args in
-    let inside : a.site < a.material.now.pairs.now.sites = omega (arith, c.requires.site.0) in
-    let start = start_read a.material.now.pairs.now a.material.now.ends.now a.site _ c.requires.can.by_site (omega (arith, inside)) c.index-place.ensures in
-    let end = start_read a.material.now.pairs.now a.material.now.ends.now (a.site + 1) _ c.requires.can.by_site (omega (arith, inside)) c.index-place-end.ensures in
     let last : c.loop-place.place - neighbours_start a.material.now.ends.now a.site ≡ degree a.material.now.ends.now a.site =
-    omega (arith, start, end, starts_rise a.material.now.pairs.now a.material.now.ends.now a.site c.requires.can.by_site inside, c.loop-place.auto.place-end, c.loop-place-test.false) in
+    omega (arith, c.row_start-place.ensures, c.row_start-place-end.ensures, starts_rise a.material.now.pairs.now a.material.now.ends.now a.site c.requires.can.by_site c.requires.site.0, c.loop-place.auto.place-end, c.loop-place-test.false) in
     total_all m move f (choice_at a.material.now.start.now) (not_ones (choice_at a.material.now.known.now)) a.material.now.pairs.now a.material.now.ends.now a.site _ _
-    over.pairs_are over.sites_are c.requires.can.pairs_are c.requires.can.by_site inside last (c.loop-place.invariant.ones m move f gives over)
+    over.pairs_are over.sites_are c.requires.can.pairs_are c.requires.can.by_site c.requires.site.0 last (c.loop-place.invariant.ones m move f gives over)
 
 pub returns-clause-beyond : goal.returns-clause-beyond
 returns-clause-beyond g c =
     λ m move f gives over.
     let a = c.args in
-    let inside : a.site < a.material.now.pairs.now.sites = omega (arith, c.requires.site.0) in
-    let start = start_read a.material.now.pairs.now a.material.now.ends.now a.site _ c.requires.can.by_site (omega (arith, inside)) c.index-place.ensures in
-    let end = start_read a.material.now.pairs.now a.material.now.ends.now (a.site + 1) _ c.requires.can.by_site (omega (arith, inside)) c.index-place-end.ensures in
     let last : c.loop-place.place - neighbours_start a.material.now.ends.now a.site ≡ degree a.material.now.ends.now a.site =
-    omega (arith, start, end, starts_rise a.material.now.pairs.now a.material.now.ends.now a.site c.requires.can.by_site inside, c.loop-place.auto.place-end, c.loop-place-test.false) in
+    omega (arith, c.row_start-place.ensures, c.row_start-place-end.ensures, starts_rise a.material.now.pairs.now a.material.now.ends.now a.site c.requires.can.by_site c.requires.site.0, c.loop-place.auto.place-end, c.loop-place-test.false) in
     total_all m move f (choice_at a.material.now.known.now) (range_of a.sites.now.from a.sites.now.to) a.material.now.pairs.now a.material.now.ends.now a.site _ _
-    over.pairs_are over.sites_are c.requires.can.pairs_are c.requires.can.by_site inside last (c.loop-place.invariant.beyond m move f gives over)
+    over.pairs_are over.sites_are c.requires.can.pairs_are c.requires.can.by_site c.requires.site.0 last (c.loop-place.invariant.beyond m move f gives over)
 
 pub returns-clause-range : goal.returns-clause-range
 returns-clause-range g c =
     let a = c.args in
-    let inside : a.site < a.material.now.pairs.now.sites = omega (arith, c.requires.site.0) in
-    let start = start_read a.material.now.pairs.now a.material.now.ends.now a.site _ c.requires.can.by_site (omega (arith, inside)) c.index-place.ensures in
-    let end = start_read a.material.now.pairs.now a.material.now.ends.now (a.site + 1) _ c.requires.can.by_site (omega (arith, inside)) c.index-place-end.ensures in
     let last : c.loop-place.place - neighbours_start a.material.now.ends.now a.site ≡ degree a.material.now.ends.now a.site =
-    omega (arith, start, end, starts_rise a.material.now.pairs.now a.material.now.ends.now a.site c.requires.can.by_site inside, c.loop-place.auto.place-end, c.loop-place-test.false) in
+    omega (arith, c.row_start-place.ensures, c.row_start-place-end.ensures, starts_rise a.material.now.pairs.now a.material.now.ends.now a.site c.requires.can.by_site c.requires.site.0, c.loop-place.auto.place-end, c.loop-place-test.false) in
     (omega (arith, last, c.loop-place.invariant.ones_small), omega (arith, last, c.loop-place.invariant.beyond_small))
 
 pub returns-clause-adds : goal.returns-clause-adds
 returns-clause-adds g c =
     λ m move f gives over.
     let a = c.args in
-    let inside : a.site < a.material.now.pairs.now.sites = omega (arith, c.requires.site.0) in
-    let start = start_read a.material.now.pairs.now a.material.now.ends.now a.site _ c.requires.can.by_site (omega (arith, inside)) c.index-place.ensures in
-    let end = start_read a.material.now.pairs.now a.material.now.ends.now (a.site + 1) _ c.requires.can.by_site (omega (arith, inside)) c.index-place-end.ensures in
     let last : c.loop-place.place - neighbours_start a.material.now.ends.now a.site ≡ degree a.material.now.ends.now a.site =
-    omega (arith, start, end, starts_rise a.material.now.pairs.now a.material.now.ends.now a.site c.requires.can.by_site inside, c.loop-place.auto.place-end, c.loop-place-test.false) in
+    omega (arith, c.row_start-place.ensures, c.row_start-place-end.ensures, starts_rise a.material.now.pairs.now a.material.now.ends.now a.site c.requires.can.by_site c.requires.site.0, c.loop-place.auto.place-end, c.loop-place-test.false) in
     let v = strip_view a.material.now.known.now a.sites.now.from a.sites.now.to in
     row_adds_all a.material.now.ends.now (open_at v) (λ (x : ℕ → Bool) (pair : Pair). unsaved_surplus m move f (choice_at v) (open_rank v) x pair) a.site _
     (form_in a.form.now) (form_in c.loop-place.form) last (c.loop-place.invariant.adds m move f gives over)
@@ -166,9 +121,6 @@ returns-clause-laid g c = c.loop-place.invariant.laid
 pub returns-clause-ends : goal.returns-clause-ends
 returns-clause-ends g c =
     let a = c.args in
-    let inside : a.site < a.material.now.pairs.now.sites = omega (arith, c.requires.site.0) in
-    let start = start_read a.material.now.pairs.now a.material.now.ends.now a.site _ c.requires.can.by_site (omega (arith, inside)) c.index-place.ensures in
-    let end = start_read a.material.now.pairs.now a.material.now.ends.now (a.site + 1) _ c.requires.can.by_site (omega (arith, inside)) c.index-place-end.ensures in
     let last : c.loop-place.place - neighbours_start a.material.now.ends.now a.site ≡ degree a.material.now.ends.now a.site =
-    omega (arith, start, end, starts_rise a.material.now.pairs.now a.material.now.ends.now a.site c.requires.can.by_site inside, c.loop-place.auto.place-end, c.loop-place-test.false) in
+    omega (arith, c.row_start-place.ensures, c.row_start-place-end.ensures, starts_rise a.material.now.pairs.now a.material.now.ends.now a.site c.requires.can.by_site c.requires.site.0, c.loop-place.auto.place-end, c.loop-place-test.false) in
     c.loop-place.invariant.ends ∙ ap (λ (k : ℕ). arc_ends (arcs_in a.form.now) ++ ends_below a.material.now a.sites.now a.site k) last

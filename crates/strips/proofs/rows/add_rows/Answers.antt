@@ -1,17 +1,17 @@
-use Rattle.std.proofs.Common.{◌≡◌, ◌<◌, ◌≤◌, ◌-ℤ◌, ◌∙◌, ℕ, ℤ, Bool, List, ◌++◌, get_or, unsigned_abs, pos, ap, refl, sym, subst, length, sum, arith}
+use Rattle.std.proofs.Common.{◌≡◌, ◌<◌, ◌-ℤ◌, take, ◌∙◌, ℕ, ℤ, Bool, List, ◌++◌, get_or, unsigned_abs, pos, ap, refl, sym, subst, length, sum, arith}
 use Rattle.std.proofs.lemmas.Grind.{common_steps}
 use Rattle.std.proofs.lemmas.List.{get_or-map}
 use Rattle.compile_cut.specs.Weights.{weights_size}
 use Rattle.move_energy.specs.BySite.{degree, met_at}
 use Rattle.move_energy.specs.Choices.{choice_at, open_at, open_rank}
 use Rattle.move_energy.specs.Weights.{weight_at, unsaved_surplus}
-use Rattle.move_energy.proofs.Opened.{opened_has, open_true}
+use Rattle.move_energy.specs.Built.{AddsCost}
 use Rattle.move_energy.proofs.Adding.{cost_none, site_more, site_all}
 use Rattle.deciding.specs.Parts.{site_weight}
-use Rattle.deciding.proofs.Left.{degree_most}
 use Rattle.closing_in.specs.Borders.{border_at, range_of}
+use Rattle.strips.specs.Building.{view_by}
 use Rattle.strips.specs.Views.{strip_view, weight_now}
-use Rattle.strips.proofs.Views.{view_length}
+use Rattle.strips.proofs.Sizes.{seen_length, row_few}
 use Rattle.strips.proofs.Borders.{weight_fits, weight_is, weight_few, border_passed, size_more, borders_more, size_all, borders_all, list_more}
 use Rattle.std.specs.List.{flat_map}
 use Rattle.std.proofs.lemmas.List.{take_all}
@@ -38,16 +38,6 @@ loop-index-init g c =
       adds = λ m move f gives over. cost_none (form_in c.args.form.now) (λ x. 0) (λ x. refl);
     }
 
-pub add_row-requires-clause-site : goal.add_row-requires-clause-site
-add_row-requires-clause-site g c =
-    let a = c.args in
-    let v = strip_view a.material.now.known.now a.sites.now.from a.sites.now.to in
-    let i = c.loop-index.index in
-    let l : i < length a.sites.now.opened.now = c.loop-index-test.true in
-    let has = opened_has v a.sites.now.opened.now i c.requires.opened l in
-    let long = view_length a.material.now.known.now a.sites.now.from a.sites.now.to in
-    (omega (arith, has.0, long, c.requires.can.count), open_true (choice_at v (get_or a.sites.now.opened.now i 0)) has.1)
-
 pub add_row-requires-clause-laid : goal.add_row-requires-clause-laid
 add_row-requires-clause-laid g c = c.loop-index.invariant.laid
 
@@ -56,23 +46,18 @@ add_row-requires-clause-begins g c =
     let a = c.args in
     let all = strip_ends a.material.now a.sites.now in
     let i = c.loop-index.index in
-    subst (λ (xs : List ℕ). IsFirstPart (xs ++ ends_at a.material.now a.sites.now (get_or a.sites.now.opened.now i 0)) all) (sym c.loop-index.invariant.ends)
-    (row_begins a.material.now a.sites.now a.sites.now.opened.now i c.loop-index-test.true)
+    let F = ends_at a.material.now a.sites.now in
+    subst (λ (xs : List ℕ). IsFirstPart (xs ++ F c.site_at-site.result) all) (sym c.loop-index.invariant.ends)
+    (subst (λ (site : ℕ). IsFirstPart (flat_map F (take i a.sites.now.opened.now) ++ F site) all) (sym c.site_at-site.ensures.value)
+    (row_begins a.material.now a.sites.now a.sites.now.opened.now i c.loop-index-test.true))
 
 pub overflow_sub-sites : goal.overflow_sub-sites
 overflow_sub-sites g c =
     let a = c.args in
-    let v = strip_view a.material.now.known.now a.sites.now.from a.sites.now.to in
     let i = c.loop-index.index in
-    let l : i < length a.sites.now.opened.now = c.loop-index-test.true in
-    let has = opened_has v a.sites.now.opened.now i c.requires.opened l in
-    let long = view_length a.material.now.known.now a.sites.now.from a.sites.now.to in
-    let site : ℕ = get_or a.sites.now.opened.now i 0 in
-    let inside : site < a.material.now.pairs.now.sites = omega (arith, has.0, long, c.requires.can.count) in
-    let within : i < length a.sites.now.weights.now = omega (arith, l, c.requires.weighed.count) in
-    let few_ends : degree a.material.now.ends.now site ≤ 8388608 = omega (arith, degree_most a.material.now.pairs.now a.material.now.ends.now site c.requires.can.by_site inside, c.requires.can.pairs_are.count) in
-    weight_fits (weight_at a.sites.now.weights.now i) c.in_ok-found.found.ones (degree a.material.now.ends.now site) (weight_few a.sites.now.weights.now i within c.requires.weighed.size)
-    c.in_ok-found.ensures.range.0 few_ends
+    let within : i < length a.sites.now.weights.now = omega (arith, c.loop-index-test.true, c.requires.weighed.count) in
+    weight_fits (weight_at a.sites.now.weights.now i) c.in_ok-found.found.ones (degree a.material.now.ends.now c.site_at-site.result) (weight_few a.sites.now.weights.now i within c.requires.weighed.size)
+    c.in_ok-found.ensures.range.0 (row_few a.material.now c.site_at-site.result c.requires.can c.site_at-site.ensures.site.0)
 
 pub loop-index-preserved : goal.loop-index-preserved
 loop-index-preserved g c =
@@ -80,12 +65,10 @@ loop-index-preserved g c =
     let v = strip_view a.material.now.known.now a.sites.now.from a.sites.now.to in
     let i = c.loop-index.index in
     let l : i < length a.sites.now.opened.now = c.loop-index-test.true in
-    let has = opened_has v a.sites.now.opened.now i c.requires.opened l in
-    let long = view_length a.material.now.known.now a.sites.now.from a.sites.now.to in
-    let site : ℕ = get_or a.sites.now.opened.now i 0 in
-    let inside : site < a.material.now.pairs.now.sites = omega (arith, has.0, long, c.requires.can.count) in
+    let site = c.site_at-site.result in
+    let at = c.site_at-site.ensures.value in
     let within : i < length a.sites.now.weights.now = omega (arith, l, c.requires.weighed.count) in
-    let few_ends : degree a.material.now.ends.now site ≤ 8388608 = omega (arith, degree_most a.material.now.pairs.now a.material.now.ends.now site c.requires.can.by_site inside, c.requires.can.pairs_are.count) in
+    let few_ends = row_few a.material.now site c.requires.can c.site_at-site.ensures.site.0 in
     let inv = c.loop-index.invariant in
     let found = c.in_ok-found.found in
     let says = c.in_ok-found.ensures in
@@ -98,40 +81,41 @@ loop-index-preserved g c =
       borders_room = omega (arith, second.capacity, inv.borders_room);
       list_len = omega (arith, first.len, inv.list_len);
       borders_len = omega (arith, second.len, inv.borders_len);
-      size = size_more a.sites.now.weights.now c.loop-index.list.items _ a.sites.now.opened.now a.material.now.ends.now i site _ found.ones l within refl first.items weight says.range.0 inv.size;
-      small = borders_more c.loop-index.borders.items _ a.sites.now.opened.now a.material.now.ends.now i site _ l refl second.items (omega (arith, border, says.range.1)) inv.small;
+      size = size_more a.sites.now.weights.now c.loop-index.list.items _ a.sites.now.opened.now a.material.now.ends.now i site _ found.ones l within at first.items weight says.range.0 inv.size;
+      small = borders_more c.loop-index.borders.items _ a.sites.now.opened.now a.material.now.ends.now i site _ l at second.items (omega (arith, border, says.range.1)) inv.small;
       weights = λ m move f gives over starts.
           let own : weight_at a.sites.now.weights.now i ≡ site_weight m move f (choice_at a.material.now.start.now) site =
-          ap (λ (ws : List ℤ). weight_at ws i) starts ∙ get_or-map (site_weight m move f (choice_at a.material.now.start.now)) a.sites.now.opened.now i 0 (pos 0) l in
+          ap (λ (ws : List ℤ). weight_at ws i) starts ∙ get_or-map (site_weight m move f (choice_at a.material.now.start.now)) a.sites.now.opened.now i 0 (pos 0) l
+          ∙ ap (site_weight m move f (choice_at a.material.now.start.now)) (sym at) in
           let ones = says.ones m move f gives over in
-          list_more (weight_now m move f (choice_at a.material.now.start.now) (choice_at a.material.now.known.now)) c.loop-index.list.items _ a.sites.now.opened.now i site _ l refl first.items
+          list_more (weight_now m move f (choice_at a.material.now.start.now) (choice_at a.material.now.known.now)) c.loop-index.list.items _ a.sites.now.opened.now i site _ l at first.items
           (weight ∙ (λ j. own j -ℤ ones j)) (inv.weights m move f gives over starts);
       borders = λ m move f gives over.
-          list_more (border_at m move f (choice_at a.material.now.known.now) (range_of a.sites.now.from a.sites.now.to)) c.loop-index.borders.items _ a.sites.now.opened.now i site _ l refl second.items
+          list_more (border_at m move f (choice_at a.material.now.known.now) (range_of a.sites.now.from a.sites.now.to)) c.loop-index.borders.items _ a.sites.now.opened.now i site _ l at second.items
           (border ∙ ap unsigned_abs (says.beyond m move f gives over)) (inv.borders m move f gives over);
       laid = c.in_ok-found.ensures.laid;
-      ends = c.in_ok-found.ensures.ends ∙ ap (λ (xs : List ℕ). xs ++ ends_at a.material.now a.sites.now site) inv.ends ∙ sym (rows_more a.material.now a.sites.now a.sites.now.opened.now i l);
+      ends = c.in_ok-found.ensures.ends ∙ ap (λ (xs : List ℕ). xs ++ ends_at a.material.now a.sites.now site) inv.ends
+          ∙ ap (λ (p : ℕ). flat_map (ends_at a.material.now a.sites.now) (take i a.sites.now.opened.now) ++ ends_at a.material.now a.sites.now p) at
+          ∙ sym (rows_more a.material.now a.sites.now a.sites.now.opened.now i l);
       adds = λ m move f gives over.
-          site_more (form_in a.form.now) (form_in c.loop-index.form) (form_in c.add_row.new.form)
-          (λ (x : ℕ → Bool). met_at a.material.now.ends.now (open_at v) (unsaved_surplus m move f (choice_at v) (open_rank v) x))
-          a.sites.now.opened.now i l (inv.adds m move f gives over) (says.adds m move f gives over);
+          let met : (ℕ → Bool) → ℕ → ℕ = λ x. met_at a.material.now.ends.now (open_at v) (unsaved_surplus m move f (choice_at v) (open_rank v) x) in
+          let here : AddsCost (form_in c.loop-index.form) (form_in c.add_row.new.form) (λ x. met x (get_or a.sites.now.opened.now i 0)) =
+          subst (λ (p : ℕ). AddsCost (form_in c.loop-index.form) (form_in c.add_row.new.form) (λ x. met x p)) at (says.adds m move f gives over) in
+          site_more (form_in a.form.now) (form_in c.loop-index.form) (form_in c.add_row.new.form) met
+          a.sites.now.opened.now i l (inv.adds m move f gives over) here;
     }
 
 pub returns-clause-size : goal.returns-clause-size
 returns-clause-size g c =
     let a = c.args in
-    let v = strip_view a.material.now.known.now a.sites.now.from a.sites.now.to in
-    let long = view_length a.material.now.known.now a.sites.now.from a.sites.now.to in
-    size_all a.material.now.pairs.now a.material.now.ends.now v a.sites.now.weights.now c.loop-index.list.items a.sites.now.opened.now c.loop-index.index c.requires.can.pairs_are c.requires.can.by_site
-    (long ∙ c.requires.can.count) c.requires.opened c.requires.weighed.size c.loop-index-test.false c.loop-index.invariant.size
+    size_all a.material.now.pairs.now a.material.now.ends.now (view_by a.sites.now a.material.now) a.sites.now.weights.now c.loop-index.list.items a.sites.now.opened.now c.loop-index.index c.requires.can.pairs_are c.requires.can.by_site
+    (seen_length a.material.now a.sites.now c.requires.can) c.requires.opened c.requires.weighed.size c.loop-index-test.false c.loop-index.invariant.size
 
 pub returns-clause-small : goal.returns-clause-small
 returns-clause-small g c =
     let a = c.args in
-    let v = strip_view a.material.now.known.now a.sites.now.from a.sites.now.to in
-    let long = view_length a.material.now.known.now a.sites.now.from a.sites.now.to in
-    borders_all a.material.now.pairs.now a.material.now.ends.now v c.loop-index.borders.items a.sites.now.opened.now c.loop-index.index c.requires.can.pairs_are c.requires.can.by_site
-    (long ∙ c.requires.can.count) c.requires.opened c.loop-index-test.false c.loop-index.invariant.small
+    borders_all a.material.now.pairs.now a.material.now.ends.now (view_by a.sites.now a.material.now) c.loop-index.borders.items a.sites.now.opened.now c.loop-index.index c.requires.can.pairs_are c.requires.can.by_site
+    (seen_length a.material.now a.sites.now c.requires.can) c.requires.opened c.loop-index-test.false c.loop-index.invariant.small
 
 pub returns-clause-adds : goal.returns-clause-adds
 returns-clause-adds g c = λ m move f gives over.

@@ -1,6 +1,6 @@
 use Rattle.std.proofs.Common.{◌≡◌, ◌<◌, ◌≤◌, ◌+◌, ◌-◌, ◌++◌, ℕ, List, length, sym, subst, length-append, arith}
 use Rattle.move_energy.specs.BySite.{degree, neighbours_start}
-use Rattle.move_energy.proofs.Parts.{start_read, starts_rise}
+use Rattle.move_energy.proofs.Parts.{starts_rise}
 use Rattle.deciding.proofs.Left.{degree_most}
 use Rattle.sink_distances.specs.declared.laying.Laying.{Laying}
 use Rattle.sink_distances.specs.Laying.{AreEndsCounted}
@@ -14,9 +14,8 @@ pub count-requires-clause-room : goal.count-requires-clause-room
 count-requires-clause-room c = λ v.
     let a = c.args in
     let p = c.loop-place.place in
-    let inside = c.requires.site.0 in
-    let start = start_read a.material.now.pairs.now a.material.now.ends.now a.site _ c.requires.can.by_site (omega (arith, inside)) c.index-place.ensures in
-    let end = start_read a.material.now.pairs.now a.material.now.ends.now (a.site + 1) _ c.requires.can.by_site (omega (arith, inside)) c.index-place-end.ensures in
+    let start = c.row_start-place.ensures in
+    let end = c.row_start-place-end.ensures in
     let from : neighbours_start a.material.now.ends.now a.site ≤ p = omega (arith, start, c.loop-place.auto.place) in
     let to : p < neighbours_start a.material.now.ends.now (a.site + 1) = omega (arith, end, c.loop-place-test.true) in
     let k = p - neighbours_start a.material.now.ends.now a.site in
@@ -28,7 +27,7 @@ count-requires-clause-room c = λ v.
       length-append ends (ends_below a.material.now a.sites.now a.site k),
       ends_few a.material.now a.sites.now a.site k,
       c.requires.counted.2,
-      degree_most a.material.now.pairs.now a.material.now.ends.now a.site c.requires.can.by_site inside,
+      degree_most a.material.now.pairs.now a.material.now.ends.now a.site c.requires.can.by_site c.requires.site.0,
       c.requires.can.pairs_are.count,
       from,
       to,
@@ -37,19 +36,17 @@ count-requires-clause-room c = λ v.
 pub loop-place-init : goal.loop-place-init
 loop-place-init c = λ ends counted.
     let a = c.args in
-    let inside = c.requires.site.0 in
-    let start = start_read a.material.now.pairs.now a.material.now.ends.now a.site _ c.requires.can.by_site (omega (arith, inside)) c.index-place.ensures in
+    let start = c.row_start-place.ensures in
     let n = length a.sites.now.opened.now in
     subst (λ (k : ℕ). AreEndsCounted n (ends ++ ends_below a.material.now a.sites.now a.site k) a.laying.now.nexts.items)
-    (let e : 0 ≡ c.index-place.result.now - neighbours_start a.material.now.ends.now a.site = omega (arith, start) in e)
+    (let e : 0 ≡ c.row_start-place.result - neighbours_start a.material.now.ends.now a.site = omega (arith, start) in e)
     (subst (λ (xs : List ℕ). AreEndsCounted n xs a.laying.now.nexts.items) (sym (append-nil ends)) counted)
 
 pub loop-place-preserved : goal.loop-place-preserved
 loop-place-preserved c = λ ends counted.
     let a = c.args in
     let p = c.loop-place.place in
-    let inside = c.requires.site.0 in
-    let start = start_read a.material.now.pairs.now a.material.now.ends.now a.site _ c.requires.can.by_site (omega (arith, inside)) c.index-place.ensures in
+    let start = c.row_start-place.ensures in
     let from : neighbours_start a.material.now.ends.now a.site ≤ p = omega (arith, start, c.loop-place.auto.place) in
     let n = length a.sites.now.opened.now in
     let so_far = c.loop-place.invariant ends counted in
@@ -65,9 +62,8 @@ loop-place-preserved c = λ ends counted.
 pub returns : goal.returns
 returns c = λ ends counted.
     let a = c.args in
-    let inside = c.requires.site.0 in
-    let start = start_read a.material.now.pairs.now a.material.now.ends.now a.site _ c.requires.can.by_site (omega (arith, inside)) c.index-place.ensures in
-    let end = start_read a.material.now.pairs.now a.material.now.ends.now (a.site + 1) _ c.requires.can.by_site (omega (arith, inside)) c.index-place-end.ensures in
+    let start = c.row_start-place.ensures in
+    let end = c.row_start-place-end.ensures in
     let last : c.loop-place.place - neighbours_start a.material.now.ends.now a.site ≡ degree a.material.now.ends.now a.site =
-    omega (arith, start, end, starts_rise a.material.now.pairs.now a.material.now.ends.now a.site c.requires.can.by_site inside, c.loop-place.auto.place-end, c.loop-place-test.false) in
+    omega (arith, start, end, starts_rise a.material.now.pairs.now a.material.now.ends.now a.site c.requires.can.by_site c.requires.site.0, c.loop-place.auto.place-end, c.loop-place-test.false) in
     subst (λ (k : ℕ). AreEndsCounted (length a.sites.now.opened.now) (ends ++ ends_below a.material.now a.sites.now a.site k) c.loop-place.laying.nexts.items) last (c.loop-place.invariant ends counted)

@@ -9,18 +9,18 @@ use Rattle.move_energy.proofs.Weighed.{surplus_passed}
 use Rattle.move_energy.specs.Built.{AddsCost}
 use Rattle.strips.specs.declared.material.RowForm.{RowForm}
 use Rattle.strips.specs.RowForms.{arcs_in, form_in}
-use Rattle.strips.proofs.Saving.{next_of, near_room, far_room, saving_laid, saving_ends, saving_costs}
+use Rattle.strips.proofs.Saving.{next_of, near_place, far_place, saving_laid, saving_ends, saving_costs}
 use Rattle.strips.proofs.rows.put_saving.Goals as goal
 
 pub put-requires-clause-near : goal.put-requires-clause-near
 put-requires-clause-near c =
     let r = c.requires.laid in
-    near_room r.0 c.args.first c.args.second r.1 c.args.form.now r.2 r.3 r.4
+    near_place r.0 c.args.first c.args.second r.1 (arcs_in c.args.form.now) _ _ _ r.2.laid (next_of r.1 (arcs_in c.args.form.now) c.args.first c.args.second r.3) r.4
 
 pub put-requires-clause-far : goal.put-requires-clause-far
 put-requires-clause-far c =
     let r = c.requires.laid in
-    far_room r.0 c.args.first c.args.second r.1 c.args.form.now r.2 r.3 c.requires.apart r.5
+    far_place r.0 c.args.first c.args.second r.1 (arcs_in c.args.form.now) _ _ _ r.2.laid (next_of r.1 (arcs_in c.args.form.now) c.args.first c.args.second r.3) c.requires.apart r.5
 
 pub put-requires-clause-few : goal.put-requires-clause-few
 put-requires-clause-few c = omega (arith, c.requires.laid.2.laid.cells_len, c.requires.laid.6)
