@@ -18,7 +18,7 @@ passed_range z k l h = (let e = ap unsigned_abs (passed_on z (omega (arith, l, h
 small_difference : (y z : ℤ) → IsCost (pos 10000000) y → IsCost (pos 10000000) z → unsigned_abs (y -ℤ z) ≤ 10000000
 small_difference y z k l = omega (arith, ints, k.0, k.1, l.0, l.1)
 
-cost_passed : (y : ℤ) → IsCost (pos 10000000) y → to_z w64 (of_z w64 y) ≡ y
+pub cost_passed : (y : ℤ) → IsCost (pos 10000000) y → to_z w64 (of_z w64 y) ≡ y
 cost_passed y k = omega (arith, ints, k.0, k.1)
 
 pub difference_fits_costs : (y z : ℤ) → IsCost (pos 10000000) y → IsCost (pos 10000000) z

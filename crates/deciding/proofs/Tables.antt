@@ -1,5 +1,5 @@
 -- What the table of a move's rises tells of a pair.
-use Rattle.std.proofs.Common.{◌≡◌, ◌⊎◌, ◌==◌, ℕ, ◌+◌, ◌<◌, ◌≤◌, Bool, true, false, cond, List, length, get_or, All, ℤ, pos, ◌+ℤ◌, ◌-ℤ◌, unsigned_abs, refl, sym, ap, ◌∙◌, subst, inl, inr, arith}
+use Rattle.std.proofs.Common.{◌≡◌, ◌≢◌, ◌⊎◌, ◌==◌, ℕ, ◌+◌, ◌<◌, ◌≤◌, Bool, true, false, cond, List, length, get_or, All, ℤ, pos, ◌+ℤ◌, ◌-ℤ◌, unsigned_abs, refl, sym, ap, ◌∙◌, subst, inl, inr, arith}
 use Rattle.std.specs.Prelude.{slice_set}
 use Rattle.std.proofs.lemmas.Int.{ints}
 use Rattle.std.proofs.lemmas.Bool.{cases_eq}
@@ -34,12 +34,22 @@ pub other_of : (pair : Pair) (site : ℕ) → (pair.first ≡ site) ⊎ (pair.se
 other_of pair site (inl first) = (pair.second, inl (first, refl))
 other_of pair site (inr second) = (pair.first, inr (refl, second))
 
-ends_inside : (n : ℕ) (pair : Pair) (site other : ℕ) → IsPair n pair → AreEnds pair site other → (site < n) × (other < n)
+pub ends_inside : (n : ℕ) (pair : Pair) (site other : ℕ) → IsPair n pair → AreEnds pair site other → (site < n) × (other < n)
 ends_inside n pair site other is (inl ends) = (omega (arith, ends.0, is.first), omega (arith, ends.1, is.second))
 ends_inside n pair site other is (inr ends) = (omega (arith, ends.1, is.second), omega (arith, ends.0, is.first))
 
-label_inside : (k : ℕ) (f : List ℕ) (p : ℕ) → All (λ label. label < k) f → p < length f → labelling f p < k
+pub label_inside : (k : ℕ) (f : List ℕ) (p : ℕ) → All (λ label. label < k) f → p < length f → labelling f p < k
 label_inside k f p all l = All-get_or (λ label. label < k) f p 0 l all
+
+-- the rise of a pair by the rises of its end
+pub rise_by : (m : Instance) (move : Move) (f : ℕ → ℕ) (pair : Pair) (site other : ℕ) (x : ℕ → Bool) (rises : EndRises) (z : ℤ) → AreEnds pair site other → pair.first ≢ pair.second
+    → AreRises m move pair.weight (pair.first == site) (f site) (f other) rises → z ≡ cond (x other) rises.high rises.low → z ≡ pair_rise m move f site x pair
+rise_by m move f pair site other x rises z ends unequal are z_is =
+    z_is ∙ told_rise m move pair.weight (pair.first == site) (f site) (f other) rises (x other) are
+    ∙ asked_rise m move f site other x pair (label_after move (f site) false) (label_after move (f site) true) _ ends unequal (refl, refl) refl
+
+pub rise_small : (rises : EndRises) (b : Bool) (z : ℤ) → AreRisesSmall rises → z ≡ cond b rises.high rises.low → unsigned_abs z ≤ 10000000
+rise_small rises b z small z_is = (let s = told_small rises b small in omega (arith, ap unsigned_abs z_is, s))
 
 -- the rise of a pair by the table
 pub table_rise : (m : Instance) (move : Move) (f : List ℕ) (pair : Pair) (site other : ℕ) (x : ℕ → Bool) (table : RiseTable) (k : ℕ) (z : ℤ) → All (λ label. label < k) f → m.labels ≡ k
@@ -51,10 +61,9 @@ table_rise m move f pair site other x table k z all labels is ends stands weight
     let own = label_inside k f site all inside.0 in
     let beside = label_inside k f other all inside.1 in
     let rises = rises_at table (pair.first == site) (labelling f site) (labelling f other) in
-    z_is ∙ told_rise m move table.weight (pair.first == site) (labelling f site) (labelling f other) rises (x other)
-    (told stands (pair.first == site) (labelling f site) (labelling f other) (omega (arith, own, labels)) (omega (arith, beside, labels)))
-    ∙ ap (λ w. label_rise m move w (pair.first == site) (labelling f site) (labelling f other) (x other)) weight
-    ∙ asked_rise m move (labelling f) site other x pair (label_after move (labelling f site) false) (label_after move (labelling f site) true) _ ends is.unequal (refl, refl) refl
+    let P : ℕ → Type 0 = λ w. AreRises m move w (pair.first == site) (labelling f site) (labelling f other) rises in
+    rise_by m move (labelling f) pair site other x rises z ends is.unequal
+    (subst P weight (told.told stands (pair.first == site) (labelling f site) (labelling f other) (omega (arith, own, labels)) (omega (arith, beside, labels)))) z_is
 
 pub table_small : (f : List ℕ) (pair : Pair) (site other : ℕ) (b : Bool) (table : RiseTable) (k : ℕ) (z : ℤ) → All (λ label. label < k) f
     → IsPair (length f) pair → AreEnds pair site other → table.stands ≡ true → IsRiseTable k table
@@ -70,7 +79,7 @@ table_small f pair site other b table k z all is ends stands sized z_is =
 difference : (low high a b c d : ℤ) → low ≡ c -ℤ a → high ≡ d -ℤ b → low -ℤ high ≡ (b +ℤ c) -ℤ (a +ℤ d)
 difference low high a b c d l h = omega (arith, ints, l, h)
 
-told_surplus : (m : Instance) (move : Move) (f : ℕ → ℕ) (pair : Pair) (rises : EndRises) → AreRises m move pair.weight true (f pair.first) (f pair.second) rises
+pub told_surplus : (m : Instance) (move : Move) (f : ℕ → ℕ) (pair : Pair) (rises : EndRises) → AreRises m move pair.weight true (f pair.first) (f pair.second) rises
     → rises.low -ℤ rises.high ≡ surplus_of (pair_table m move f pair)
 told_surplus m move f pair rises are =
     difference rises.low rises.high (pos (pair_entry m move f pair false false)) (pos (pair_entry m move f pair false true))
@@ -85,7 +94,7 @@ table_surplus m move f pair table k all labels is stands weight told =
     let beside = label_inside k f pair.second all is.second in
     let rises = rises_at table true (labelling f pair.first) (labelling f pair.second) in
     let P : ℕ → Type 0 = λ w. AreRises m move w true (labelling f pair.first) (labelling f pair.second) rises in
-    told_surplus m move (labelling f) pair rises (subst P weight (told stands true (labelling f pair.first) (labelling f pair.second) (omega (arith, own, labels)) (omega (arith, beside, labels))))
+    told_surplus m move (labelling f) pair rises (subst P weight (told.told stands true (labelling f pair.first) (labelling f pair.second) (omega (arith, own, labels)) (omega (arith, beside, labels))))
 
 pub surplus_small : (f : List ℕ) (pair : Pair) (table : RiseTable) (k : ℕ) (z : ℤ) → All (λ label. label < k) f → IsPair (length f) pair → table.stands ≡ true → IsRiseTable k table
     → z ≡ (rises_at table true (labelling f pair.first) (labelling f pair.second)).low -ℤ (rises_at table true (labelling f pair.first) (labelling f pair.second)).high

@@ -4,6 +4,7 @@
 
 mod bounds;
 mod costs;
+mod expansion_rises;
 pub mod laws;
 mod lists;
 mod move_to_find;
@@ -17,6 +18,7 @@ mod table;
 mod waiting_sites;
 
 pub use bounds::Bounds;
+pub use expansion_rises::{ExpansionRises, LabelEntry};
 pub use lists::Lists;
 pub use move_to_find::{MoveToFind, RiseNumbers};
 pub use savings::told_surplus;

@@ -10,6 +10,7 @@ ghost use Rattle.deciding.specs.Prelude.{AreTwoLabels, AvoidsSite, HasNoneBefore
 ghost use Rattle.deciding.specs.Prelude.{end_rise as end_rise_of, decided_or, rise_limit};
 
 use crate::costs::data_rise;
+use crate::expansion_rises::end_cost;
 use crate::move_to_find::MoveToFind;
 use crate::table::{EndRises, RiseTable};
 use cost_store::Problem;
@@ -184,6 +185,32 @@ pub(crate) fn table_rises(
     rises_by(table.rises(first, own, beside), choices[other as usize])
 }
 
+/// By how much a pair's cost rises where its end at a site turns, as the lists of an expansion tell
+/// it beside what the pair costs.
+#[inline]
+fn listed_rises<F: Fn(u32, u32) -> i64 + Sync, V: Fn(u32, u32) -> i64 + Sync>(
+    step: &MoveToFind<F, V>,
+    choices: &[Choice],
+    site: u32,
+    two_labels: TwoLabels,
+    pair: Pair,
+) -> Rises
+    requires pair { IsPairOfSite F.Fn V.Fn step.now choices.now site two_labels pair }
+    requires lists { (step.now.table.now.lists.stands ≡ true)
+        × (step.now.table.now.weight ≡ pair.weight) }
+    ensures { ArePairRises F.Fn V.Fn step.now choices.now site pair result }
+{
+    let first = pair.first == site;
+    let other = other_end(pair, site);
+    let own = u32::from(step.at[site as usize]);
+    let beside = u32::from(step.at[other as usize]);
+    let cost = end_cost(step.problem, pair.weight, first, own, beside);
+    rises_by(
+        step.table.lists.rises(first, own, beside, cost),
+        choices[other as usize],
+    )
+}
+
 /// By how much a pair's cost rises where its end at a site turns.
 #[inline]
 fn pair_rises<F: Fn(u32, u32) -> i64 + Sync, V: Fn(u32, u32) -> i64 + Sync>(
@@ -196,10 +223,13 @@ fn pair_rises<F: Fn(u32, u32) -> i64 + Sync, V: Fn(u32, u32) -> i64 + Sync>(
     requires pair { IsPairOfSite F.Fn V.Fn step.now choices.now site two_labels pair }
     ensures { ArePairRises F.Fn V.Fn step.now choices.now site pair result }
 {
-    if !step.table.covers(pair.weight) {
-        return asked_rises(step, choices, site, two_labels, pair);
+    if step.table.covers(pair.weight) {
+        return table_rises(step.table, choices, step.at, site, pair);
     }
-    table_rises(step.table, choices, step.at, site, pair)
+    if step.table.lists_cover(pair.weight) {
+        return listed_rises(step, choices, site, two_labels, pair);
+    }
+    asked_rises(step, choices, site, two_labels, pair)
 }
 
 /// Whether the other end of a site's pair is before the site, and open.

@@ -8,9 +8,10 @@ ghost use Rattle.cost_store.specs.Posed.{IsPosed, WhereMeant};
 ghost use Rattle.deciding.specs.Rising.{entry_place, rises_at, AreRises, AreRisesSmall};
 ghost use Rattle.deciding.specs.Rising.{IsRiseTable, IsTableOf, table_labels};
 
+use crate::expansion_rises::ExpansionRises;
 use crate::rises_of_site::{TwoLabels, end_rise};
 use cost_store::Problem;
-use label_field::WEIGHT_LIMIT;
+use label_field::{LABEL_LIMIT, WEIGHT_LIMIT};
 use labellings::Move;
 use move_energy::Neighbours;
 use std::alloc::{AllocError, Global};
@@ -30,13 +31,15 @@ pub struct EndRises {
     pub high: i32,
 }
 
-/// The rises of a move for each two labels, of the pairs of one weight. It takes 64 KB once a table
-/// was made.
+/// The rises of a move for each two labels, of the pairs of one weight; or, where there are many
+/// labels or few sites, the lists that tell those of an expansion. It takes 64 KB once a table was
+/// made.
 #[derive(Drop)]
 pub struct RiseTable {
     pub stands: bool,
     pub weight: u32,
     pub entries: Vec<EndRises>,
+    pub lists: ExpansionRises,
 }
 
 /// Where the rises of these labels stand.
@@ -91,12 +94,13 @@ fn ask_rises<F: Fn(u32, u32) -> i64 + Sync, V: Fn(u32, u32) -> i64 + Sync>(
 impl RiseTable {
     /// No table. It takes no memory.
     pub fn empty(alloc: Global) -> RiseTable
-        ensures { result.stands ≡ false }
+        ensures { (result.stands ≡ false) × (result.lists.stands ≡ false) }
     {
         RiseTable {
             stands: false,
             weight: 0,
             entries: Vec::new(alloc),
+            lists: ExpansionRises::empty(alloc),
         }
     }
 
@@ -106,6 +110,14 @@ impl RiseTable {
         ensures { result ≡ true → (self.now.stands ≡ true) × (self.now.weight ≡ weight) }
     {
         self.stands && self.weight == weight
+    }
+
+    /// Whether the lists tell the rises of pairs of this weight.
+    #[inline]
+    pub(crate) fn lists_cover(&self, weight: u32) -> bool
+        ensures { result ≡ true → (self.now.lists.stands ≡ true) × (self.now.weight ≡ weight) }
+    {
+        self.lists.stands && self.weight == weight
     }
 
     /// Whether the rises of all these pairs stand here.
@@ -149,7 +161,8 @@ impl RiseTable {
             slice_index_or self.new.entries.items k (record { low = pos 0; high = pos 0 })
             ≡ slice_index_or self.old.entries.items k (record { low = pos 0; high = pos 0 }) }
         ensures size { length self.new.entries.items ≡ 8192 }
-        ensures same { (self.new.stands ≡ self.old.stands) × (self.new.weight ≡ self.old.weight) }
+        ensures same { (self.new.stands ≡ self.old.stands) × (self.new.weight ≡ self.old.weight)
+            × (self.new.lists ≡ self.old.lists) }
     {
         let weight = self.weight;
         for other in 0..problem.data_cost.labels {
@@ -169,6 +182,7 @@ impl RiseTable {
         requires weight { self.old.weight ≤ weight_limit }
         requires few { problem.now.data_cost.labels ≤ table_labels }
         requires size { length self.old.entries.items ≡ 8192 }
+        requires lists { self.old.lists.stands ≡ false }
         ensures sized { IsRiseTable problem.now.data_cost.labels self.new }
         ensures rises { WhereMeant F.Fn V.Fn problem.now (λ m. IsTableOf m change self.new) }
     {
@@ -178,8 +192,34 @@ impl RiseTable {
         }
     }
 
+    /// Makes the lists of an expansion over so many sites, where they have fewer entries than there
+    /// are sites. A swap, whose open sites have two labels, has none.
+    fn make_lists<F: Fn(u32, u32) -> i64 + Sync, V: Fn(u32, u32) -> i64 + Sync>(
+        &mut self,
+        problem: &Problem<F, V>,
+        change: Move,
+        sites: usize,
+    ) -> Result<(), AllocError>
+        requires posed { IsPosed F.Fn V.Fn problem.now }
+        requires change { IsMoveOf problem.now.data_cost.labels change }
+        requires weight { self.old.weight ≤ weight_limit }
+        requires none { (self.old.stands ≡ false) × (self.old.lists.stands ≡ false) }
+        ensures sized { OnOk result (IsRiseTable problem.now.data_cost.labels self.new) }
+        ensures rises { OnOk result
+            (WhereMeant F.Fn V.Fn problem.now (λ m. IsTableOf m change self.new)) }
+    {
+        let labels = problem.data_cost.labels;
+        if labels > LABEL_LIMIT || (2 * labels) as usize > sites {
+            return Ok(());
+        }
+        match change {
+            Move::Expand(label) => self.lists.make(problem, self.weight, label),
+            Move::Swap(_, _) => Ok(()),
+        }
+    }
+
     /// Makes the table of a move over so many sites, for the pairs of this weight, where it has
-    /// fewer rises than there are sites and labels for it.
+    /// fewer rises than there are sites and labels for it; else lists.
     pub(crate) fn make<F: Fn(u32, u32) -> i64 + Sync, V: Fn(u32, u32) -> i64 + Sync>(
         &mut self,
         problem: &Problem<F, V>,
@@ -194,13 +234,14 @@ impl RiseTable {
             (WhereMeant F.Fn V.Fn problem.now (λ m. IsTableOf m change self.new)) }
     {
         self.stands = false;
+        self.lists.stands = false;
         self.weight = weight;
-        let labels = problem.data_cost.labels;
-        if weight > WEIGHT_LIMIT
-            || labels > TABLE_LABELS
-            || (2 * labels * labels) as usize > sites
-        {
+        if weight > WEIGHT_LIMIT {
             return Ok(());
+        }
+        let labels = problem.data_cost.labels;
+        if labels > TABLE_LABELS || (2 * labels * labels) as usize > sites {
+            return self.make_lists(problem, change, sites);
         }
         self.entries.resize(ENTRIES, EndRises { low: 0, high: 0 })?;
         self.stands = true;

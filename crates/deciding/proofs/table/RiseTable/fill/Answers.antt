@@ -1,4 +1,5 @@
-use Rattle.std.proofs.Common.{◌<◌, ◌∙◌, ℕ, Bool, true, false, subst, arith}
+use Rattle.std.proofs.Common.{◌<◌, ◌∙◌, ℕ, Bool, true, false, subst, ap, arith}
+use Rattle.deciding.specs.declared.expansion_rises.ExpansionRises.{ExpansionRises}
 use Rattle.deciding.specs.declared.table.EndRises.{EndRises}
 use Rattle.deciding.specs.Rising.{rises_at, AreRises, AreRisesSmall}
 use Rattle.deciding.proofs.Tables.{rows_more}
@@ -28,4 +29,5 @@ loop-own-preserved g c =
       size = f.size;
       stands = f.same.0 ∙ e.same.0 ∙ c.loop-own.invariant.stands;
       weight = f.same.1 ∙ weight;
+      lists = ap (λ (lists : ExpansionRises). lists.stands) (f.same.2 ∙ e.same.2) ∙ c.loop-own.invariant.lists;
     }

@@ -1,4 +1,4 @@
-use Rattle.std.proofs.Common.{◌≡◌, ◌<◌, ℕ, Bool, length}
+use Rattle.std.proofs.Common.{◌≡◌, ◌<◌, ℕ, Bool, length, false}
 use Rattle.cost_store.specs.Posed.{IsMeant}
 use Rattle.labellings.specs.Energies.{Instance}
 use Rattle.deciding.specs.Rising.{rises_at, AreRises, AreRisesSmall}
@@ -12,4 +12,5 @@ invariant-loop-own g l = record {
   size : length l.self.entries.items ≡ 8192;
   stands : l.self.stands ≡ l.fn.self.stands;
   weight : l.self.weight ≡ l.fn.self.weight;
+  lists : l.self.lists.stands ≡ false;
 }

@@ -26,4 +26,5 @@ loop-other-preserved g c =
       size = length-set xs c.place.result r ∙ c.loop-other.invariant.size;
       stands = c.loop-other.invariant.stands;
       weight = c.loop-other.invariant.weight;
+      lists = c.loop-other.invariant.lists;
     }

@@ -15,4 +15,5 @@ invariant-loop-other g l = record {
   size : length l.self.entries.items ≡ 8192;
   stands : l.self.stands ≡ l.fn.self.stands;
   weight : l.self.weight ≡ l.fn.self.weight;
+  lists : l.self.lists ≡ l.fn.self.lists;
 }
