@@ -21,10 +21,10 @@ beside a part counts as taking the label without being open, the parts are what 
 the parts, the pixels beside them that count so, and rings around these; all else that did not turn 0 counts as taking the
 label again. A move is made whole in place of its next stage where its stages open more than half as many pixels together as there are.
 
-A ring is what is beside the pixels of the ring before and counts as taking the label without being open. There are at
-most five, and a ring is opened only where fewer pixels are listed than twice those that the rings lie around, half of
-those that are open before the rings, and 16. A pixel that the rings lie around is listed once for each pixel beside it
-through which it was met.
+A ring is what is beside the pixels of the ring before and counts as taking the label without being open. The first stage
+opens at most 20, each later one at most 48. A ring is opened only where fewer pixels are listed than twice those that the
+rings lie around, three times those that are open before the rings, and 16 together. A pixel that the rings lie around is
+listed once for each pixel beside it through which it was met.
 
 Each cut is one of the whole network, in which pixels that are not open are tied to their value, and what each move ends
 with is compared with the best labelling that it reaches.
@@ -33,9 +33,10 @@ import open_sites
 from open_sites import LABELS, SIDE, after, decided, levels_to, neighbours, push_all, residuals_of
 
 SITES = SIDE * SIDE
-RINGS = 20
+FIRST_RINGS = 20
+LATER_RINGS = 48
 RING_ROOM = 16
-RING_SHARE = 4
+RING_SHARE = 3
 CHANGED_SHARE = 32
 OPENED_SHARE = 2
 MOST_CYCLES = 4
@@ -61,12 +62,12 @@ def cut(labels, alpha, known):
     return [site in levels for site in range(SITES)]
 
 
-def open_around(known, around, already):
-    """Opens rings around the listed pixels, where so many are open already."""
+def open_around(known, around, already, rings):
+    """Opens at most so many rings around the listed pixels, where so many pixels are open already."""
     listed = list(around)
     most = 2 * len(around) + RING_SHARE * already + RING_ROOM
     ring = listed
-    for _ in range(RINGS):
+    for _ in range(rings):
         if len(listed) >= most:
             return
         beside = []
@@ -106,7 +107,7 @@ def staged(labels, alpha, changed):
     known = [KEEPS if label == alpha else TAKES for label in labels]
     for site in fresh:
         known[site] = OPEN
-    open_around(known, fresh, len(fresh))
+    open_around(known, fresh, len(fresh), FIRST_RINGS)
     counts = []
     while sum(counts) + known.count(OPEN) <= SITES // OPENED_SHARE:
         counts.append(known.count(OPEN))
@@ -119,7 +120,7 @@ def staged(labels, alpha, changed):
                 known[site] = TAKES if values[site] else KEEPS
         for site in part + front:
             known[site] = OPEN
-        open_around(known, front, len(part) + len(front))
+        open_around(known, front, len(part) + len(front), LATER_RINGS)
     return counts, None
 
 

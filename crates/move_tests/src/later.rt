@@ -24,9 +24,9 @@ use std::test::Fail;
 const RUNS: &[(i64, u32, usize, usize)] = &[
     (2, 1, 4, 1863),
     (2, 2, 8, 2193),
-    (2, 3, 12, 2853),
-    (2, 4, 13, 2957),
-    (5, 4, 18, 26265),
+    (2, 3, 12, 4710),
+    (2, 4, 13, 4782),
+    (5, 4, 21, 25822),
 ];
 
 /// What two unlike labels cost in these runs.

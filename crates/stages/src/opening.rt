@@ -17,14 +17,18 @@ use label_field::Pairs;
 use move_energy::{Choice, Neighbours, ends_at, pair_at};
 use std::alloc::AllocError;
 
-/// So many rings of sites are opened around those that a stage has to look at.
-const RINGS: usize = 20;
+/// At most so many rings of sites are opened around those that the first stage has to look at.
+const FIRST_RINGS: usize = 20;
+
+/// At most so many are opened by a later stage. What the first stage does not close may reach far,
+/// and few wide stages cost less than many narrow ones.
+const LATER_RINGS: usize = 48;
 
 /// In the rings may be this many sites, and so many for each site that is open without them, and
 /// one for each around which they lie.
 const RING_ROOM: usize = 16;
 
-const RING_SHARE: usize = 4;
+const RING_SHARE: usize = 3;
 
 /// So many sites are looked over at once for an open one.
 const BLOCK: usize = 64;
@@ -214,12 +218,13 @@ fn open_ring(
     Ok(())
 }
 
-/// Opens rings around the listed sites, until so many sites are listed.
+/// Opens rings around the listed sites, at most so many, until so many sites are listed.
 fn open_rings(
     pairs: &Pairs,
     ends: &Neighbours,
     choices: &mut Vec<Choice>,
     ring: &mut Vec<u32>,
+    rings: usize,
     most: usize,
 ) -> Result<(), AllocError>
     requires by_site { AreBySite pairs.now ends.now }
@@ -229,7 +234,7 @@ fn open_rings(
     ensures inside { OnOk result (All (λ p. p < pairs.now.sites) ring.new.items) }
 {
     let mut from = 0;
-    for _ in 0..RINGS {
+    for _ in 0..rings {
         let to = ring.len();
         if to < most {
             open_ring(pairs, ends, choices, ring, from)?;
@@ -275,7 +280,7 @@ impl Stage {
         self.front.extend_from_slice(&self.fresh_sites)?;
         open_all(choices, &self.front);
         let most = most_listed(self.front.len(), self.front.len());
-        open_rings(pairs, ends, choices, &mut self.front, most)?;
+        open_rings(pairs, ends, choices, &mut self.front, FIRST_RINGS, most)?;
         list_open(&mut self.opened, choices)
     }
 
@@ -307,7 +312,7 @@ impl Stage {
         open_all(choices, &self.taking);
         open_all(choices, &self.front);
         let most = most_listed(self.front.len(), self.taking.len() + self.front.len());
-        open_rings(pairs, ends, choices, &mut self.front, most)?;
+        open_rings(pairs, ends, choices, &mut self.front, LATER_RINGS, most)?;
         list_open(&mut self.opened, choices)
     }
 }
