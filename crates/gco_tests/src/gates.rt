@@ -132,40 +132,146 @@ fn texts_of(alloc: Global, row: &Row) -> Result<(String, String), AllocError> {
 fn is_written(
     rt: &(impl AllocGlobal + Threads + Wait + Sync),
     words: &[&'static str],
-    input: &str,
-    written: &str,
+    input: &[u8],
+    written: &[u8],
     gate: &(dyn Gate + Sync),
 ) -> bool {
-    let mut reader = SlowReader::new(input.as_bytes(), ROOM, false);
+    let mut reader = SlowReader::new(input, ROOM, false);
     let mut writer = CutWriter::ample();
     let mut faults = CutWriter::ample();
     let mut source = WatchedReader::new(&mut reader);
     let mut sink = Watched::new(&mut writer);
     let mut fault_sink = Watched::new(&mut faults);
     let status = run_gated(rt, words, gate, &mut source, &mut sink, &mut fault_sink);
-    status == 0 && writer.held.as_slice() == written.as_bytes()
+    status == 0 && writer.held.as_slice() == written
 }
 
-/// Whether a run ends as the row tells, and a worker asked for a turn exactly where workers are
-/// asked for.
+/// Whether a run of these words writes what it should, and a worker asked for a turn exactly where
+/// workers are asked for.
 fn is_shared(
     rt: &(impl AllocGlobal + Threads + Wait + Sync),
-    row: &Row,
-) -> Result<bool, AllocError> {
-    let (input, written) = texts_of(rt.alloc(), row)?;
+    words: &[&'static str],
+    input: &[u8],
+    written: &[u8],
+    by_workers: bool,
+) -> bool {
     let counter = Counter {
         turns: AtomicU32::new(0),
     };
     let gate: &(dyn Gate + Sync) = &counter;
-    let is_right = is_written(rt, row.0, input.as_str(), written.as_str(), gate);
-    let turns = counter.turns.load(Ordering::SeqCst);
-    Ok(is_right && (turns > 0) == row.3)
+    let is_right = is_written(rt, words, input, written, gate);
+    is_right && (counter.turns.load(Ordering::SeqCst) > 0) == by_workers
+}
+
+/// Whether a run ends as the row tells.
+fn is_answered(
+    rt: &(impl AllocGlobal + Threads + Wait + Sync),
+    row: &Row,
+) -> Result<bool, AllocError> {
+    let (input, written) = texts_of(rt.alloc(), row)?;
+    Ok(is_shared(rt, row.0, input.as_bytes(), written.as_bytes(), row.3))
 }
 
 #[test]
 fn workers_make_the_cuts(rt: HostRuntime) -> Result<(), Fail> {
     for (place, row) in ROWS.iter().enumerate() {
-        expect(&rt, "ROWS", place, is_shared(&rt, row)?);
+        expect(&rt, "ROWS", place, is_answered(&rt, row)?);
+    }
+    Ok(())
+}
+
+/// Adds a picture of 64 by 64 samples: in each row 0 and this one in turn.
+fn push_picture(bytes: &mut Vec<u8>, second: u8) -> Result<(), AllocError> {
+    bytes.extend_from_slice(b"P5\n64 64\n1\n")?;
+    for _ in 0..2_048 {
+        bytes.extend_from_slice(&[0, second])?;
+    }
+    Ok(())
+}
+
+/// Pictures of these second samples, one behind the other.
+fn pictures_of(alloc: Global, seconds: &[u8]) -> Result<Vec<u8>, AllocError> {
+    let mut bytes = Vec::new(alloc);
+    for second in seconds {
+        push_picture(&mut bytes, *second)?;
+    }
+    Ok(bytes)
+}
+
+/// Words, the second sample of each picture of the input, and whether workers are asked for.
+type PictureRow = (&'static [&'static str], &'static [u8], bool);
+
+/// In each row half of the pixels would rather have label 0 and the others label 1, by 1 each. An
+/// unlike neighbour costs 1: so no pixel is decided before the cut, and all 0 is best.
+const PICTURES: &[PictureRow] = &[
+    (&["gco", "restore"], &[1], false),
+    (
+        &["gco", "restore", "--threads", "2", "--blocks", "2"],
+        &[1],
+        true,
+    ),
+    (
+        &["gco", "stereo", "--labels", "2", "--cap", "1"],
+        &[0, 1],
+        false,
+    ),
+    (
+        &[
+            "gco",
+            "stereo",
+            "--labels",
+            "2",
+            "--cap",
+            "1",
+            "--threads",
+            "2",
+            "--blocks",
+            "2",
+        ],
+        &[0, 1],
+        true,
+    ),
+    (
+        &[
+            "gco", "segment", "--low", "0", "--high", "1", "--strong", "1",
+        ],
+        &[1, 0],
+        false,
+    ),
+    (
+        &[
+            "gco",
+            "segment",
+            "--low",
+            "0",
+            "--high",
+            "1",
+            "--strong",
+            "1",
+            "--threads",
+            "2",
+            "--blocks",
+            "2",
+        ],
+        &[1, 0],
+        true,
+    ),
+];
+
+#[test]
+fn workers_cut_pictures(rt: HostRuntime) -> Result<(), Fail> {
+    let written = pictures_of(rt.alloc(), &[0])?;
+    for (place, row) in PICTURES.iter().enumerate() {
+        let (words, seconds, by_workers) = row;
+        let input = pictures_of(rt.alloc(), seconds)?;
+        let is_right = is_shared(
+            &rt,
+            words,
+            input.as_slice(),
+            written.as_slice(),
+            *by_workers,
+        );
+        expect(&rt, "PICTURES", place, is_right);
     }
     Ok(())
 }
