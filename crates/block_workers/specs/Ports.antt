@@ -5,6 +5,7 @@ use Rattle.block_turns.specs.declared.letter.Letter.{Letter}
 use Rattle.block_workers.specs.declared.port.Port.{Port}
 use Rattle.block_workers.specs.RingEnds.{letters_in, letters_out, letters_seen, room_seen}
 use Rattle.block_workers.specs.RingEnds.{inlet_room, AreOfRing, CanServe, IsSameInlet, IsSameOutlet}
+use Rattle.block_workers.specs.RingEnds.{IsInletAgain, IsOutletAgain}
 
 -- the block at the other ends
 abbrev pub other : Port → ℕ
@@ -47,6 +48,12 @@ CanServeRound ring p q = CanServe ring p.to_ring q.from_ring
 pub record IsSamePort (old new : Port) : Type 0 where
   pub to_ring : IsSameInlet old.to_ring new.to_ring
   pub from_ring : IsSameOutlet old.from_ring new.from_ring
+  pub other : other new ≡ other old
+
+-- the ends are those of the same rings, to the same block, in whatever round
+pub record IsPortAgain (old new : Port) : Type 0 where
+  pub to_ring : IsInletAgain old.to_ring new.to_ring
+  pub from_ring : IsOutletAgain old.from_ring new.from_ring
   pub other : other new ≡ other old
 
 -- nothing was put or taken in this round so far, and nothing is there to be taken

@@ -43,6 +43,13 @@ IsSameInlet old new = SameProducer old.ring new.ring × (new.before ≡ old.befo
 abbrev pub IsSameOutlet : Outlet → Outlet → Type 0
 IsSameOutlet old new = SameConsumer old.ring new.ring × (new.before ≡ old.before)
 
+-- the end is that of the same ring, in whatever round
+abbrev pub IsInletAgain : Inlet → Inlet → Type 0
+IsInletAgain old new = SameProducer old.ring new.ring
+
+abbrev pub IsOutletAgain : Outlet → Outlet → Type 0
+IsOutletAgain old new = SameConsumer old.ring new.ring
+
 -- nothing was put or taken in this round so far, and nothing is there to be taken
 pub record IsEmptyRing (places : ℕ) (inlet : Inlet) (outlet : Outlet) : Type 0 where
   pub room : inlet_room inlet ≡ places

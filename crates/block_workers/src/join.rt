@@ -2,7 +2,7 @@
 ghost use Rattle.std.specs.Prelude.{◌≡◌, ◌≤◌, ◌++◌, IfOk, IfNone, IfSome, length};
 ghost use Rattle.std.specs.Prelude.{vec_len, vec_capacity};
 ghost use Rattle.block_workers.specs.Ports.{CanServeRound, IsNewPort, LeadsTo, Looks, TakesAll};
-ghost use Rattle.block_workers.specs.Ports.{capacity, other};
+ghost use Rattle.block_workers.specs.Ports.{IsPortAgain, capacity, other};
 ghost use Rattle.block_workers.specs.Ports.{letters_put, letters_taken, letters_waiting};
 
 use crate::port::Port;
@@ -46,6 +46,8 @@ pub fn join_again(first: Port, second: Port, ring: usize) -> Option<(Port, Port)
     requires back { LeadsTo second first }
     ensures first { IfSome result (λ ports. IsNewPort (other first) ring ports.0) }
     ensures second { IfSome result (λ ports. IsNewPort (other second) ring ports.1) }
+    ensures same_first { IfSome result (λ ports. IsPortAgain first ports.0) }
+    ensures same_second { IfSome result (λ ports. IsPortAgain second ports.1) }
     ensures there { IfSome result (λ ports. LeadsTo ports.0 ports.1) }
     ensures back { IfSome result (λ ports. LeadsTo ports.1 ports.0) }
     ensures refused { IfNone result (CanServeRound ring first second

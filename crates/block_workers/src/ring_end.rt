@@ -76,7 +76,7 @@ impl Outlet {
     ghost use Rattle.std.specs.Prelude.{IsSome};
     ghost use Rattle.std.specs.Prelude.{IsFalse};
     ghost use Rattle.block_workers.specs.RingEnds.{AreOfRing, CanServe, IsEmptyRing};
-    ghost use Rattle.block_workers.specs.RingEnds.{LooksIn, LooksOut};
+    ghost use Rattle.block_workers.specs.RingEnds.{IsInletAgain, IsOutletAgain, LooksIn, LooksOut};
     ghost use Rattle.block_workers.specs.RingEnds.{TakesOut, first_seen, letters_in, letters_out};
     ghost use Rattle.block_workers.specs.RingEnds.{letters_seen, inlet_room};
 
@@ -124,6 +124,8 @@ impl Outlet {
     pub(crate) fn begin(&mut self, inlet: &mut Inlet, room: usize) -> bool
         requires ends { AreOfRing inlet.old self.old }
         ensures ends { AreOfRing inlet.new self.new }
+        ensures inlet { IsInletAgain inlet.old inlet.new }
+        ensures outlet { IsOutletAgain self.old self.new }
         ensures empty { IsTrue result → IsEmptyRing room inlet.new self.new }
         ensures refused { IsFalse result → ¬ CanServe room inlet.old self.old }
     {

@@ -1,8 +1,8 @@
 -- Hands that hold their cards in something: the one whose turn it is gets a card more.
-use Rattle.std.proofs.Common.{◌≡◌, ℕ, ◌+◌, ◌*◌, ◌%◌, ◌/◌, ◌<◌, List, [], ◌∷◌, ◌++◌, length, map, set, get_or, replicate, sym, ◌∙◌, ap, subst, arith}
+use Rattle.std.proofs.Common.{◌≡◌, ℕ, ◌+◌, ◌*◌, ◌%◌, ◌/◌, ◌<◌, ◌≤◌, List, All, [], ◌∷◌, ◌++◌, length, map, set, get_or, sym, ◌∙◌, ap, subst, arith}
 use Rattle.std.proofs.Math.Nat.{mod-lt, div-add-mod, mul_comm, lt_of_mul-lt-mul_right}
-use Rattle.std.proofs.Math.Seq.{map-set_same}
-use Rattle.std.proofs.lemmas.List.{get_or-map, map-set, get_or-replicate}
+use Rattle.std.proofs.lemmas.List.{get_or-map, map-set}
+use Rattle.std.proofs.lemmas.List.Elements.{All-set}
 use Rattle.rounds.specs.Dealing.{hand, AreDealt}
 use Rattle.rounds.proofs.Dealing.{hand_len, dealt_more}
 
@@ -23,16 +23,19 @@ module _ {V X : Type 0} (f : V → List X) where
     pub len_here : length (f v) ≡ n / t
     len_here = ap length (sym here) ∙ hand_len t (length cards) (n / t) (n % t) (map f vs) dealt.shape at_round (mod-lt n dealt.shape.some)
 
-    -- where there is room for so many rounds
-    pub room_here : (rooms : V → ℕ) (room : ℕ) → map rooms vs ≡ replicate t room → n < room * t → length (f v) < rooms v
-    room_here rooms room all more =
+    has_room : (rooms : V → ℕ) (room : ℕ) → All (λ u. room ≤ rooms u) vs → room ≤ rooms v
+    has_room rooms room all =
         let below : n % t < t = mod-lt n dealt.shape.some in
-        let has : rooms v ≡ room = ap rooms is ∙ (sym (get_or-map rooms vs (n % t) v 0 (omega (arith, below, long))) ∙ (ap (λ ns. get_or ns (n % t) 0) all ∙ get_or-replicate t (n % t) room 0 below)) in
-        let less : n / t < room = lt_of_mul-lt-mul_right t (omega (arith, round_and_turn n t, more)) in
-        omega (arith, len_here, has, less)
+        subst (λ u. room ≤ rooms u) (sym is) (all (n % t) v (omega (arith, below, long)))
 
-    pub rooms_stay : (rooms : V → ℕ) (room : ℕ) (v' : V) → map rooms vs ≡ replicate t room → rooms v' ≡ rooms v → map rooms (set vs (n % t) v') ≡ replicate t room
-    rooms_stay rooms room v' all same = map-set_same rooms vs (n % t) v' v (same ∙ ap rooms is) ∙ all
+    -- where there is room for so many rounds
+    pub room_here : (rooms : V → ℕ) (room : ℕ) → All (λ u. room ≤ rooms u) vs → n < room * t → length (f v) < rooms v
+    room_here rooms room all more =
+        let less : n / t < room = lt_of_mul-lt-mul_right t (omega (arith, round_and_turn n t, more)) in
+        omega (arith, len_here, has_room rooms room all, less)
+
+    pub rooms_stay : (rooms : V → ℕ) (room : ℕ) (v' : V) → All (λ u. room ≤ rooms u) vs → rooms v' ≡ rooms v → All (λ u. room ≤ rooms u) (set vs (n % t) v')
+    rooms_stay rooms room v' all same = All-set (λ u. room ≤ rooms u) vs (n % t) v' (omega (arith, same, has_room rooms room all)) all
 
     pub dealt_here : (v' : V) (x : X) → f v' ≡ f v ++ x ∷ [] → AreDealt t (cards ++ x ∷ []) (map f (set vs (n % t) v'))
     dealt_here v' x push =

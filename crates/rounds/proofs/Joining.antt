@@ -55,7 +55,7 @@ mirrored (Some p) m pair some = ap (λ (x : Option Port). is_some x) (pair p ref
 
 -- ---- the beginning, the next block, and the end
 
-pub begun_none : (ring n : ℕ) (rows : List (List Bool)) (lists : List (List Port)) → lists ≡ replicate n [] → AreBegun ring n 0 1 rows lists
+pub begun_none : (ring n : ℕ) (rows : List (List Bool)) (lists : List (List Port)) → lists ≡ replicate n [] → AreBegun ring n 0 0 rows lists
 begun_none ring n rows lists none =
     let empty : (x : ℕ) → get_or lists x [] ≡ [] = λ x. ap (λ l. get_or l x []) none ∙ row_none n x in
     let no_port : (x y : ℕ) (p : Port) → port_to lists x y ≡ Some p → ⊥ =
@@ -67,34 +67,34 @@ begun_none ring n rows lists none =
       paired = λ x y p is. absurd (no_port x y p is);
       only = λ x y p is. absurd (no_port x y p is);
       before = λ x y p is. absurd (no_port x y p is);
-      led = λ x y less low at e. elim at [ inl l ↦ absurd (omega (arith, l)) | inr l ↦ absurd (omega (arith, less, l.1)) ];
+      led = λ x y less low at e. elim at [ inl l ↦ absurd (omega (arith, l)) | inr l ↦ absurd (omega (arith, l.1)) ];
     }
 
-before_next : (x y b c : ℕ) → ComesBefore x y b c → ComesBefore x y (b + 1) (b + 2)
+before_next : (x y b c : ℕ) → ComesBefore x y b c → ComesBefore x y 0 (c + 1)
 before_next x y b c (inl l) = inl (omega (arith, l))
 before_next x y b c (inr l) = inl (omega (arith, l.0))
 
-before_more : (x y b c : ℕ) → ComesBefore x y b c → ComesBefore x y b (c + 1)
+before_more : (x y b c : ℕ) → ComesBefore x y b c → ComesBefore x y (b + 1) c
 before_more x y b c (inl l) = inl l
 before_more x y b c (inr l) = inr (l.0, omega (arith, l.1))
 
 -- a pair before the first of the next block is one before the last of this one
-before_last : (x y b c n : ℕ) → x < y → y < n → n ≤ c → ComesBefore x y (b + 1) (b + 2) → ComesBefore x y b c
-before_last x y b c n less low all (inr l) = absurd (omega (arith, less, l.0, l.1))
-before_last x y b c n less low all (inl l) = elim (cases_lt x b) [
-  | inl lower ↦ inl (omega (arith, lower))
-  | inr here ↦ inr (omega (arith, less, l, here), omega (arith, less, low, all))
+before_last : (x y b c : ℕ) → x < y → c ≤ b → ComesBefore x y 0 (c + 1) → ComesBefore x y b c
+before_last x y b c less all (inr l) = absurd (omega (arith, l.1))
+before_last x y b c less all (inl l) = elim (cases_lt y c) [
+  | inl lower ↦ inl (omega (arith, less, lower))
+  | inr here ↦ inr (omega (arith, less, l, here), omega (arith, less, l, all))
 ]
 
 -- a pair before the next one is one before this, or is this
-before_or_here : (x y b c : ℕ) → x < y → ComesBefore x y b (c + 1) → ComesBefore x y b c ⊎ ((x ≡ b) × (y ≡ c))
+before_or_here : (x y b c : ℕ) → x < y → ComesBefore x y (b + 1) c → ComesBefore x y b c ⊎ ((x ≡ b) × (y ≡ c))
 before_or_here x y b c less (inl l) = inl (inl l)
-before_or_here x y b c less (inr l) = elim (cases_lt y c) [
+before_or_here x y b c less (inr l) = elim (cases_lt x b) [
   | inl lower ↦ inl (inr (l.0, omega (arith, less, lower)))
-  | inr here ↦ inr (omega (arith, less, l.0), omega (arith, less, l.1, here))
+  | inr here ↦ inr (omega (arith, less, l.1, here), omega (arith, less, l.0))
 ]
 
-pub begun_next : (ring n b c : ℕ) (rows : List (List Bool)) (lists : List (List Port)) → n ≤ c → AreBegun ring n b c rows lists → AreBegun ring n (b + 1) (b + 2) rows lists
+pub begun_next : (ring n b c : ℕ) (rows : List (List Bool)) (lists : List (List Port)) → c ≤ b → AreBegun ring n b c rows lists → AreBegun ring n 0 (c + 1) rows lists
 begun_next ring n b c rows lists all was = record {
   len = was.len;
   rising = was.rising;
@@ -102,14 +102,14 @@ begun_next ring n b c rows lists all was = record {
   paired = was.paired;
   only = was.only;
   before = λ x y p is. before_next x y b c (was.before x y p is);
-  led = λ x y less low at e. was.led x y less low (before_last x y b c n less low all at) e;
+  led = λ x y less low at e. was.led x y less low (before_last x y b c less all at) e;
 }
 
 unflagged : (a : Bool) → a ≡ false → a ≡ true → ⊥
 unflagged a off on = no_truth (sym off ∙ on)
 
 pub begun_pass : (ring n b c : ℕ) (rows : List (List Bool)) (lists : List (List Port)) → is_linked rows b c ≡ false
-    → AreBegun ring n b c rows lists → AreBegun ring n b (c + 1) rows lists
+    → AreBegun ring n b c rows lists → AreBegun ring n (b + 1) c rows lists
 begun_pass ring n b c rows lists off was = record {
   len = was.len;
   rising = was.rising;
@@ -131,7 +131,7 @@ flag_leads cells rows scan x y d e low_x low_y on = elim (or_cases (flag rows x 
   | inr back ↦ inr ((scan.each y e low_y).only x back)
 ]
 
-pub all_joined : (ring n b c : ℕ) (cells : List CellsView) (rows : List (List Bool)) (lists : List (List Port)) → length cells ≡ n → n ≤ b
+pub all_joined : (ring n b c : ℕ) (cells : List CellsView) (rows : List (List Bool)) (lists : List (List Port)) → length cells ≡ n → n ≤ c
     → AreScanned cells rows → AreBegun ring n b c rows lists → AreJoined ring cells lists
 all_joined ring n b c cells rows lists is all scan was = record {
   len = was.len ∙ sym is;
@@ -147,11 +147,11 @@ all_joined ring n b c cells rows lists is all scan was = record {
       let y : ℕ = (border_in (get_or cells x d) j).to in
       let set : flag rows x y ≡ true = (scan.each x d low).set j at below in
       elim (cases_lt x y) [
-        | inl less ↦ was.led x y less (omega (arith, below, is)) (inl (omega (arith, low, is, all))) (or_first (flag rows x y) (flag rows y x) set)
+        | inl less ↦ was.led x y less (omega (arith, below, is)) (inl (omega (arith, low, below, is, all))) (or_first (flag rows x y) (flag rows y x) set)
         | inr more ↦
             let less : y < x = (let apart : y ≡ x → ⊥ = off in omega (arith, more, apart)) in
             mirrored (port_to lists y x) (port_to lists x y) (λ p e. was.paired y x p e)
-            (was.led y x less (omega (arith, low, is)) (inl (omega (arith, below, is, all))) (or_second (flag rows y x) (flag rows x y) set))
+            (was.led y x less (omega (arith, low, is)) (inl (omega (arith, low, below, is, all))) (or_second (flag rows y x) (flag rows x y) set))
       ];
 }
 
@@ -216,15 +216,15 @@ module _ (ring n b c : ℕ) (rows : List (List Bool)) (old new : List (List Port
       let y = slice_index (others (get_or old b [])) k in
       elim (was.before b y _ (port_there n (get_or old b []) k p (was.rising b) lt)) [
         | inl l ↦ omega (arith, l, order, h.of_first.other)
-        | inr l ↦ omega (arith, l.1, h.of_first.other)
+        | inr l ↦ absurd (omega (arith, l.0, l.1, order))
       ]
 
   low_second : (k : ℕ) → k < length (get_or old c []) → slice_index (others (get_or old c [])) k < other q
   low_second k lt =
       let y = slice_index (others (get_or old c [])) k in
       elim (was.before c y _ (port_there n (get_or old c []) k p (was.rising c) lt)) [
-        | inl l ↦ omega (arith, l, order, h.of_second.other)
-        | inr l ↦ absurd (omega (arith, l.1))
+        | inl l ↦ absurd (omega (arith, l))
+        | inr l ↦ omega (arith, l.0, l.1, order, h.of_second.other)
       ]
 
   port_first : (y : ℕ) → port_to new b y ≡ cond (eqb y c) (Some p) (port_to old b y)
@@ -303,23 +303,23 @@ module _ (ring n b c : ℕ) (rows : List (List Bool)) (old new : List (List Port
       (λ r e. ((λ s. absurd (omega (arith, order, s))), below, omega (arith, order, below), or_turned (flag rows b c) (flag rows c b) on))
       (λ x y o1 o2. was.only x y)
 
-  new_before : (x y : ℕ) (r : Port) → port_to new x y ≡ Some r → ComesBefore x y b (c + 1)
+  new_before : (x y : ℕ) (r : Port) → port_to new x y ≡ Some r → ComesBefore x y (b + 1) c
   new_before =
-      ports_case (λ x y o. (r : Port) → o ≡ Some r → ComesBefore x y b (c + 1))
+      ports_case (λ x y o. (r : Port) → o ≡ Some r → ComesBefore x y (b + 1) c)
       (λ r e. inr (omega (arith, order), omega (arith, order)))
       (λ r e. inr (omega (arith, order), omega (arith, order)))
       (λ x y o1 o2 r e. before_more x y b c (was.before x y r e))
 
-  new_led : (x y : ℕ) → x < y → y < n → ComesBefore x y b (c + 1) → is_linked rows x y ≡ true → is_some (port_to new x y) ≡ true
+  new_led : (x y : ℕ) → x < y → y < n → ComesBefore x y (b + 1) c → is_linked rows x y ≡ true → is_some (port_to new x y) ≡ true
   new_led =
-      ports_case (λ x y o. x < y → y < n → ComesBefore x y b (c + 1) → is_linked rows x y ≡ true → is_some o ≡ true)
+      ports_case (λ x y o. x < y → y < n → ComesBefore x y (b + 1) c → is_linked rows x y ≡ true → is_some o ≡ true)
       (λ less low at e. refl) (λ less low at e. refl)
       (λ x y o1 o2 less low at e. elim (before_or_here x y b c less at) [
         | inl before ↦ was.led x y less low before e
         | inr here ↦ absurd (o1 here.0 here.1)
       ])
 
-  pub begun_more : AreBegun ring n b (c + 1) rows new
+  pub begun_more : AreBegun ring n (b + 1) c rows new
   begun_more = record {
     len = new_len;
     rising = new_rising;

@@ -46,9 +46,9 @@ pub record AreScanned (cells : List CellsView) (rows : List (List Bool)) : Type 
 abbrev pub is_linked : List (List Bool) → ℕ → ℕ → Bool
 is_linked rows x y = flag rows x y || flag rows y x
 
--- two blocks come before b and c: their pairs are in order of the lower number, then of the upper
+-- two blocks come before b and c: their pairs are in order of the upper number, then of the lower
 abbrev pub ComesBefore : ℕ → ℕ → ℕ → ℕ → Type 0
-ComesBefore x y b c = (min x y < b) ⊎ ((min x y ≡ b) × (max x y < c))
+ComesBefore x y b c = (max x y < c) ⊎ ((max x y ≡ c) × (min x y < b))
 
 -- the pairs of blocks before b and c are joined: where a direction leads between two blocks, each
 -- has a port to the other, and there are no other ports

@@ -1,5 +1,5 @@
 //! The blocks of a round: joined by rings, moved to workers, and taken back.
-ghost use Rattle.std.specs.Prelude.{◌≡◌, ◌<◌, ◌≤◌, ℕ, IfOk, vec_len};
+ghost use Rattle.std.specs.Prelude.{◌≡◌, ◌<◌, ◌≤◌, ℕ, IfOk, OnOk, vec_len};
 ghost use Rattle.block_net.specs.Limits.{block_limit};
 ghost use Rattle.worker_options.specs.Ranges.{AreInRange};
 ghost use Rattle.rounds.specs.Joined.{AreJoined};
@@ -13,7 +13,7 @@ use crate::round_work::{Shares, work_on};
 use crate::seats::seats_of;
 use crate::stock::Stock;
 use block_net::Cells;
-use block_workers::{Job, RoundError, Seat, TurnBook};
+use block_workers::{Job, RoundError, TurnBook};
 use std::alloc::{AllocError, Global};
 use std::sync::Wait;
 use std::sync::ledger::Blank;
@@ -27,23 +27,24 @@ pub(crate) struct Blanks {
     pub(crate) drawn: Blank,
 }
 
-/// The blocks before their first turn, with rings between them, and lists and rings of a stock. The
-/// only error is that memory runs out.
+/// The blocks before their first turn, with rings between them, as the seats of a stock. Its lists
+/// and rings serve. The only error is that memory runs out.
 fn seats_for(
     alloc: Global,
     stock: &mut Stock,
     blocks: Vec<Cells>,
     ring: usize,
-) -> Result<Vec<Seat>, AllocError>
+) -> Result<(), AllocError>
     requires few { vec_len blocks ≤ block_limit }
     requires small { AreBlocksSmall blocks.items }
-    ensures seated { IfOk result
-        (λ seats. AreSeated blocks.items (ends_of_seats seats.items) seats.items) }
-    ensures joined { IfOk result
-        (λ seats. AreJoined ring blocks.items (ports_of (ends_of_seats seats.items))) }
+    ensures seated { OnOk result (AreSeated blocks.items
+        (ends_of_seats stock.new.deck.seats.items) stock.new.deck.seats.items) }
+    ensures joined { OnOk result
+        (AreJoined ring blocks.items (ports_of (ends_of_seats stock.new.deck.seats.items))) }
 {
     let ends = join_by(alloc, stock, blocks.as_slice(), ring)?;
-    seats_of(alloc, &mut stock.piles.others, blocks, ends)
+    let (others, seats) = (&mut stock.piles.others, &mut stock.deck.seats);
+    seats_of(alloc, others, seats, blocks, ends)
 }
 
 /// The blocks are moved to workers, which do their turns, and come back. All growths come before
@@ -74,8 +75,9 @@ pub(crate) fn run_blocks<J: Job + Sync, R: Threads + Wait + Sync, G: Gate>(
     let Blanks { budget, drawn } = blanks;
     let mut stock = stock;
     let count = blocks.len();
-    let seats = seats_for(alloc, &mut stock, blocks, options.ring as usize)?;
-    let space = Space::new(alloc, count, stock)?;
+    seats_for(alloc, &mut stock, blocks, options.ring as usize)?;
+    let Stock { pairs, piles, deck } = stock;
+    let space = Space::new(alloc, count, pairs, piles)?;
     let (book, whole, share) = TurnBook::<J>::new(
         alloc,
         budget,
@@ -86,7 +88,7 @@ pub(crate) fn run_blocks<J: Job + Sync, R: Threads + Wait + Sync, G: Gate>(
     let back = work_on(
         rt,
         alloc,
-        seats,
+        deck,
         options.threads as usize,
         book,
         Shares {

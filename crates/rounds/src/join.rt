@@ -36,25 +36,25 @@ fn join_two(
     Ok(())
 }
 
-/// Block b gets rings to those blocks after it to which or from which a direction of it leads.
+/// Block c gets rings to those blocks before it to which or from which a direction of it leads.
 fn join_row(
     alloc: Global,
     kept: &mut Vec<PortPair>,
     rows: &Vec<Vec<bool>>,
     lists: &mut Vec<Vec<Port>>,
-    b: u32,
+    c: u32,
     ring: usize,
 ) -> Result<(), AllocError>
     requires square { AreSquare (length rows.now.items) (map (λ row. row.items) rows.now.items) }
     requires few { length rows.now.items < 2 ^ 32 }
-    requires block { b < length rows.now.items }
-    requires begun { AreBegun ring (length rows.now.items) b (b + 1)
+    requires block { c < length rows.now.items }
+    requires begun { AreBegun ring (length rows.now.items) 0 c
         (map (λ row. row.items) rows.now.items)
         (map (λ l. l.items) lists.old.items) }
-    ensures { OnOk result (AreBegun ring (length rows.now.items) (b + 1) (b + 2)
+    ensures { OnOk result (AreBegun ring (length rows.now.items) 0 (c + 1)
         (map (λ row. row.items) rows.now.items) (map (λ l. l.items) lists.new.items)) }
 {
-    for c in b + 1..rows.len() as u32 {
+    for b in 0..c {
         if are_linked(rows, b as usize, c as usize) {
             join_two(alloc, kept, lists, b, c, ring)?;
         }
@@ -78,7 +78,8 @@ fn empty_lists(
 }
 
 /// The ports of all blocks: two rings for each two between which a direction leads. The lists and
-/// what rings serve again are of the stock.
+/// what rings serve again are of the stock. Rings are asked for by rising numbers of the higher
+/// block, then of the lower one: so the next that serves is the last of the stock.
 fn join_rows(
     alloc: Global,
     stock: &mut Stock,
@@ -88,12 +89,12 @@ fn join_rows(
     requires square { AreSquare (length rows.now.items) (map (λ row. row.items) rows.now.items) }
     requires few { length rows.now.items < 2 ^ 32 }
     ensures { IfOk result (λ lists. let blocks = length rows.now.items in
-        AreBegun ring blocks blocks (blocks + 1) (map (λ row. row.items) rows.now.items)
+        AreBegun ring blocks 0 blocks (map (λ row. row.items) rows.now.items)
         (map (λ l. l.items) lists.items)) }
 {
     let mut lists = empty_lists(alloc, &mut stock.piles.ports, rows.len())?;
-    for b in 0..rows.len() as u32 {
-        join_row(alloc, &mut stock.pairs, rows, &mut lists, b, ring)?;
+    for c in 0..rows.len() as u32 {
+        join_row(alloc, &mut stock.pairs, rows, &mut lists, c, ring)?;
     }
     Ok(lists)
 }

@@ -13,6 +13,7 @@
 
 mod blocks;
 mod collection;
+mod deck;
 mod final_state;
 mod gates;
 mod hands;
@@ -33,6 +34,7 @@ mod seat_work;
 mod seats;
 mod solver;
 mod stock;
+mod turned;
 mod workers;
 
 pub use block_workers::{Job, Ledgers, RoundError, TurnBook};

@@ -49,7 +49,7 @@ fn move_left(from: &mut Port, to: &mut Port, ways: &mut AllWays, b: usize, c: us
 impl PortPair {
     ghost use Rattle.std.specs.Prelude.{◌↔◌, IfNone, IfSome, IsTrue};
     ghost use Rattle.block_workers.specs.Ports.{IsNewPort};
-    ghost use Rattle.rounds.specs.Kept.{CanServePair, IsOfBlocks, IsDrained};
+    ghost use Rattle.rounds.specs.Kept.{AreOfPair, CanServePair, IsOfBlocks, IsDrained};
     ghost use Rattle.rounds.specs.Links.{IsLinkSeen, link};
     ghost use Rattle.rounds.specs.Draining.{IsFitting, ways_after_drain};
 
@@ -67,6 +67,7 @@ impl PortPair {
         ensures second { IfSome result (λ ports. IsNewPort b ring ports.1) }
         ensures there { IfSome result (λ ports. LeadsTo ports.0 ports.1) }
         ensures back { IfSome result (λ ports. LeadsTo ports.1 ports.0) }
+        ensures same { IfSome result (λ ports. AreOfPair self ports.0 ports.1) }
         ensures refused { IfNone result (IsOfBlocks b c self → CanServePair ring self → ⊥) }
     {
         if !self.is_of_blocks(b, c) {

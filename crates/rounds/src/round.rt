@@ -63,8 +63,12 @@ fn round_of<J: Job + Sync, R: Threads + Wait + Sync, G: Gate>(
         firsts,
         slots,
     };
-    let piles = came.piles;
-    Ok((put_together(net, parts, ways), Stock { pairs, piles }))
+    let stock = Stock {
+        pairs,
+        piles: came.piles,
+        deck: came.deck,
+    };
+    Ok((put_together(net, parts, ways), stock))
 }
 
 /// The same with a ledger for each of the two blanks.

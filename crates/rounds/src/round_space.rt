@@ -5,12 +5,13 @@ ghost use Rattle.rounds.specs.Mated.{AreMated, room_to, messages_sent, messages_
 ghost use Rattle.rounds.specs.Links.{ring_room, sent_in, taken_in};
 ghost use Rattle.rounds.specs.Seated.{blocks_of, ends_of_seats, ports_of};
 
+use crate::deck::Deck;
 use crate::pair::PortPair;
 use crate::rings::Rings;
 use crate::seats::apart;
-use crate::stock::{Piles, Stock};
+use crate::stock::Piles;
 use block_net::Cells;
-use block_workers::{Port, Seat};
+use block_workers::Port;
 use std::alloc::{AllocError, Global};
 
 /// Room for blocks that come back from workers, and for the rings between them.
@@ -35,19 +36,22 @@ pub(crate) struct Came {
     pub(crate) blocks: Vec<Cells>,
     pub(crate) rings: Rings,
     pub(crate) piles: Piles,
+    pub(crate) deck: Deck,
 }
 
 impl Space {
-    /// Room for so many blocks, each joined with each other, by the lists of a stock. The only
-    /// error is that memory runs out.
-    pub(crate) fn new(alloc: Global, count: usize, stock: Stock) -> Result<Space, AllocError>
+    /// Room for so many blocks, each joined with each other, by lists that served. Pairs that are
+    /// left are lost. The only error is that memory runs out.
+    pub(crate) fn new(
+        alloc: Global,
+        count: usize,
+        pairs: Vec<PortPair>,
+        piles: Piles,
+    ) -> Result<Space, AllocError>
         requires { count ≤ block_limit }
         ensures { IfOk result (λ space. space.count ≡ count) }
     {
-        let Stock {
-            mut pairs,
-            mut piles,
-        } = stock;
+        let (mut pairs, mut piles) = (pairs, piles);
         piles.reserve(count)?;
         pairs.clear();
         pairs.reserve(count * count / 2 + 1)?;
@@ -62,17 +66,18 @@ impl Space {
 }
 
 /// The blocks of seats that came back, and the rings between them. Takes no memory.
-pub(crate) fn gather_seats(seats: Vec<Seat>, space: Space) -> Came
-    requires count { vec_len seats ≡ space.count }
-    requires mated { AreMated (length seats.items) (ports_of (ends_of_seats seats.items)) }
-    ensures blocks { result.blocks.items ≡ blocks_of seats.items }
-    ensures count { result.rings.blocks ≡ length seats.items }
+pub(crate) fn gather_seats(deck: Deck, space: Space) -> Came
+    requires count { vec_len deck.seats ≡ space.count }
+    requires mated { AreMated (length deck.seats.items)
+        (ports_of (ends_of_seats deck.seats.items)) }
+    ensures blocks { result.blocks.items ≡ blocks_of deck.seats.items }
+    ensures count { result.rings.blocks ≡ length deck.seats.items }
     ensures sent { (b c : ℕ) → sent_in result.rings b c
-        ≡ messages_sent (ports_of (ends_of_seats seats.items)) b c }
-    ensures taken { (b c : ℕ)
-        → taken_in result.rings b c ≡ messages_taken (ports_of (ends_of_seats seats.items)) b c }
+        ≡ messages_sent (ports_of (ends_of_seats deck.seats.items)) b c }
+    ensures taken { (b c : ℕ) → taken_in result.rings b c
+        ≡ messages_taken (ports_of (ends_of_seats deck.seats.items)) b c }
     ensures room { (b c : ℕ) → ring_room result.rings b c
-        ≡ room_to (ports_of (ends_of_seats seats.items)) b c }
+        ≡ room_to (ports_of (ends_of_seats deck.seats.items)) b c }
 {
     let Space {
         count: _,
@@ -81,10 +86,12 @@ pub(crate) fn gather_seats(seats: Vec<Seat>, space: Space) -> Came
         pairs,
         mut piles,
     } = space;
-    apart(seats, &mut blocks, &mut lists, &mut piles);
+    let mut deck = deck;
+    apart(&mut deck.seats, &mut blocks, &mut lists, &mut piles);
     Came {
         blocks,
         rings: Rings::pair(lists, pairs, &mut piles.ports),
         piles,
+        deck,
     }
 }

@@ -2,8 +2,9 @@
 ghost use Rattle.std.specs.Prelude.{◌≡◌, ◌<◌, ◌≤◌, IfOk};
 ghost use Rattle.block_workers.specs.Workers.{AllWorked, AreNew, turns_of};
 
+use crate::deck::Deck;
 use crate::seat_work::work_seats;
-use block_workers::{Job, RoundError, Seat, TurnBook};
+use block_workers::{Job, RoundError, TurnBook};
 use std::alloc::Global;
 use std::sync::ledger::Share;
 use std::sync::{Mutex, Wait};
@@ -24,27 +25,27 @@ pub(crate) struct Shares<J: Job> {
 pub(crate) fn work_on<J: Job + Sync, R: Threads + Wait + Sync, G: Gate>(
     rt: &R,
     alloc: Global,
-    seats: Vec<Seat>,
+    deck: Deck,
     threads: usize,
     book: TurnBook<J>,
     shares: Shares<J>,
     gate: &G,
-) -> Result<Vec<Seat>, RoundError>
-    requires new { AreNew seats.items }
+) -> Result<Deck, RoundError>
+    requires new { AreNew deck.seats.items }
     requires some { 0 < threads }
     requires whole { shares.whole.parts ≡ J.Budget.parts }
     requires all { shares.drawn.parts ≡ J.Drawn.parts }
     requires parts { shares.drawn.parts ≡ threads }
     requires none { shares.drawn.amount ≡ 0 }
-    ensures worked { IfOk result (λ back. AllWorked seats.items back.items) }
-    ensures few { IfOk result (λ back. turns_of back.items ≤ shares.whole.amount) }
+    ensures worked { IfOk result (λ back. AllWorked deck.seats.items back.seats.items) }
+    ensures few { IfOk result (λ back. turns_of back.seats.items ≤ shares.whole.amount) }
 {
     let Shares {
         mut whole,
         mut drawn,
     } = shares;
     let book = Mutex::new(book);
-    let back = work_seats::<J, R, G>(rt, alloc, seats, threads, &mut drawn, &book, gate)?;
+    let back = work_seats::<J, R, G>(rt, alloc, deck, threads, &mut drawn, &book, gate)?;
     let mut book = book.into_inner();
     book.audit_drawn(&mut drawn);
     book.audit_budget(&mut whole);

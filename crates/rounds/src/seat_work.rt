@@ -3,9 +3,10 @@ ghost use Rattle.std.specs.Prelude.{◌≡◌, ◌+◌, ◌<◌, ◌≤◌, ◌�
 ghost use Rattle.block_workers.specs.Workers.{AllWorked, AreNew, turns_of};
 ghost use Rattle.block_workers.specs.declared.crew.RoundError.TheVariants.{Workers};
 
-use crate::collection::{Room, collect};
+use crate::collection::collect;
+use crate::deck::Deck;
 use crate::hands::deal;
-use block_workers::{Job, RoundError, Seat, TurnBook, all_work};
+use block_workers::{Job, RoundError, TurnBook, all_work};
 use std::alloc::Global;
 use std::sync::ledger::Share;
 use std::sync::{Mutex, Wait};
@@ -21,27 +22,26 @@ use worker_options::Gate;
 pub(crate) fn work_seats<J: Job + Sync, R: Threads + Wait + Sync, G: Gate>(
     rt: &R,
     alloc: Global,
-    seats: Vec<Seat>,
+    deck: Deck,
     threads: usize,
     share: &mut Share<J::Drawn>,
     book: &Mutex<TurnBook<J>>,
     gate: &G,
-) -> Result<Vec<Seat>, RoundError>
+) -> Result<Deck, RoundError>
     requires some { 0 < threads }
     requires parts { threads ≤ share.old.parts }
     requires none { share.old.amount ≡ 0 }
-    requires new { AreNew seats.items }
-    ensures worked { IfOk result (λ v. AllWorked seats.items v.items) }
+    requires new { AreNew deck.seats.items }
+    ensures worked { IfOk result (λ v. AllWorked deck.seats.items v.seats.items) }
     ensures parts { OnOk result (share.new.parts ≡ share.old.parts) }
-    ensures turns { IfOk result (λ v. share.new.amount ≡ turns_of v.items) }
+    ensures turns { IfOk result (λ v. share.new.amount ≡ turns_of v.seats.items) }
     ensures none { OnErr result (share.new.amount ≡ 0) }
     ensures lost { OnErr result ((share.new.parts ≡ share.old.parts)
         ⊎ (share.new.parts + threads ≡ share.old.parts)) }
     ensures refused { IfErr result
         (λ e. e ≡ Workers → share.new.parts + threads ≡ share.old.parts) }
 {
-    let room = Room::new(alloc, seats.len(), threads)?;
-    let workers = deal::<J>(alloc, seats, threads, share)?;
+    let (workers, room) = deal::<J>(alloc, deck, threads, share)?;
     let back = all_work(rt, alloc, workers, book, gate)?;
     Ok(collect(back, room, share))
 }

@@ -1,5 +1,5 @@
 //! A block with its ends for each place of a round.
-ghost use Rattle.std.specs.Prelude.{◌≡◌, ◌<◌, ◌≤◌, ◌^◌, IfOk, map, vec_capacity, vec_len};
+ghost use Rattle.std.specs.Prelude.{◌≡◌, ◌<◌, ◌≤◌, ◌^◌, IfOk, OnOk, map, vec_capacity, vec_len};
 ghost use Rattle.flow_network.specs.Limits.{node_limit};
 ghost use Rattle.block_net.specs.Views.{count};
 ghost use Rattle.block_workers.specs.Turns.{IsNewSeat};
@@ -8,6 +8,7 @@ ghost use Rattle.rounds.specs.Seated.{ports_of};
 
 use crate::pile::Pile;
 use crate::stock::Piles;
+use crate::turned::{take_next, turn_round};
 use block_net::Cells;
 use block_turns::Block;
 use block_workers::{Ends, Port, Seat};
@@ -37,21 +38,22 @@ fn seat_of(
     Ok(Seat::new(number, block, nodes, ends))
 }
 
-/// The blocks before their first turn, each with its ends and a list of the pile. The only error is
-/// that memory runs out.
+/// The blocks before their first turn, each with its ends and a list of the pile. The list of seats
+/// loses what it has. The only error is that memory runs out.
 pub(crate) fn seats_of(
     alloc: Global,
     pile: &mut Pile<u32>,
+    seats: &mut Vec<Seat>,
     blocks: Vec<Cells>,
     ends: Vec<Ends>,
-) -> Result<Vec<Seat>, AllocError>
+) -> Result<(), AllocError>
     requires many { vec_len ends ≡ vec_len blocks }
     requires few { vec_len blocks < 2 ^ 32 }
     requires small { AreBlocksSmall blocks.items }
-    ensures { IfOk result (λ seats. AreSeated blocks.items ends.items seats.items) }
+    ensures { OnOk result (AreSeated blocks.items ends.items seats.new.items) }
 {
-    let count = blocks.len();
-    let mut seats = Vec::with_capacity(alloc, count)?;
+    seats.clear();
+    seats.reserve(blocks.len())?;
     let mut rest = ends.into_iter();
     let mut number = 0;
     for cells in blocks {
@@ -62,26 +64,29 @@ pub(crate) fn seats_of(
         seats.push_reserved(seat_of(alloc, number, cells, ends, room)?);
         number += 1;
     }
-    Ok(seats)
+    Ok(())
 }
 
 /// The blocks of seats, and of each block the ports. Both go into room that was made before. The
-/// lists that are left go to their piles.
+/// lists that are left go to their piles. No seat is left, and the list keeps its room.
 pub(crate) fn apart(
-    seats: Vec<Seat>,
+    seats: &mut Vec<Seat>,
     blocks: &mut Vec<Cells>,
     lists: &mut Vec<Vec<Port>>,
     piles: &mut Piles,
 )
     requires no_block { vec_len blocks.old ≡ 0 }
     requires no_list { vec_len lists.old ≡ 0 }
-    requires blocks { vec_len seats ≤ vec_capacity blocks.old }
-    requires lists { vec_len seats ≤ vec_capacity lists.old }
-    ensures blocks { blocks.new.items ≡ blocks_of seats.items }
-    ensures lists { map (λ l. l.items) lists.new.items ≡ ports_of (ends_of_seats seats.items) }
+    requires blocks { vec_len seats.old ≤ vec_capacity blocks.old }
+    requires lists { vec_len seats.old ≤ vec_capacity lists.old }
+    ensures blocks { blocks.new.items ≡ blocks_of seats.old.items }
+    ensures lists { map (λ l. l.items) lists.new.items
+        ≡ ports_of (ends_of_seats seats.old.items) }
 {
-    for seat in seats {
-        let (block, ends) = seat.into_parts();
+    turn_round(seats);
+    let count = seats.len();
+    for _seat in 0..count {
+        let (block, ends) = take_next(seats).into_parts();
         let (cells, others) = block.into_parts();
         let (ports, places) = ends.into_parts();
         blocks.push_reserved(cells);

@@ -1,4 +1,5 @@
 //! What a round leaves for the next.
+use crate::deck::Deck;
 use crate::pair::PortPair;
 use crate::pile::Pile;
 use block_workers::Port;
@@ -15,11 +16,12 @@ pub(crate) struct Piles {
 }
 
 /// What a round leaves for the next: its rings, which are empty, and lists, which serve for their
-/// room.
+/// room, those of the seats among them.
 #[derive(Drop)]
 pub(crate) struct Stock {
     pub(crate) pairs: Vec<PortPair>,
     pub(crate) piles: Piles,
+    pub(crate) deck: Deck,
 }
 
 impl Piles {
@@ -48,6 +50,7 @@ impl Stock {
         Stock {
             pairs: Vec::new(alloc),
             piles: Piles::none(alloc),
+            deck: Deck::none(alloc),
         }
     }
 }

@@ -1,6 +1,4 @@
-use Rattle.std.proofs.Common.{◌≡◌, ◌<◌, ◌∷◌, ◌++◌, ◌%◌, [], length, map, replicate, set, ◌∙◌, ap, subst, arith, vec_len, Global, sum_by}
-use Rattle.std.specs.declared.vec.IntoIter.{IntoIter}
-use Rattle.std.specs.Vec.Iter.{into_iter_items}
+use Rattle.std.proofs.Common.{◌≡◌, ◌<◌, ◌∷◌, ◌++◌, ◌%◌, [], length, map, replicate, reverse, set, ◌∙◌, ap, subst, arith, vec_len, Vec, Global, sum_by}
 use Rattle.std.proofs.lemmas.Grind.{common_steps}
 use Rattle.block_workers.specs.declared.seat.Seat.{Seat}
 use Rattle.block_workers.specs.Workers.{turns_of}
@@ -19,19 +17,19 @@ loop-b-init c =
       count = grind (arith, common_steps);
       dealt = rw none (none_taken t (grind (arith, common_steps)));
       turns = rw none (sum_none (λ (s : Seat). s.turn) t);
-      whole = λ w low. all_left t w (map (λ h. into_iter_items h) c.args.hands.now.items);
+      whole = λ w low. all_left t w (map (λ h. reverse h.items) c.args.hands.now.items);
     }
 
-pub unwrap-seat-requires : goal.unwrap-seat-requires
-unwrap-seat-requires c =
+pub take_next-seat-requires : goal.take_next-seat-requires
+take_next-seat-requires c =
     let inv = c.loop-b.invariant in
     let t = c.len-threads.result in
     let v = c.index_mut.result.now in
     let t_is : vec_len c.args.hands.now ≡ t = grind (arith, common_steps) in
-    let whole = map (λ (h : IntoIter Seat Global). into_iter_items h) c.args.hands.now.items in
+    let whole = map (λ (h : Vec Seat Global). reverse h.items) c.args.hands.now.items in
     let are : AreHands t c.args.count whole = subst (λ k. AreHands k c.args.count whole) t_is c.requires.hands in
-    let some : 0 < length (into_iter_items v) =
-    has_next t c.loop-b.b c.loop-b.seats.items inv.parts inv.dealt inv.count (λ (h : IntoIter Seat Global). into_iter_items h) c.args.count c.loop-b.hands.items v whole (grind (arith, common_steps)) c.index_mut.ensures.value inv.whole are (grind (arith, common_steps)) in
+    let some : 0 < length (reverse v.items) =
+    has_next t c.loop-b.b c.loop-b.seats.items inv.parts inv.dealt inv.count (λ (h : Vec Seat Global). reverse h.items) c.args.count c.loop-b.hands.items v whole (grind (arith, common_steps)) c.index_mut.ensures.value inv.whole are (grind (arith, common_steps)) in
     grind (arith, common_steps)
 
 pub loop-b-preserved : goal.loop-b-preserved
@@ -41,10 +39,10 @@ loop-b-preserved c =
     let n = c.loop-b.b in
     let cards = c.loop-b.seats.items in
     let v = c.index_mut.result.now in
-    let x = c.unwrap-seat.result in
+    let x = c.take_next-seat.result in
     let long : length c.loop-b.hands.items ≡ t = grind (arith, common_steps) in
-    let step : into_iter_items v ≡ x ∷ into_iter_items c.next.new.self = grind (arith, common_steps) in
-    let whole = map (λ (h : IntoIter Seat Global). into_iter_items h) c.args.hands.now.items in
+    let step : reverse v.items ≡ x ∷ reverse c.take_next-seat.new.list.items = grind (arith, common_steps) in
+    let whole = map (λ (h : Vec Seat Global). reverse h.items) c.args.hands.now.items in
     let is = c.push_reserved.ensures.items in
     record {
       parts = set inv.parts (n % t) (hand inv.parts (n % t) ++ x ∷ []);
@@ -53,7 +51,7 @@ loop-b-preserved c =
       count = grind (arith, common_steps);
       dealt = rw is (taken_more t n cards inv.parts inv.dealt inv.count x);
       turns = rw is (sum_more t n cards inv.parts inv.dealt inv.count (λ (s : Seat). s.turn) x inv.turns);
-      whole = left_less t n cards inv.parts inv.dealt inv.count (λ (h : IntoIter Seat Global). into_iter_items h) c.args.count c.loop-b.hands.items v whole long c.index_mut.ensures.value inv.whole c.next.new.self x step;
+      whole = left_less t n cards inv.parts inv.dealt inv.count (λ (h : Vec Seat Global). reverse h.items) c.args.count c.loop-b.hands.items v whole long c.index_mut.ensures.value inv.whole c.take_next-seat.new.list x step;
     }
 
 pub returns-clause-turns : goal.returns-clause-turns
@@ -61,8 +59,8 @@ returns-clause-turns c =
     let inv = c.loop-b.invariant in
     let t = c.len-threads.result in
     let t_is : vec_len c.args.hands.now ≡ t = grind (arith, common_steps) in
-    let whole = map (λ (h : IntoIter Seat Global). into_iter_items h) c.args.hands.now.items in
-    let left = map (λ (h : IntoIter Seat Global). into_iter_items h) c.loop-b.hands.items in
+    let whole = map (λ (h : Vec Seat Global). reverse h.items) c.args.hands.now.items in
+    let left = map (λ (h : Vec Seat Global). reverse h.items) c.loop-b.hands.items in
     let are : AreHands t c.args.count whole = subst (λ k. AreHands k c.args.count whole) t_is c.requires.hands in
     let all : length c.loop-b.seats.items ≡ c.args.count = grind (arith, common_steps) in
     let taken : AreHands t c.args.count inv.parts = subst (λ k. AreHands t k inv.parts) all inv.dealt.shape in

@@ -1,5 +1,4 @@
-use Rattle.std.proofs.Common.{◌≡◌, ℕ, ◌<◌, ◌++◌, List, length, map, sum_by, vec_len, vec_capacity}
-use Rattle.std.specs.Vec.Iter.{into_iter_items}
+use Rattle.std.proofs.Common.{◌≡◌, ℕ, ◌<◌, ◌++◌, List, length, map, reverse, sum_by, vec_len, vec_capacity}
 use Rattle.block_workers.specs.declared.seat.Seat.{Seat}
 use Rattle.block_workers.specs.Workers.{turns_of}
 use Rattle.rounds.specs.Dealing.{hand, AreDealt}
@@ -14,5 +13,5 @@ invariant-loop-b l = record {
   dealt : AreDealt l.threads l.seats.items parts;
   turns : turns_of l.seats.items ≡ sum_by turns_of parts;
   whole : (w : ℕ) → w < l.threads
-      → hand parts w ++ hand (map (λ h. into_iter_items h) l.hands.items) w ≡ hand (map (λ h. into_iter_items h) l.fn.hands.items) w;
+      → hand parts w ++ hand (map (λ h. reverse h.items) l.hands.items) w ≡ hand (map (λ h. reverse h.items) l.fn.hands.items) w;
 }

@@ -6,7 +6,7 @@ use Rattle.rounds.proofs.round_space.gather_seats.Goals as goal
 
 pub pair-requires-clause-room : goal.pair-requires-clause-room
 pair-requires-clause-room c =
-    let seats = c.args.seats in
+    let seats = c.args.deck.seats in
     let space = c.args.space in
     let lists = ports_of (ends_of_seats seats.items) in
     let mated = c.requires.mated in

@@ -8,7 +8,7 @@ use Rattle.rounds.proofs.seat_work.work_seats.Goals as goal
 
 pub collect-requires-clause-hands : goal.collect-requires-clause-hands
 collect-requires-clause-hands g c κs within =
-    let n : length c.args.seats.items ≡ c.in_ok-room.room.count = grind (arith, common_steps) in
+    let n : length c.args.deck.seats.items ≡ c.in_ok-workers.room.count = grind (arith, common_steps) in
     let back_len : vec_len c.in_ok-back.back ≡ length c.in_ok-back.back.items = grind (arith, common_steps) in
     let len : length c.in_ok-back.back.items ≡ length c.in_ok-workers.workers.items = grind (arith, common_steps) in
     let was_len : vec_len c.in_ok-workers.workers ≡ length c.in_ok-workers.workers.items = grind (arith, common_steps) in
@@ -17,9 +17,9 @@ collect-requires-clause-hands g c κs within =
     let new = map seats c.in_ok-back.back.items in
     let dealt = c.in_ok-workers.ensures.dealt in
     let worked = workers_worked seats c.in_ok-workers.workers.items c.in_ok-back.back.items len (λ i d below. c.in_ok-back.ensures.each i d (omega (arith, below, was_len))) in
-    let are : AreHands c.args.threads (length c.args.seats.items) new = hands_come_back c.args.threads (length c.args.seats.items) old new dealt.shape worked in
+    let are : AreHands c.args.threads (length c.args.deck.seats.items) new = hands_come_back c.args.threads (length c.args.deck.seats.items) old new dealt.shape worked in
     let t : c.args.threads ≡ vec_len c.in_ok-back.back = sym are.len ∙ (length-map c.in_ok-back.back.items seats ∙ sym back_len) in
-    subst (λ m. AreHands (vec_len c.in_ok-back.back) m new) n (subst (λ k. AreHands k (length c.args.seats.items) new) t are)
+    subst (λ m. AreHands (vec_len c.in_ok-back.back) m new) n (subst (λ k. AreHands k (length c.args.deck.seats.items) new) t are)
 
 pub returns-clause-worked : goal.returns-clause-worked
 returns-clause-worked g c =
@@ -32,5 +32,5 @@ returns-clause-worked g c =
     let dealt = c.in_ok-workers.ensures.dealt in
     let worked = workers_worked seats c.in_ok-workers.workers.items c.in_ok-back.back.items len (λ i d below. c.in_ok-back.ensures.each i d (omega (arith, below, was_len))) in
     let t : vec_len c.in_ok-back.back ≡ c.args.threads = back_len ∙ (len ∙ (sym (length-map c.in_ok-workers.workers.items seats) ∙ dealt.shape.len)) in
-    seats_are_worked c.args.threads c.args.seats.items c.collect.result.items old new dealt worked
-    (subst (λ k. AreDealt k c.collect.result.items new) t c.collect.ensures.dealt)
+    seats_are_worked c.args.threads c.args.deck.seats.items c.collect.result.seats.items old new dealt worked
+    (subst (λ k. AreDealt k c.collect.result.seats.items new) t c.collect.ensures.dealt)
