@@ -1,5 +1,5 @@
 //! The images of an input.
-ghost use Rattle.std.specs.Prelude.{◌≡◌, ◌+◌, ◌<◌, ◌≤◌, ◌^◌, IfOk, IfErr, length};
+ghost use Rattle.std.specs.Prelude.{◌≡◌, ◌↔◌, ◌+◌, ◌<◌, ◌≤◌, ◌^◌, IfOk, IfErr, IsTrue, length};
 ghost use Rattle.pgm_image.specs.Signs.{is_space};
 ghost use Rattle.vision.specs.Faults.{HasImageError, HasPairError};
 ghost use Rattle.vision.specs.Inputs.{HoldsPicture, HoldsTwo, IsPastSpaces, SameSizes};
@@ -30,10 +30,17 @@ pub(crate) fn read_two(alloc: Global, input: &[u8]) -> Result<(Image, Image), Vi
         Ok(found) => found,
         Err(error) => return Err(VisionError::from(refusal_from(error, at))),
     };
-    if first.width() != second.width() || first.height() != second.height() {
+    if !same_sizes(&first, &second) {
         return Err(VisionError::SizesDiffer);
     }
     Ok((first, second))
+}
+
+/// Whether two images have the same width and the same height.
+fn same_sizes(first: &Image, second: &Image) -> bool
+    ensures { IsTrue result ↔ SameSizes first.now second.now }
+{
+    first.width() == second.width() && first.height() == second.height()
 }
 
 /// A refusal of an image that begins at this place, with its position counted from the first byte

@@ -4,7 +4,6 @@ use Rattle.pgm_image.specs.Front.{Front, RefusesFront}
 use Rattle.std.proofs.lemmas.Result.{err_from_is_err_and}
 use Rattle.vision.proofs.Places.{place_within}
 use Rattle.vision.proofs.inputs.read_two.Goals as goal
-use Rattle.vision.proofs.inputs.read_two.Goals.{then-width-via-then-width, then-width-via-else-width+then-height}
 
 pub refusal_from-requires : goal.refusal_from-requires
 refusal_from-requires c =
@@ -34,8 +33,8 @@ returns-in-Err-clause-refused c =
       c.from.ensures,
     )
 
-pub returns-then-width-clause-refused : goal.returns-then-width-clause-refused
-returns-then-width-clause-refused c =
+pub returns-then-not-same_sizes-clause-refused : goal.returns-then-not-same_sizes-clause-refused
+returns-then-not-same_sizes-clause-refused c =
     let F : List ℕ → Type 0 = λ bytes. Front bytes c.in-Ok.found.0 c.in-Ok.found.1 in
     inr (
       (
@@ -46,10 +45,7 @@ returns-then-width-clause-refused c =
           record { used = c.in_ok-first.used; front = c.in_ok-first.ensures.image; past = c.past_spaces-at.ensures },
           (c.in-Ok.found.1, subst F (take_rest c.args.input.now c.past_spaces-at.result) c.in-Ok.ensures.image),
         ),
-        λ same. elim c.then-width.branch [
-          | then-width-via-then-width w ↦ absurd (omega (arith, same.0, c.width.ensures, c.width-2.ensures))
-          | then-width-via-else-width+then-height w ↦ absurd (omega (arith, same.1, w.height.ensures, w.height-else-width.ensures))
-        ],
+        λ same. absurd (cc (c.same_sizes.ensures.1 same, c.if-not-same_sizes.true)),
       ),
       refl,
     )
