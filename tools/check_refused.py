@@ -3,7 +3,7 @@
 
     python3 tools/check_refused.py
 
-The lines are taken from crates/gco_cli/src/fault_line.rt, which prints them, and from the tables of
+The lines are taken from crates/program_texts/src/fault_line.rt, which prints them, and from the tables of
 docs/IMAGES.md, docs/LABEL.md and docs/ENERGY.md, which say by command which of them can come.
 """
 import re
@@ -23,7 +23,7 @@ PAGES = {
 
 def printed_numbers():
     """The numbers in the source of the fault line."""
-    text = (TOP / "crates/gco_cli/src/fault_line.rt").read_text(encoding="utf-8")
+    text = (TOP / "crates/program_texts/src/fault_line.rt").read_text(encoding="utf-8")
     return {int(number) for number in re.findall(r'"(\d+)(?: [a-z]+ ?)?"', text)}
 
 

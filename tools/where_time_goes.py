@@ -37,7 +37,7 @@ PARTS = [
         ),
     ),
     ("moves", ("moves", "minimum")),
-    ("writing", ("gco_cli", "itoa", "arrayvec")),
+    ("writing", ("program_texts", "program_tasks", "gco_cli", "itoa", "arrayvec")),
 ]
 SYSTEM = "the system, and what has no name of a crate"
 SWEEPS = {

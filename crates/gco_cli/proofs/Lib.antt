@@ -1,7 +1,1 @@
-pub mod EnergyFaults
-mod FaultKinds
-mod InputLemmas
 mod RefusalLemmas
-mod PictureLemmas
-mod LabelFaults
-mod NamedRuns

@@ -7,16 +7,20 @@ use Rattle.command_line.specs.Task.{Asks, AsksForHelp, HasText, IsNoTaskFor}
 use Rattle.command_line.specs.declared.task.NoTask.{NoTask}
 use Rattle.command_line.specs.declared.task.NoTask.TheVariants.{OutOfMemory, Help, Refused, BadOption}
 use Rattle.command_line.specs.declared.task.Request.{Request}
-use Rattle.gco_cli.specs.declared.fault.Fault.{Fault}
-use Rattle.gco_cli.specs.declared.fault.Fault.TheVariants as fault
+use Rattle.program_texts.specs.declared.fault.Fault.{Fault}
+use Rattle.program_texts.specs.declared.fault.Fault.TheVariants as fault
 use Rattle.command_line.specs.declared.task.Task.{Task}
-use Rattle.gco_cli.proofs.FaultKinds.{task_own}
-use Rattle.gco_cli.specs.Commands.{IsDueFor, IsFaultFor, StandsForAsked, cuts_refuse}
-use Rattle.gco_cli.specs.Refusals.{TellsHelp, IsRefusalFor, IsRefusalOf, SaysRefusal, ShowsHelp, exit_status}
-use Rattle.gco_cli.specs.Run.{IsCut, IsCutIn, IsDue, IsRun, LeavesSource, Refuses, Streams, Writes, is_failed_read, is_bad_option}
+use Rattle.program_tasks.proofs.FaultKinds.{task_own}
+use Rattle.program_tasks.specs.Commands.{IsDueFor, IsFaultFor}
+use Rattle.gco_cli.specs.Asked.{StandsForAsked, cuts_refuse}
+use Rattle.gco_cli.specs.Refusals.{IsRefusalFor}
+use Rattle.program_texts.specs.Refusals.{TellsHelp, IsRefusalOf, SaysRefusal, ShowsHelp, exit_status}
+use Rattle.gco_cli.specs.Run.{IsDue, IsRun, LeavesSource, Streams}
+use Rattle.program_tasks.specs.Refusals.{Refuses, is_failed_read, is_bad_option}
+use Rattle.program_texts.specs.Writing.{IsCut, IsCutIn, Writes}
 use Rattle.byte_streams.specs.Streams.{Stream, Took, failures_after}
-use Rattle.gco_cli.specs.declared.refusal.Refusal.{Refusal}
-use Rattle.gco_cli.specs.declared.refusal.Refusal.TheVariants.{Fault as Faulty, Words}
+use Rattle.program_texts.specs.declared.refusal.Refusal.{Refusal}
+use Rattle.program_texts.specs.declared.refusal.Refusal.TheVariants.{Fault as Faulty, Words}
 
 -- an error that was made of a fault is what is said of that fault
 pub as_fault : {L : Type 0} (P : Refusal → Type 0) (fault : Fault) (r : Result L Refusal) → IsErrAnd r (λ e. e ≡ Faulty fault)
@@ -114,18 +118,3 @@ run_of bytes words old new (Err (Words text)) told done refused = record {
   rejected = λ is. record { text = text; refused = refused.0; some = refused.3; told = told; read = refused.1; written = refused.2 };
   range = omega arith;
 }
-
--- the sink failed within a text that was due
-pub cut_in : {T : Type 0} (Due : List ℕ → List ℕ → Type 0) (Is : Fault → Type 0) (old new : Stream) (text items said : List ℕ) (r : Result T Fault)
-    → text ≡ items → Due items said → IfErr r (IsCutIn text old new) → IfErr r (Refuses Due Is old new)
-cut_in Due Is old new text items said (Ok x) same due cut = tt
-cut_in Due Is old new text items said (Err fault) same due cut =
-    inr (items, said, due, subst (λ (xs : List ℕ). IsCutIn xs old new fault) same cut)
-
--- a command was refused before anything was written
-pub task_refused : {T : Type 0} (cut : SolveError → Type 0) (task : Task) (source sink : Stream) (fault : Fault) (r : Result T Fault)
-    → IsErrAnd r (λ e. e ≡ fault) → IsFaultFor cut task source fault → IfErr r (Refuses (IsDueFor task source) (IsFaultFor cut task source) sink sink)
-task_refused cut task source sink fault (Ok x) is stands = tt
-task_refused cut task source sink fault (Err e) is stands =
-    let P : Fault → Type 0 = λ f. Refuses (IsDueFor task source) (IsFaultFor cut task source) sink sink f in
-    subst P (sym is) (inl (stands, (task_own cut task stands.0 fault stands.2).0, refl))

@@ -1,12 +1,3 @@
-pub mod Answer
-pub mod Commands
-pub mod Energy
-pub mod FaultLine
-pub mod Faults
-pub mod Label
-pub mod Lines
-pub mod Pictures
+pub mod Asked
 pub mod Refusals
 pub mod Run
-pub mod Inputs
-pub mod Instances

@@ -1,20 +1,22 @@
 -- What a run answers and leaves.
-use Rattle.std.specs.Prelude.{◌≡◌, ◌≢◌, ◌⊎◌, ◌<◌, ◌≤◌, ℕ, Bool, true, false, List, [], length}
-use Rattle.std.specs.Prelude.{Result, Ok, Err, String, string_bytes, codes}
+use Rattle.std.specs.Prelude.{◌≡◌, ◌≢◌, ◌⊎◌, ◌<◌, ◌≤◌, ℕ, true, List, [], length}
+use Rattle.std.specs.Prelude.{String, string_bytes, codes}
 use Rattle.std.specs.declared.alloc.Global.{Global}
 use Rattle.std.specs.declared.io.ErrorKind.{ErrorKind}
 use Rattle.std.specs.declared.io.ErrorKind.TheVariants.{InvalidData}
-use Rattle.byte_streams.specs.declared.sink.WriteFailed.{WriteFailed}
 use Rattle.command_line.specs.Task.{Asks, AsksForHelp, IsNoTaskFor, NamesBadOption}
 use Rattle.command_line.specs.declared.task.NoTask.TheVariants.{Refused}
 use Rattle.command_line.specs.declared.task.OptionName.{OptionName}
 use Rattle.command_line.specs.declared.task.Request.{Request}
-use Rattle.gco_cli.specs.FaultLine.{fault_line}
-use Rattle.gco_cli.specs.declared.fault.Fault.{Fault}
-use Rattle.gco_cli.specs.declared.fault.Fault.TheVariants.{OutOfMemory, Write, BadOption}
-use Rattle.gco_cli.specs.declared.fault.Fault.TheVariants.{ReadFailed}
-use Rattle.gco_cli.specs.Commands.{IsDueFor, StandsForAsked}
-use Rattle.byte_streams.specs.Streams.{Stream, Stops, Takes, Took, failures_after}
+use Rattle.program_texts.specs.FaultLine.{fault_line}
+use Rattle.program_texts.specs.Refusals.{IsSaid}
+use Rattle.program_texts.specs.Writing.{Writes}
+use Rattle.program_texts.specs.declared.fault.Fault.{Fault}
+use Rattle.program_texts.specs.declared.fault.Fault.TheVariants.{OutOfMemory, BadOption}
+use Rattle.program_tasks.specs.Commands.{IsDueFor}
+use Rattle.program_tasks.specs.Refusals.{Refuses, is_bad_option, is_failed_read}
+use Rattle.gco_cli.specs.Asked.{StandsForAsked}
+use Rattle.byte_streams.specs.Streams.{Stream, Took, failures_after}
 
 -- what a run of these words writes, and says beside it: help that was asked for, which is not
 -- empty, or the answer of a command
@@ -28,46 +30,6 @@ abbrev pub IsFaultOf : List (List ℕ) → Stream → Fault → Type 0
 IsFaultOf words source fault = (fault ≡ OutOfMemory)
     ⊎ (((option : OptionName) × NamesBadOption words option × (fault ≡ BadOption option))
     ⊎ ((request : Request) × Asks words request × StandsForAsked request source fault))
-
--- the fault says that a call of a sink failed
-abbrev pub is_write : Fault → Bool
-is_write (Write failed) = true
-is_write fault = false
-
--- the fault says that an option's value is no name that it takes
-abbrev pub is_bad_option : Fault → Bool
-is_bad_option (BadOption option) = true
-is_bad_option fault = false
-
--- the fault says that the source failed
-abbrev pub is_failed_read : Fault → Bool
-is_failed_read ReadFailed = true
-is_failed_read fault = false
-
--- the due text was written whole, and this is to be said beside it
-abbrev pub Writes : (List ℕ → List ℕ → Type 0) → Stream → Stream → List ℕ → Type 0
-Writes Due old new said = (text : List ℕ) × Due text said × Takes old new text
-
--- the sink failed within the text, as the fault says
-abbrev pub IsCutIn : List ℕ → Stream → Stream → Fault → Type 0
-IsCutIn text old new fault =
-    (failed : WriteFailed) × (fault ≡ Write failed) × Stops old new text failed.count
-
--- the sink failed within the due text, as the fault says
-abbrev pub IsCut : (List ℕ → List ℕ → Type 0) → Stream → Stream → Fault → Type 0
-IsCut Due old new fault =
-    (text : List ℕ) × (said : List ℕ) × Due text said × IsCutIn text old new fault
-
--- nothing was written, and the fault stands; or the sink failed within the due text
-abbrev pub Refuses : (List ℕ → List ℕ → Type 0) → (Fault → Type 0) → Stream
-    → Stream → Fault → Type 0
-Refuses Due Is old new fault =
-    (Is fault × (is_write fault ≡ false) × (new ≡ old)) ⊎ IsCut Due old new fault
-
--- a call of the source failed on the way, one, exactly where the answer says so
-abbrev pub TellsRead : {T : Type 0} → Stream → Stream → Result T Fault → Type 0
-TellsRead old new (Ok x) = new.failures ≡ old.failures
-TellsRead old new (Err fault) = new.failures ≡ failures_after (is_failed_read fault) old.failures
 
 -- in a refused run a call of the source failed exactly where its fault says so, and nothing was
 -- read where an option was refused
@@ -114,11 +76,6 @@ pub record IsRun (words : List (List ℕ)) (old new : Streams) (status : ℕ) : 
   pub refused : status ≡ 1 → IsRefused words old new
   pub rejected : status ≡ 2 → IsRejected words old new
   pub range : status ≤ 2
-
--- the text was said, and this is the exit status
-pub record IsSaid (old new : Stream) (text : List ℕ) (due status : ℕ) : Type 0 where
-  pub told : Took old new text
-  pub ended : status ≡ due
 
 -- The words could not be had, for an error of this kind: one of them is no text, or memory was
 -- refused. That was said, and nothing was read or written.

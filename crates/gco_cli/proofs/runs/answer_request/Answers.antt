@@ -1,7 +1,8 @@
 use Rattle.std.proofs.Common.{IfErr, Option, subst, sym}
 use Rattle.worker_options.specs.declared.options.Options.{Options}
-use Rattle.gco_cli.specs.Commands.{IsDueFor, IsFaultFor, cuts_refuse}
-use Rattle.gco_cli.specs.Run.{Refuses}
+use Rattle.program_tasks.specs.Commands.{IsDueFor, IsFaultFor}
+use Rattle.gco_cli.specs.Asked.{cuts_refuse}
+use Rattle.program_tasks.specs.Refusals.{Refuses}
 use Rattle.gco_cli.proofs.runs.answer_request.Goals as goal
 
 pub returns-in-None-clause-refused : goal.returns-in-None-clause-refused

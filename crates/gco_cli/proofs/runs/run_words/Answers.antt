@@ -10,3 +10,6 @@ returns-in-Err-clause-run g c =
       read = refl;
       written = refl;
     })
+
+pub returns-in-Ok-clause-run : goal.returns-in-Ok-clause-run
+returns-in-Ok-clause-run g c = rw c.in-Ok.is (rw c.as_slice.ensures.value at c.run.ensures.run)

@@ -1,0 +1,7 @@
+mod EnergyFaults
+pub mod FaultKinds
+mod InputLemmas
+mod TaskLemmas
+mod PictureLemmas
+mod LabelFaults
+mod NamedRuns

@@ -1,0 +1,9 @@
+pub mod Bounds
+pub mod Commands
+pub mod Energy
+pub mod Faults
+pub mod Inputs
+pub mod Instances
+pub mod Label
+pub mod Pictures
+pub mod Refusals
