@@ -3,9 +3,11 @@
 
     refused_growths.py --gco crates/gco/out/gco
 
-For each input and each N, the N-th call that asks for memory (malloc or realloc) answers none, until a run meets
-none. Such a run has to end with `refused 0` and nothing written, or with exactly the answer that ample memory gives
-(a library may do without what it was refused); with workers also with `refused 22`, where one could not be started.
+For each input and each N, the N-th call of the main thread that asks for memory (malloc or realloc) answers none, until
+a run meets none. Such a run has to end with `refused 0` and nothing written, or with exactly the answer that ample
+memory gives (a library may do without what it was refused). With workers it may also end with `refused 22`, but only
+where the call was one of those that start a thread. They are the last ones before that start, as many as lie between
+the two nearest starts. Calls of other threads are refused in the same way, and may end with either line.
 Of each command by workers each start of a thread (pthread_create) is refused in the same way: such a run has to end with
 `refused 22` and nothing written, or with exactly the answer; and each command has to start one for some input.
 The calls are counted and refused by a small library that is loaded before the C library; a C compiler is needed to
@@ -24,10 +26,11 @@ SHIM = r'''
 #include <errno.h>
 #include <fcntl.h>
 #include <pthread.h>
+#include <stdio.h>
 #include <stdlib.h>
 #include <unistd.h>
 typedef void *(*Work)(void *);
-static long growths, refused_growth = -1, threads, refused_thread = -1;
+static long growths, refused_growth = -1, others, refused_other = -1, threads, refused_thread = -1;
 static void *(*next_malloc)(size_t);
 static void *(*next_realloc)(void *, size_t);
 static int (*next_create)(pthread_t *, const pthread_attr_t *, Work, void *);
@@ -37,6 +40,7 @@ static void begin(void) {
   next_realloc = (void *(*)(void *, size_t))dlsym(RTLD_NEXT, "realloc");
   next_create = (int (*)(pthread_t *, const pthread_attr_t *, Work, void *))dlsym(RTLD_NEXT, "pthread_create");
   if (getenv("REFUSED_GROWTH")) refused_growth = atol(getenv("REFUSED_GROWTH"));
+  if (getenv("REFUSED_GROWTH_BESIDE")) refused_other = atol(getenv("REFUSED_GROWTH_BESIDE"));
   if (getenv("REFUSED_THREAD")) refused_thread = atol(getenv("REFUSED_THREAD"));
 }
 static int is_refused(long *count, long refused) {
@@ -46,10 +50,22 @@ static int is_refused(long *count, long refused) {
   close(file);
   return 1;
 }
-void *malloc(size_t size) { begin(); return is_refused(&growths, refused_growth) ? 0 : next_malloc(size); }
-void *realloc(void *old, size_t size) { begin(); return is_refused(&growths, refused_growth) ? 0 : next_realloc(old, size); }
+static int is_growth_refused(void) {
+  return getpid() == gettid() ? is_refused(&growths, refused_growth) : is_refused(&others, refused_other);
+}
+void *malloc(size_t size) { begin(); return is_growth_refused() ? 0 : next_malloc(size); }
+void *realloc(void *old, size_t size) { begin(); return is_growth_refused() ? 0 : next_realloc(old, size); }
+/* How many growths the main thread had asked for before each start of a thread goes to a file, one line a start. */
+static void tell_start(void) {
+  char line[32];
+  int length = snprintf(line, sizeof line, "%ld\n", growths);
+  int file = open(getenv("STARTS"), O_WRONLY | O_APPEND);
+  (void)!write(file, line, length);
+  close(file);
+}
 int pthread_create(pthread_t *thread, const pthread_attr_t *how, Work work, void *given) {
   begin();
+  tell_start();
   return is_refused(&threads, refused_thread) ? EAGAIN : next_create(thread, how, work, given);
 }
 '''
@@ -117,25 +133,37 @@ CASES = [(words + more, given) for more in ([], ['--threads', '2']) for words, g
 
 
 def run(gco, words, given, shim, what, number):
-    """The status and both streams of a run whose growth or thread of this number is refused, and whether it had so many."""
-    with tempfile.NamedTemporaryFile() as met:
-        environment = dict(os.environ, LD_PRELOAD=shim, MET=met.name, **{what: str(number)})
+    """The status and both streams of a run whose growth or thread of this number is refused, whether it had so many, and
+    how many growths of the main thread came before each start of a thread."""
+    with tempfile.NamedTemporaryFile() as met, tempfile.NamedTemporaryFile() as starts:
+        environment = dict(os.environ, LD_PRELOAD=shim, MET=met.name, STARTS=starts.name, **{what: str(number)})
         done = subprocess.run([gco] + words, input=given, capture_output=True, env=environment)
-        return (done.returncode, done.stdout, done.stderr), met.read() != b''
+        return (done.returncode, done.stdout, done.stderr), met.read() != b'', [int(line) for line in starts.read().split()]
+
+
+def growths_of_starts(starts):
+    """Which growths of the main thread may be those that start a thread, by how many came before each start."""
+    between = [later - earlier for earlier, later in zip(starts, starts[1:])]
+    each = min(between, default=0)
+    return {growth for start in starts for growth in range(start - each + 1, start + 1)}
 
 
 def refuse_each(gco, words, given, shim, what, right):
     """How often something of the kind was met, how often the run was refused for it, and how often it ended wrongly."""
-    whole, _ = run(gco, words, given, shim, what, -1)
+    whole, _, starts = run(gco, words, given, shim, what, -1)
+    told_as_worker = growths_of_starts(starts)
     met = refused = wrong = 0
-    ended, is_met = run(gco, words, given, shim, what, 1)
+    ended, is_met, _ = run(gco, words, given, shim, what, 1)
     while is_met:
         met += 1
         refused += ended != whole
-        if ended not in [whole] + right:
+        is_right = ended in [whole] + right
+        if what == 'REFUSED_GROWTH' and ended == NO_WORKER and met not in told_as_worker:
+            is_right = False
+        if not is_right:
             wrong += 1
             print('%s %d of gco %s: %r' % (what, met, ' '.join(words), ended))
-        ended, is_met = run(gco, words, given, shim, what, met + 1)
+        ended, is_met, _ = run(gco, words, given, shim, what, met + 1)
     return met, refused, wrong
 
 
@@ -159,6 +187,9 @@ def main():
             all_wrong += wrong
             print('%4d growths, %4d times refused: gco %s' % (met, refused, ' '.join(words)))
             if by_workers:
+                met, refused, wrong = refuse_each(gco, words, given, shim, 'REFUSED_GROWTH_BESIDE', right)
+                all_wrong += wrong
+                print('%4d growths beside, %4d times refused: gco %s' % (met, refused, ' '.join(words)))
                 met, refused, wrong = refuse_each(gco, words, given, shim, 'REFUSED_THREAD', [NO_WORKER])
                 all_wrong += wrong
                 threads[words[0]] += met
