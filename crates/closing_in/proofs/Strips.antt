@@ -10,7 +10,7 @@ use Rattle.move_energy.specs.Choices.{bit_of, choice_of}
 use Rattle.deciding.specs.Decisions.{set_bit, rise, IsSubmodular, IsOver, IsSmallestLeast}
 use Rattle.deciding.proofs.Putting.{set_at, set_other, value_same}
 use Rattle.deciding.proofs.SiteSums.{test_true, test_false}
-use Rattle.closing_in.specs.Fixing.{with_choices, fixed_value, IsLeast}
+use Rattle.closing_in.specs.Fixing.{with_choices, fixed_value, IsLeast, AreLeastZeros}
 use Rattle.closing_in.specs.Agreeing.{Agree, IsAgreed, ChooseMore, TellsOne, with_one, or_else, choices_or}
 use Rattle.closing_in.specs.Strips.{Strip, others_at, lower_value, upper_value, IsStripBounded, choice_of_bounds, told_by, with_strips, with_batches, AreBatches}
 use Rattle.closing_in.proofs.Fixing.{least_rises, ones_bound, zeros_bound}
@@ -76,16 +76,33 @@ not_both : (b : Bool) → b ≡ true → b ≡ false → ⊥
 not_both b h k = (let e = sym h ∙ k in cc (e))
 
 -- what is 0 above is 0, and what is 1 below is 1
-zero_above : (n : ℕ) (E : (ℕ → Bool) → ℤ) (choice : ℕ → Choice) (set w s : ℕ → Bool) → IsSubmodular E → IsOver n E → Agree n E choice
+zero_above : (n : ℕ) (E : (ℕ → Bool) → ℤ) (choice : ℕ → Choice) (set w s : ℕ → Bool) → IsSubmodular E → IsOver n E → AreLeastZeros n E choice
     → IsLeast (upper_value E choice set) w → IsSmallestLeast n E s
     → (p : ℕ) → p < n → choice p ≡ Open → set p ≡ true → w p ≡ false → s p ≡ false
-zero_above n E choice set w s falls over agree least best p l opened inside none = elim (cases_Bool (s p)) [
+zero_above n E choice set w s falls over zeros least best p l opened inside none = elim (cases_Bool (s p)) [
   | inr zero ↦ zero
   | inl one ↦
       let within : with_choices (others_at One set choice) w p ≡ true =
       ones_bound n E (others_at One set choice) s w falls over best
-      (λ k below h. agree.zeros s best k below (others_zero (set k) (choice k) h)) least p l one in
+      (λ k below h. zeros s best k below (others_zero (set k) (choice k) h)) least p l one in
       absurd (not_both (w p) (sym (inside_bit (set p) (choice p) One (w p) inside opened) ∙ within) none)
+]
+
+-- though only the zeros of the choices are those of the least
+pub upper_zeros : (n : ℕ) (E : (ℕ → Bool) → ℤ) (choice : ℕ → Choice) (set w : ℕ → Bool) → IsSubmodular E → IsOver n E → AreLeastZeros n E choice
+    → IsLeast (upper_value E choice set) w
+    → AreLeastZeros n E (choices_or choice (told_by (record { set = set; lower = λ p. false; upper = w })))
+upper_zeros n E choice set w falls over zeros least s best p l zero = elim (told_zero (choice p) (set p) false (w p) zero) [
+  | inl before ↦ zeros s best p l before
+  | inr now ↦ zero_above n E choice set w s falls over zeros least best p l now.0 now.1 now.2
+]
+
+-- what is at 0 in either of two
+pub zeros_of_either : (n : ℕ) (E : (ℕ → Bool) → ℤ) (choice more new : ℕ → Choice) → AreLeastZeros n E choice → AreLeastZeros n E more
+    → ((p : ℕ) → p < n → new p ≡ Zero → (choice p ≡ Zero) ⊎ (more p ≡ Zero)) → AreLeastZeros n E new
+zeros_of_either n E choice more new first second either s best p l zero = elim (either p l zero) [
+  | inl here ↦ first s best p l here
+  | inr there ↦ second s best p l there
 ]
 
 one_below : (n : ℕ) (E : (ℕ → Bool) → ℤ) (choice : ℕ → Choice) (set z s : ℕ → Bool) → IsSubmodular E → IsOver n E → Agree n E choice
@@ -101,7 +118,7 @@ pub strip_agrees : (n : ℕ) (E : (ℕ → Bool) → ℤ) (choice : ℕ → Choi
 strip_agrees n E choice strip falls over agree closed = record {
   zeros = λ s best p l zero. elim (told_zero (choice p) (strip.set p) (strip.lower p) (strip.upper p) zero) [
     | inl before ↦ agree.zeros s best p l before
-    | inr now ↦ zero_above n E choice strip.set strip.upper s falls over agree closed.upper best p l now.0 now.1 now.2
+    | inr now ↦ zero_above n E choice strip.set strip.upper s falls over agree.zeros closed.upper best p l now.0 now.1 now.2
   ];
   ones = λ s best p l one. elim (told_one (choice p) (strip.set p) (strip.lower p) (strip.upper p) one) [
     | inl before ↦ agree.ones s best p l before
@@ -129,7 +146,7 @@ pub upper_agrees : (n : ℕ) (E : (ℕ → Bool) → ℤ) (choice : ℕ → Choi
 upper_agrees n E choice set w falls over agree least = record {
   zeros = λ s best p l zero. elim (told_zero (choice p) (set p) false (w p) zero) [
     | inl before ↦ agree.zeros s best p l before
-    | inr now ↦ zero_above n E choice set w s falls over agree least best p l now.0 now.1 now.2
+    | inr now ↦ zero_above n E choice set w s falls over agree.zeros least best p l now.0 now.1 now.2
   ];
   ones = λ s best p l one. elim (told_one (choice p) (set p) false (w p) one) [
     | inl before ↦ agree.ones s best p l before

@@ -21,7 +21,7 @@ use Rattle.deciding.specs.Decided.{AreDecided}
 use Rattle.deciding.specs.Working.{TellsValue, ArePartlyDecided}
 use Rattle.deciding.specs.declared.bounds.Bounds.{Bounds}
 use Rattle.closing_in.specs.Fixing.{with_choices, fixed_value, IsLeast, HasZeros, HasOnes}
-use Rattle.closing_in.specs.Fixing.{OnesLieWithin}
+use Rattle.closing_in.specs.Fixing.{OnesLieWithin, AreLeastZeros}
 use Rattle.closing_in.specs.Agreeing.{Agree, IsAgreed, ChooseMore, AreOfDecisions, TellsOne}
 use Rattle.closing_in.specs.Agreeing.{with_one, choices_or}
 use Rattle.closing_in.specs.Strips.{Strip, others_at, lower_value, upper_value, IsStripBounded}
@@ -130,6 +130,23 @@ UpperAgrees =
     (n : ℕ) (E : (ℕ → Bool) → ℤ) (choice : ℕ → Choice) (set w : ℕ → Bool)
     → IsSubmodular E → IsOver n E → Agree n E choice → IsLeast (upper_value E choice set) w
     → Agree n E (choices_or choice (told_by (record { set = set; lower = λ p. false; upper = w })))
+
+-- where what is chosen to be 0 is 0 in the least assignment with the fewest ones, so is what a
+-- strip has at 0 above, whatever else is chosen to be 1
+abbrev pub UpperZerosAreLeast : Type 0
+UpperZerosAreLeast =
+    (n : ℕ) (E : (ℕ → Bool) → ℤ) (choice : ℕ → Choice) (set w : ℕ → Bool)
+    → IsSubmodular E → IsOver n E → AreLeastZeros n E choice → IsLeast (upper_value E choice set) w
+    → AreLeastZeros n E
+    (choices_or choice (told_by (record { set = set; lower = λ p. false; upper = w })))
+
+-- and what is 0 in either of two such choices
+abbrev pub ZerosOfEitherAreLeast : Type 0
+ZerosOfEitherAreLeast =
+    (n : ℕ) (E : (ℕ → Bool) → ℤ) (choice more new : ℕ → Choice)
+    → AreLeastZeros n E choice → AreLeastZeros n E more
+    → ((p : ℕ) → p < n → new p ≡ Zero → (choice p ≡ Zero) ⊎ (more p ≡ Zero))
+    → AreLeastZeros n E new
 
 -- the test of one variable is a strip of one
 abbrev pub TestedAgree : Type 0

@@ -13,6 +13,7 @@ ghost use Rattle.closing_in.specs.Laws.{LeastRises, OnesBoundLeast, ZerosBoundLe
 ghost use Rattle.closing_in.specs.Laws.{RestAndFixedIsLeast};
 ghost use Rattle.closing_in.specs.Laws.{EachAgreedAgree, ForcedAgree, RestAgrees, AgreeByRest};
 ghost use Rattle.closing_in.specs.Laws.{StripAgrees, LowerAgrees, UpperAgrees, LowerWithinUpper};
+ghost use Rattle.closing_in.specs.Laws.{UpperZerosAreLeast, ZerosOfEitherAreLeast};
 ghost use Rattle.closing_in.specs.Laws.{TestedAgree, StripAddsLater, StripsSideBySide};
 ghost use Rattle.closing_in.specs.Laws.{BatchesAndRestAreLeast};
 ghost use Rattle.closing_in.specs.Laws.{DecidedAgree, BatchesEndMove, UpperRiseIsLower};
@@ -97,6 +98,14 @@ pub fn strip_agrees()
     ensures both { StripAgrees }
     ensures lower { LowerAgrees }
     ensures upper { UpperAgrees }
+{}
+
+/// The zeros above are kept where no more is known than zeros: what is chosen to be 1 need not be 1
+/// in the least assignment with the fewest ones. So the sites that were not looked at may count as
+/// 1, and several may look at sites apart, each with all others at 1, and put their zeros together.
+pub fn zeros_alone_are_kept()
+    ensures upper { UpperZerosAreLeast }
+    ensures either { ZerosOfEitherAreLeast }
 {}
 
 /// No variable is told to be both 0 and 1.

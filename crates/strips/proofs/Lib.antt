@@ -8,6 +8,7 @@ pub mod Saving
 pub mod RowForms
 pub mod RowSides
 pub mod Writing
+pub mod Zeros
 pub mod Laying
 pub mod Lessening
 pub mod Listing

@@ -1,14 +1,15 @@
 //! Strip after strip: each is built with what is known by then, and what its two sides tell is
 //! known from then on.
 ghost use Rattle.std.specs.Prelude.{◌≡◌, ◌<◌, ◌≤◌, [], ℕ, All, List, length, vec_len, unsigned_abs};
-ghost use Rattle.std.specs.Prelude.{OnOk};
+ghost use Rattle.std.specs.Prelude.{OnOk, IfOk};
 ghost use Rattle.label_field.specs.Limits.{site_limit};
 ghost use Rattle.labellings.specs.declared.change.Move.{Move as AnyMove};
 ghost use Rattle.labellings.specs.Energies.{Instance, IsInstance};
 ghost use Rattle.pseudo_bool.specs.Limits.{term_limit};
 ghost use Rattle.compile_cut.specs.Quadratics.{IsQuadraticBounded};
 ghost use Rattle.cost_store.specs.Posed.{WhereMeant};
-ghost use Rattle.move_energy.specs.Choices.{choice_at, AreOpenSites};
+ghost use Rattle.move_energy.specs.Choices.{choice_at, choice_of, value_of, open_count};
+ghost use Rattle.move_energy.specs.Choices.{AreOpenSites};
 ghost use Rattle.move_energy.specs.declared.choice.Choice.{Choice as AnyChoice};
 ghost use Rattle.move_energy.specs.Limits.{surplus_limit};
 ghost use Rattle.move_energy.specs.Problems.{Stands};
@@ -18,6 +19,7 @@ ghost use Rattle.deciding.specs.MoveValues.{move_value};
 ghost use Rattle.deciding.specs.Parts.{AreReadable, WhereRead};
 ghost use Rattle.deciding.specs.Savings.{CoversPair, IsTableFrom};
 ghost use Rattle.closing_in.specs.Agreeing.{Agree};
+ghost use Rattle.closing_in.specs.Fixing.{AreLeastZeros};
 ghost use Rattle.strips.specs.Closing.{IsBasisOf, CanClose};
 ghost use Rattle.strips.specs.Parts.{EndsWithStrip};
 ghost use Rattle.strips.specs.Sides.{IsAsTold};
@@ -164,6 +166,49 @@ impl Strips {
         };
         let sides = cut_strip(&savings, &material, &sites, &mut self.room)?;
         self.tell(known, &sides)
+    }
+
+    /// Cuts all open sites by numbers alone, where those that count as 1 may be 0 at the end: a bit
+    /// for each open site, which are listed. What is 0 for good where each zero was known for good
+    /// is 0 by its bit or was known.
+    pub fn look_read(
+        &mut self,
+        numbers: &RiseNumbers,
+        known: &[Choice],
+        opened: &[u32],
+    ) -> Result<Vec<bool>, AllocError>
+        requires readable { AreReadable numbers.now }
+        requires count { length known.now ≡ length numbers.now.at.now }
+        requires opened { AreOpenSites known.now opened.now }
+        ensures count { IfOk result (λ bits. length bits.items ≡ open_count known.now) }
+        ensures zeros { WhereRead numbers.now (λ m move f. IsInstance m →
+            AreLeastZeros m.sites (move_value m move f) (choice_at known.now) →
+            IfOk result (λ bits. AreLeastZeros m.sites (move_value m move f)
+            (λ p. choice_of (value_of known.now bits.items p)))) }
+    {
+        let to = known.len() as u32;
+        read_weights(&mut self.weights, numbers, known, 0, to, opened)?;
+        let savings = |each: Pair| -> i64
+            requires covered { CoversPair numbers.now.table.now numbers.now.at.now each }
+            ensures value { (m : Instance) (move : AnyMove) (f : ℕ → ℕ) →
+                IsTableFrom numbers.entry.now.table.now numbers.entry.now.at.now m move f →
+                result ≡ surplus_of (pair_table m move f each) }
+            ensures range { unsigned_abs result ≤ surplus_limit }
+        { told_surplus(numbers.table, numbers.at, each) };
+        let material = Material {
+            pairs: numbers.pairs,
+            ends: numbers.ends,
+            start: known,
+            known,
+        };
+        let sites = StripSites {
+            from: 0,
+            to,
+            opened,
+            weights: &self.weights,
+        };
+        let both = cut_strip(&savings, &material, &sites, &mut self.room)?;
+        Ok(both.upper)
     }
 
     /// Closes in all strips but the last, so many sites each and what the strip before left open.
