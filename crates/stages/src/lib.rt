@@ -12,4 +12,5 @@ mod opening;
 mod stage;
 
 pub use changes::Changes;
+pub use opening::{Window, choose_first};
 pub use stage::Stage;

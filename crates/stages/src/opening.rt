@@ -64,7 +64,7 @@ fn choose_each(choices: &mut [Choice], at: &[u8], alpha: u32)
 }
 
 /// The choices before the first stage.
-fn choose_first(choices: &mut Vec<Choice>, at: &[u8], alpha: u32) -> Result<(), AllocError>
+pub fn choose_first(choices: &mut Vec<Choice>, at: &[u8], alpha: u32) -> Result<(), AllocError>
     ensures count { OnOk result (length choices.new.items ≡ length at.now) }
     ensures each { OnOk result ((p : ℕ) → p < length at.now →
         choice_at choices.new.items p ≡ choice_of (not (labelling at.now p == alpha))) }
@@ -74,13 +74,20 @@ fn choose_first(choices: &mut Vec<Choice>, at: &[u8], alpha: u32) -> Result<(), 
     Ok(())
 }
 
-/// Opens a site that was not looked at. It answers whether it was one.
-fn open_site(choices: &mut Vec<Choice>, site: u32) -> bool
+/// The sites from one on, before another.
+#[derive(Clone, Copy)]
+pub struct Window {
+    pub from: u32,
+    pub to: u32,
+}
+
+/// Opens a site of a window that was not looked at. It answers whether it was one.
+fn open_site(choices: &mut Vec<Choice>, site: u32, window: Window) -> bool
     requires { site < length choices.old.items }
     ensures { KeepsZeros choices.old.items choices.new.items }
 {
     let opens = match choices[site as usize] {
-        Choice::One => true,
+        Choice::One => window.from <= site && site < window.to,
         Choice::Open | Choice::Zero => false,
     };
     if opens {
@@ -89,14 +96,29 @@ fn open_site(choices: &mut Vec<Choice>, site: u32) -> bool
     opens
 }
 
-/// Opens those of the sites that were not looked at.
-fn open_all(choices: &mut Vec<Choice>, sites: &[u32])
+/// Opens those of the sites that are of a window and were not looked at.
+fn open_all(choices: &mut Vec<Choice>, sites: &[u32], window: Window)
     requires { All (λ p. p < length choices.old.items) sites.now }
     ensures { KeepsZeros choices.old.items choices.new.items }
 {
     for site in sites {
-        open_site(choices, *site);
+        open_site(choices, *site, window);
     }
+}
+
+/// Lists those of the sites that were not looked at.
+fn list_new(list: &mut Vec<u32>, choices: &[Choice], sites: &[u32]) -> Result<(), AllocError>
+    requires { All (λ p. p < length choices.now) sites.now }
+    ensures { OnOk result (All (λ p. p < length choices.now) list.new.items) }
+{
+    list.clear();
+    for site in sites {
+        match choices[*site as usize] {
+            Choice::One => list.push(*site)?,
+            Choice::Open | Choice::Zero => {}
+        }
+    }
+    Ok(())
 }
 
 /// What the cut of a stage showed: the open sites are at 0 or count as 1.
@@ -171,13 +193,14 @@ fn list_open(opened: &mut Vec<u32>, choices: &[Choice]) -> Result<(), AllocError
     Ok(())
 }
 
-/// Opens the sites beside a site that were not looked at, and lists them.
+/// Opens the sites of a window beside a site that were not looked at, and lists them.
 fn open_beside(
     pairs: &Pairs,
     ends: &Neighbours,
     choices: &mut Vec<Choice>,
     ring: &mut Vec<u32>,
     site: u32,
+    window: Window,
 ) -> Result<(), AllocError>
     requires by_site { AreBySite pairs.now ends.now }
     requires sites { length choices.old.items ≡ pairs.now.sites }
@@ -189,21 +212,22 @@ fn open_beside(
 {
     for index in 0..ends_at(pairs, ends, site) {
         let other = other_end(pair_at(pairs, ends, site, index), site);
-        if open_site(choices, other) {
+        if open_site(choices, other, window) {
             ring.push(other)?;
         }
     }
     Ok(())
 }
 
-/// Opens a ring: the sites beside those that are listed from a place on, of those that were not
-/// looked at. They are listed too.
+/// Opens a ring: the sites beside those that are listed from a place on, of those of a window that
+/// were not looked at. They are listed too.
 fn open_ring(
     pairs: &Pairs,
     ends: &Neighbours,
     choices: &mut Vec<Choice>,
     ring: &mut Vec<u32>,
     from: usize,
+    window: Window,
 ) -> Result<(), AllocError>
     requires by_site { AreBySite pairs.now ends.now }
     requires sites { length choices.old.items ≡ pairs.now.sites }
@@ -213,19 +237,27 @@ fn open_ring(
 {
     for index in from..ring.len() {
         let site = ring[index];
-        open_beside(pairs, ends, choices, ring, site)?;
+        open_beside(pairs, ends, choices, ring, site, window)?;
     }
     Ok(())
 }
 
-/// Opens rings around the listed sites, at most so many, until so many sites are listed.
+/// At most so many rings, until so many sites are listed.
+#[derive(Clone, Copy)]
+struct Rings {
+    count: usize,
+    most: usize,
+}
+
+/// Opens rings around the listed sites, at most so many and within a window, until so many sites
+/// are listed.
 fn open_rings(
     pairs: &Pairs,
     ends: &Neighbours,
     choices: &mut Vec<Choice>,
     ring: &mut Vec<u32>,
-    rings: usize,
-    most: usize,
+    rings: Rings,
+    window: Window,
 ) -> Result<(), AllocError>
     requires by_site { AreBySite pairs.now ends.now }
     requires sites { length choices.old.items ≡ pairs.now.sites }
@@ -234,10 +266,10 @@ fn open_rings(
     ensures inside { OnOk result (All (λ p. p < pairs.now.sites) ring.new.items) }
 {
     let mut from = 0;
-    for _ in 0..rings {
+    for _ in 0..rings.count {
         let to = ring.len();
-        if to < most {
-            open_ring(pairs, ends, choices, ring, from)?;
+        if to < rings.most {
+            open_ring(pairs, ends, choices, ring, from, window)?;
         }
         from = to;
     }
@@ -274,25 +306,52 @@ impl Stage {
         ensures same { (self.new.fresh ≡ self.old.fresh)
             × (self.new.fresh_sites ≡ self.old.fresh_sites) }
     {
-        pairs.keeps();
         choose_first(choices, at, alpha)?;
-        self.front.clear();
-        self.front.extend_from_slice(&self.fresh_sites)?;
-        open_all(choices, &self.front);
-        let most = most_listed(self.front.len(), self.front.len());
-        open_rings(pairs, ends, choices, &mut self.front, FIRST_RINGS, most)?;
+        let window = Window {
+            from: 0,
+            to: pairs.sites(),
+        };
+        self.open_fresh(choices, pairs, ends, window)
+    }
+
+    /// Opens the fresh sites that were not looked at, and rings around them, of those of a window.
+    /// `opened` lists all that are open.
+    pub fn open_fresh(
+        &mut self,
+        choices: &mut Vec<Choice>,
+        pairs: &Pairs,
+        ends: &Neighbours,
+        window: Window,
+    ) -> Result<(), AllocError>
+        requires by_site { AreBySite pairs.now ends.now }
+        requires sites { length choices.old.items ≡ pairs.now.sites }
+        requires inside { All (λ p. p < pairs.now.sites) self.old.fresh_sites.items }
+        ensures zeros { OnOk result (KeepsZeros choices.old.items choices.new.items) }
+        ensures opened { OnOk result (AreOpenSites choices.new.items self.new.opened.items) }
+        ensures same { (self.new.fresh ≡ self.old.fresh)
+            × (self.new.fresh_sites ≡ self.old.fresh_sites) }
+    {
+        pairs.keeps();
+        list_new(&mut self.front, choices, &self.fresh_sites)?;
+        open_all(choices, &self.front, window);
+        let rings = Rings {
+            count: FIRST_RINGS,
+            most: most_listed(self.front.len(), self.front.len()),
+        };
+        open_rings(pairs, ends, choices, &mut self.front, rings, window)?;
         list_open(&mut self.opened, choices)
     }
 
     /// The choices of the next stage: what the cut showed to be 0 is 0 for good; the parts that
-    /// hold a fresh site, `front` and rings around it are open, and all else counts as 1. `opened`
-    /// lists the open ones.
+    /// hold a fresh site, `front` and rings around it are open as far as they are of a window, and
+    /// all else counts as 1. `opened` lists the open ones.
     pub fn reopen(
         &mut self,
         choices: &mut Vec<Choice>,
         pairs: &Pairs,
         ends: &Neighbours,
         bits: &[bool],
+        window: Window,
     ) -> Result<(), AllocError>
         requires by_site { AreBySite pairs.now ends.now }
         requires sites { length choices.old.items ≡ pairs.now.sites }
@@ -309,10 +368,13 @@ impl Stage {
     {
         pairs.keeps();
         assign(choices, &self.opened, bits);
-        open_all(choices, &self.taking);
-        open_all(choices, &self.front);
-        let most = most_listed(self.front.len(), self.taking.len() + self.front.len());
-        open_rings(pairs, ends, choices, &mut self.front, LATER_RINGS, most)?;
+        open_all(choices, &self.taking, window);
+        open_all(choices, &self.front, window);
+        let rings = Rings {
+            count: LATER_RINGS,
+            most: most_listed(self.front.len(), self.taking.len() + self.front.len()),
+        };
+        open_rings(pairs, ends, choices, &mut self.front, rings, window)?;
         list_open(&mut self.opened, choices)
     }
 }

@@ -1,5 +1,5 @@
 //! What an expansion that is made once more knows of the sites.
-ghost use Rattle.std.specs.Prelude.{◌≡◌, ◌==◌, ℕ, ◌<◌, false, length, OnOk, if◌then◌else◌};
+ghost use Rattle.std.specs.Prelude.{◌≡◌, ◌==◌, [], ℕ, ◌<◌, false, length, OnOk, if◌then◌else◌};
 ghost use Rattle.stages.specs.Looking.{is_marked};
 ghost use Rattle.stages.specs.Working.{IsMarkedToo, IsListedToo};
 
@@ -28,7 +28,10 @@ pub struct Stage {
 
 impl Stage {
     /// Nothing is known. It takes no memory.
-    pub fn empty(alloc: Global) -> Stage {
+    pub fn empty(alloc: Global) -> Stage
+        ensures fresh { result.fresh.items ≡ [] }
+        ensures sites { result.fresh_sites.items ≡ [] }
+    {
         Stage {
             fresh: Vec::new(alloc),
             fresh_sites: Vec::new(alloc),

@@ -1,0 +1,26 @@
+use Rattle.std.proofs.Common.{◌≡◌, ◌+◌, ◌<◌, ℕ, List, length, sym, subst, arith}
+use Rattle.std.specs.Prelude.{slice_index}
+use Rattle.labellings.specs.Energies.{labelling}
+use Rattle.move_energy.specs.declared.choice.Choice.{Choice}
+use Rattle.move_energy.specs.declared.choice.Choice.TheVariants.{Zero}
+use Rattle.move_energy.specs.Choices.{choice_at}
+use Rattle.stage_parts.specs.Parts.{AreZerosOf, AreZeroCodes}
+use Rattle.stage_parts.proofs.Codes.{if_ok_map}
+use Rattle.stage_parts.proofs.side_by_side.look_apart.Goals as goal
+
+pub returns : goal.returns
+returns c = record {
+  zeros = λ m move told is zeros.
+      let f = labelling c.args.numbers.now.at.now in
+      let from = c.args.seen.from in
+      let begun : AreZerosOf m move f (choice_at c.in_ok-part.part.variables.choices.items) = λ s best p l zero.
+      zeros s best p l ((c.in_ok-part.ensures.zeros.each p (omega (arith, l, c.requires.sites, told.sites_are))).0 zero) in
+      let done : AreZerosOf m move f (choice_at c.make_part_stages.new.part.variables.choices.items) =
+      c.in_ok-make_part_stages.ensures.zeros m move told is begun in
+      let known : AreZerosOf m move f (choice_at c.deref.result.now) =
+      subst (λ (cs : List Choice). AreZerosOf m move f (choice_at cs)) (sym c.deref.ensures.value) done in
+      if_ok_map
+      (λ codes. (k : ℕ) → k < length codes.items → slice_index codes.items k ≡ 1 → choice_at c.deref.result.now (from + k) ≡ Zero)
+      (λ codes. AreZeroCodes m move f from codes.items) c.codes_within.result
+      (λ codes each s best k l one below. known s best (from + k) below (each k l one)) c.codes_within.ensures;
+}
