@@ -26,6 +26,14 @@ opens at most 20, each later one at most 48. A ring is opened only where fewer p
 rings lie around, three times those that are open before the rings, and 16 together. A pixel that the rings lie around is
 listed once for each pixel beside it through which it was met.
 
+In further runs parts of the pixels look by themselves before the first stage. A part's own pixels are as many that
+follow one another; it sees a quarter as many more at each of its ends. It goes by stages as above, from its own fresh pixels
+on, but opens only what it sees, and all else counts as taking the label. It ends where nothing that it sees is left to be
+opened, or where more than half of what it sees is open. A pixel that one of the parts finds to keep its label is known to
+keep it, and one that a part leaves open is open in the first stage. That stage then opens the fresh pixels of which nothing
+else is known, and rings around these. The cuts of the parts are not counted. Where the fresh pixels are a 32nd of all,
+there are no parts, so that a test can tell such a stage from a whole move, which has none.
+
 Each cut is one of the whole network, in which pixels that are not open are tied to their value, and what each move ends
 with is compared with the best labelling that it reaches.
 """
@@ -39,6 +47,11 @@ RING_ROOM = 16
 RING_SHARE = 3
 CHANGED_SHARE = 32
 OPENED_SHARE = 2
+PART_STAGES = 64
+SEEN_SHARE = 2
+BEYOND_SHARE = 4
+SITES_A_FRESH_ONE = 32
+PARTS = 8
 MOST_CYCLES = 4
 UNLIKE_COSTS = [2, 5]
 
@@ -62,8 +75,8 @@ def cut(labels, alpha, known):
     return [site in levels for site in range(SITES)]
 
 
-def open_around(known, around, already, rings):
-    """Opens at most so many rings around the listed pixels, where so many pixels are open already."""
+def open_around(known, around, already, rings, seen=range(SITES)):
+    """Opens at most so many rings around the listed pixels, of those that are seen, where so many are open already."""
     listed = list(around)
     most = 2 * len(around) + RING_SHARE * already + RING_ROOM
     ring = listed
@@ -73,7 +86,7 @@ def open_around(known, around, already, rings):
         beside = []
         for site in ring:
             for other in neighbours(site):
-                if known[other] == TAKES:
+                if known[other] == TAKES and other in seen:
                     known[other] = OPEN
                     beside.append(other)
         listed = listed + beside
@@ -100,14 +113,64 @@ def parts_of(known, values, fresh):
     return part, front
 
 
-def staged(labels, alpha, changed):
+def open_fresh(known, fresh, seen=range(SITES)):
+    """Opens the fresh pixels that count as taking the label, and rings around them."""
+    new = [site for site in fresh if known[site] == TAKES]
+    for site in new:
+        known[site] = OPEN
+    open_around(known, new, len(new), FIRST_RINGS, seen)
+
+
+def open_next(known, values, part, front, seen=range(SITES)):
+    """Opens what the next stage looks at, of what is seen."""
+    for site in range(SITES):
+        if known[site] == OPEN:
+            known[site] = TAKES if values[site] else KEEPS
+    for site in part + front:
+        if site in seen and known[site] == TAKES:
+            known[site] = OPEN
+    open_around(known, front, len(part) + len(front), LATER_RINGS, seen)
+
+
+def look_apart(labels, alpha, known, fresh, seen):
+    """What a part knows at last of the pixels, from its own fresh ones on."""
+    known = list(known)
+    open_fresh(known, fresh, seen)
+    for _ in range(PART_STAGES):
+        if known.count(OPEN) > len(seen) // SEEN_SHARE:
+            break
+        values = cut(labels, alpha, known)
+        part, front = parts_of(known, values, fresh)
+        open_next(known, values, part, front, seen)
+        if not any(site in seen for site in front):
+            break
+    return known
+
+
+def find_keeping(labels, alpha, known, fresh, parts):
+    """Takes over what so many parts find, each by itself."""
+    own = -(-SITES // parts)
+    beyond = own // BEYOND_SHARE
+    found = []
+    for first in range(0, SITES, own):
+        seen = range(max(first - beyond, 0), min(first + own + beyond, SITES))
+        own_fresh = [site for site in fresh if first <= site < first + own]
+        if own_fresh:
+            found.append((seen, look_apart(labels, alpha, known, own_fresh, seen)))
+    for seen, told in found:
+        for site in seen:
+            if known[site] != KEEPS and told[site] != TAKES:
+                known[site] = told[site]
+
+
+def staged(labels, alpha, changed, parts):
     """How many pixels each stage opens, and which take the label; none where the move is to be made whole."""
     near = {other for site in changed for other in [site, *neighbours(site)]}
     fresh = sorted(site for site in near if labels[site] != alpha)
     known = [KEEPS if label == alpha else TAKES for label in labels]
-    for site in fresh:
-        known[site] = OPEN
-    open_around(known, fresh, len(fresh), FIRST_RINGS)
+    if parts > 1 and len(fresh) * SITES_A_FRESH_ONE != SITES:
+        find_keeping(labels, alpha, known, fresh, parts)
+    open_fresh(known, fresh)
     counts = []
     while sum(counts) + known.count(OPEN) <= SITES // OPENED_SHARE:
         counts.append(known.count(OPEN))
@@ -115,19 +178,15 @@ def staged(labels, alpha, changed):
         part, front = parts_of(known, values, fresh)
         if not front:
             return counts, part
-        for site in range(SITES):
-            if known[site] == OPEN:
-                known[site] = TAKES if values[site] else KEEPS
-        for site in part + front:
-            known[site] = OPEN
-        open_around(known, front, len(part) + len(front), LATER_RINGS)
+        open_next(known, values, part, front)
     return counts, None
 
 
 class Run:
     """A run: its labels, which move changed each pixel last, which was each label's last, and the last that changed one."""
 
-    def __init__(self):
+    def __init__(self, parts):
+        self.parts = parts
         self.labels = [0] * SITES
         self.stamps = [0] * SITES
         self.made = [0] * LABELS
@@ -141,7 +200,7 @@ class Run:
         changed = [site for site in range(SITES) if self.stamps[site] > since]
         counts, taken = [], None
         if since and sum(self.labels[site] != alpha for site in changed) * CHANGED_SHARE < SITES:
-            counts, taken = staged(self.labels, alpha, changed)
+            counts, taken = staged(self.labels, alpha, changed, self.parts)
         if taken is None:
             counts = counts + [decided(self.labels, alpha).count(None)]
         else:
@@ -166,15 +225,15 @@ class Run:
 
 
 def main():
-    for unlike in UNLIKE_COSTS:
+    for parts, unlike in [(parts, unlike) for parts in [1, PARTS] for unlike in UNLIKE_COSTS]:
         open_sites.UNLIKE = unlike
-        run, cuts, sites = Run(), 0, 0
+        run, cuts, sites = Run(parts), 0, 0
         for cycle in range(1, MOST_CYCLES + 1):
             moves = run.cycle()
             count = sum(map(sum, moves))
             cuts += sum(map(len, moves))
             sites += count
-            print(f'unlike labels cost {unlike}, cycle {cycle}: {count} sites; up to here {cuts} cuts of {sites} sites; {moves}')
+            print(f'{parts} parts, unlike labels cost {unlike}, cycle {cycle}: {count} sites; up to here {cuts} cuts of {sites} sites; {moves}')
 
 
 if __name__ == '__main__':

@@ -18,23 +18,30 @@ use std::process::Abort;
 use std::sync::atomic::{AtomicUsize, Ordering};
 use std::test::Fail;
 
-/// What two unlike labels cost, how many cycles are allowed, how many cuts there are, and how many
-/// sites these have together. Made by tools/stage_sites.py, which finds by itself where a later
-/// expansion looks.
-const RUNS: &[(i64, u32, usize, usize)] = &[
-    (2, 1, 4, 1863),
-    (2, 2, 8, 2193),
-    (2, 3, 12, 4710),
-    (2, 4, 13, 4782),
-    (5, 4, 21, 25822),
+/// By how many parts a later expansion looks, what two unlike labels cost, how many cycles are
+/// allowed, how many cuts there are but for those of the parts, and how many sites these have
+/// together. Made by tools/stage_sites.py, which finds by itself where a later expansion looks.
+const RUNS: &[(usize, i64, u32, usize, usize)] = &[
+    (1, 2, 1, 4, 1863),
+    (1, 2, 2, 8, 2193),
+    (1, 2, 3, 12, 4710),
+    (1, 2, 4, 13, 4782),
+    (1, 5, 4, 21, 25822),
+    (8, 2, 3, 12, 2195),
+    (8, 5, 4, 18, 20875),
 ];
 
 /// What two unlike labels cost in these runs.
 const UNLIKE: &[i64] = &[2, 5];
 
-/// As `Alone`, but it counts the nets that it is given, and their nodes.
+/// The pixels of the picture.
+const PIXELS: usize = 4096;
+
+/// As `Alone`, but it counts the nets that it is given, and their nodes. A later expansion looks by
+/// so many parts. A whole move has one, and so has the largest of all, so that each net comes here.
 #[derive(Drop)]
 struct Counting {
+    parts: usize,
     cuts: AtomicUsize,
     nodes: AtomicUsize,
 }
@@ -50,6 +57,13 @@ impl How for Counting {
         self.cuts.fetch_add(1, Ordering::SeqCst);
         self.nodes.fetch_add(net.nodes(), Ordering::SeqCst);
         Alone.solve(alloc, net)
+    }
+
+    fn parts(&self, sites: usize) -> usize {
+        if sites == PIXELS || sites == usize::MAX {
+            return 1;
+        }
+        self.parts.max(1)
     }
 
     fn fork(&self) -> InOrder {
@@ -138,10 +152,12 @@ fn labels_after<H: How>(
 fn count_cuts(
     rt: &impl Abort,
     alloc: Global,
+    parts: usize,
     unlike: i64,
     cycles: u32,
 ) -> Result<Option<(usize, usize)>, Fail> {
     let counting = Counting {
+        parts,
         cuts: AtomicUsize::new(0),
         nodes: AtomicUsize::new(0),
     };
@@ -154,12 +170,12 @@ fn count_cuts(
 
 #[test]
 fn later_expansions_open_few_sites(rt: HostRuntime) -> Result<(), Fail> {
-    for (unlike, cycles, cuts, sites) in RUNS {
-        let told = count_cuts(&rt, rt.alloc(), *unlike, *cycles)?;
+    for (parts, unlike, cycles, cuts, sites) in RUNS {
+        let told = count_cuts(&rt, rt.alloc(), *parts, *unlike, *cycles)?;
         let (told_cuts, told_sites) = told.unwrap_or((0, 0));
         assert!(rt;
             told == Some((*cuts, *sites)),
-            "unlike {unlike}, cycles {cycles}: {told_cuts} cuts of {told_sites} in place of {cuts} of {sites}"
+            "{parts} parts, unlike {unlike}, cycles {cycles}: {told_cuts} cuts of {told_sites} in place of {cuts} of {sites}"
         );
     }
     Ok(())

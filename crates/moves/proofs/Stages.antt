@@ -1,8 +1,8 @@
 -- The stages of an expansion that is made once more.
-use Rattle.std.proofs.Common.{◌≡◌, ◌≢◌, ◌⊎◌, ◌↔◌, ℕ, ◌+◌, ◌<◌, Bool, true, false, cond, List, All, length, get_or, vec_len, IsTrue, IfOk, Result, Ok, Err, refl, sym, ap, ◌∙◌, inl, inr, subst, arith}
+use Rattle.std.proofs.Common.{◌≡◌, ◌≢◌, ◌⊎◌, ◌↔◌, ◌==◌, ℕ, ◌+◌, ◌<◌, Bool, true, false, not, cond, List, All, length, get_or, vec_len, IsTrue, IfOk, Result, Ok, Err, refl, sym, ap, ◌∙◌, inl, inr, subst, arith}
 use Rattle.std.specs.Prelude.{slice_index, slice_set, IsFalse, OnOk}
 use Rattle.std.specs.List.{Contains}
-use Rattle.std.proofs.lemmas.Bool.{cases_Bool, cases_eq, cases_lt}
+use Rattle.std.proofs.lemmas.Bool.{cases_Bool, cases_eq, cases_lt, eqb-true}
 use Rattle.std.proofs.lemmas.List.{length-set, get_or-set_same, get_or-set_other, set-get_or}
 use Rattle.std.proofs.lemmas.Grind.{get_or_default_zero}
 use Rattle.label_field.specs.PairLists.{PairList}
@@ -16,7 +16,7 @@ use Rattle.compile_cut.specs.declared.quadratic.Quadratic.{Quadratic}
 use Rattle.compile_cut.specs.Quadratics.{quadratic_value}
 use Rattle.move_energy.specs.declared.choice.Choice.{Choice}
 use Rattle.move_energy.specs.declared.choice.Choice.TheVariants.{Zero}
-use Rattle.move_energy.specs.Choices.{choice_at, value_of, open_rank, StandsFor}
+use Rattle.move_energy.specs.Choices.{choice_at, choice_of, bit_of, value_of, open_rank, StandsFor}
 use Rattle.deciding.specs.Decisions.{IsSmallestLeast}
 use Rattle.deciding.specs.MoveValues.{move_value}
 use Rattle.deciding.proofs.Rises.{move_falls, move_over}
@@ -47,6 +47,18 @@ stage_least m move f choices q bits pairs stands least = record {
 none_of : (b : Bool) → (b ≡ true → ⊥) → b ≡ false
 none_of true h = absurd (h refl)
 none_of false h = refl
+
+shown_bit : (same : Bool) → bit_of (choice_of (not same)) false ≡ not same
+shown_bit true = refl
+shown_bit false = refl
+
+from_not : (b : Bool) → not b ≡ false → b ≡ true
+from_not true h = refl
+from_not false h = sym h
+
+-- a site at 0 by its label has the label
+pub label_shown : (x a : ℕ) → choice_of (not (x == a)) ≡ Zero → x ≡ a
+label_shown x a zero = eqb-true x a (from_not (x == a) (sym (shown_bit (x == a)) ∙ ap (λ (c : Choice). bit_of c false) zero))
 
 -- of the first, at which the sites are that have the label
 pub first_zeros : (m : Instance) (a : ℕ) (f : List ℕ) (choices : List Choice) → IsInstance m

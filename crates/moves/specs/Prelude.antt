@@ -42,7 +42,7 @@ pub use Rattle.moves.specs.Refusals.{IsRefusalOver}
 pub use Rattle.moves.specs.Runs.{MayMake, AnswersRun, IsRunInRange}
 pub use Rattle.moves.specs.Stages.{IsStageReady, AreStageZeros, AreStageFresh, IsTakenLeast}
 pub use Rattle.moves.specs.Stages.{HasTaken, IsLater, IsUnderWay, AreStampsOf, IsStageLeast}
-pub use Rattle.moves.specs.Stages.{EndsMove}
+pub use Rattle.moves.specs.Stages.{EndsMove, KeepsFreshSites}
 pub use Rattle.pseudo_bool.specs.Energies.{assignment}
 pub use Rattle.pseudo_bool.specs.Limits.{term_limit}
 pub use Rattle.stages.specs.Changes.{made_of, changed_after, AreStamped}

@@ -44,6 +44,13 @@ pub record IsStageReady (pairs : PairList) (space : Workspace) : Type 0 where
       → Contains space.stage.fresh_sites.items p
   pub inside : All (λ p. p < pairs.sites) space.stage.fresh_sites.items
 
+-- the fresh sites stay as they are, and so do the pairs by their sites
+pub record KeepsFreshSites (old new : Workspace) : Type 0 where
+  pub grouped : new.grouped ≡ old.grouped
+  pub ends : new.deciding.ends ≡ old.deciding.ends
+  pub fresh : new.stage.fresh ≡ old.stage.fresh
+  pub listed : new.stage.fresh_sites ≡ old.stage.fresh_sites
+
 -- the stage's zeros are zeros of the least values of the expansion
 abbrev pub AreStageZeros : Instance → ℕ → List ℕ → Workspace → Type 0
 AreStageZeros m a f space =

@@ -9,6 +9,7 @@ ghost use Rattle.moves.specs.Prelude.{IsGroupedFor, IsMade, IsCutRefusal, IsMove
 ghost use Rattle.moves.specs.Prelude.{IsStageReady, AreStageZeros, AreStageFresh, IsTakenLeast};
 ghost use Rattle.moves.specs.Prelude.{HasTaken, IsLater, IsUnderWay, TellsChange};
 
+use crate::opening_apart::open_apart;
 use crate::stage_cut::{Standing, make_stage};
 use crate::taking::relabel_site;
 use crate::workspace::Workspace;
@@ -22,9 +23,6 @@ use std::alloc::AllocError;
 /// A later expansion looks near the changes where less than one in so many sites changed.
 const CHANGED_SHARE: usize = 32;
 
-/// So it does where a move has parts: then a whole move takes less time.
-const CHANGED_SHARE_OF_PARTS: usize = 64;
-
 /// The most stages of an expansion: where none of so many is closed, the expansion is made whole.
 const STAGE_LIMIT: u32 = 64;
 
@@ -32,20 +30,8 @@ const STAGE_LIMIT: u32 = 64;
 /// is made whole.
 const OPENED_SHARE: usize = 2;
 
-/// Where less than one in so many sites changed, a move in so many parts looks near the changes.
-fn share_of(parts: usize) -> usize
-    ensures { 0 < result }
-{
-    if parts > 1 {
-        CHANGED_SHARE_OF_PARTS
-    } else {
-        CHANGED_SHARE
-    }
-}
-
 /// Whether less than one in so many sites changed since a move and has not the label.
-fn are_few(stamps: &[u32], since: u32, at: &[u8], alpha: u32, share: usize) -> bool
-    requires some { 0 < share }
+fn are_few(stamps: &[u32], since: u32, at: &[u8], alpha: u32) -> bool
     requires count { length stamps.now ≡ length at.now }
 {
     let mut changed = 0usize;
@@ -54,7 +40,7 @@ fn are_few(stamps: &[u32], since: u32, at: &[u8], alpha: u32, share: usize) -> b
             changed += 1;
         }
     }
-    changed < stamps.len().div_ceil(share)
+    changed < stamps.len().div_ceil(CHANGED_SHARE)
 }
 
 /// Whether an expansion looks near the changes alone: its label was expanded before and few sites
@@ -64,7 +50,6 @@ fn can_look<F: Fn(u32, u32) -> i64 + Sync, V: Fn(u32, u32) -> i64 + Sync>(
     labelling: &Labelling,
     alpha: u32,
     changes: &Changes,
-    parts: usize,
 ) -> bool
     ensures metric { IsTrue result → IsTrue problem.now.smooth_cost.by_metric }
     ensures free { IsTrue result → AreFree (costs_in problem.now.label_costs) }
@@ -78,23 +63,20 @@ fn can_look<F: Fn(u32, u32) -> i64 + Sync, V: Fn(u32, u32) -> i64 + Sync>(
         && since > 0
         && alpha < labelling.labels()
         && changes.stamps.len() == labelling.sites() as usize
-        && are_few(
-            &changes.stamps,
-            since,
-            labelling.as_slice(),
-            alpha,
-            share_of(parts),
-        )
+        && are_few(&changes.stamps, since, labelling.as_slice(), alpha)
 }
 
-/// Makes the first stage ready.
-fn begin_stages<F: Fn(u32, u32) -> i64 + Sync, V: Fn(u32, u32) -> i64 + Sync>(
+/// Makes the first stage ready: by parts of the sites that look by themselves first, where the way
+/// to cut asks for parts.
+fn begin_stages<F: Fn(u32, u32) -> i64 + Sync, V: Fn(u32, u32) -> i64 + Sync, H: How>(
     problem: &Problem<F, V>,
     space: &mut Workspace,
     at: &[u8],
     alpha: u32,
     changes: &Changes,
+    how: &H,
 ) -> Result<(), AllocError>
+    requires ready { H.ready how.now }
     requires asked { IsAsked problem.now at.now (Expand alpha) }
     requires posed { IsPosed F.Fn V.Fn problem.now }
     requires stamps { length changes.now.stamps.items ≡ length at.now }
@@ -116,6 +98,9 @@ fn begin_stages<F: Fn(u32, u32) -> i64 + Sync, V: Fn(u32, u32) -> i64 + Sync>(
         &changes.stamps,
         changes.last(alpha),
     )?;
+    if open_apart(alloc, problem, space, at, alpha, how)? {
+        return Ok(());
+    }
     space.stage.open_first(
         &mut space.built.variables.choices,
         &problem.pairs,
@@ -148,7 +133,7 @@ fn look<F: Fn(u32, u32) -> i64 + Sync, V: Fn(u32, u32) -> i64 + Sync, H: How>(
         AreTaking problem.now.pairs.sites space.new.stage) }
     ensures refused { IfErr result (IsCutRefusal (H.refuses how.now)) }
 {
-    match begin_stages(problem, space, at, alpha, changes) {
+    match begin_stages(problem, space, at, alpha, changes, how) {
         Ok(()) => {}
         Err(_) => return Err(MoveError::OutOfMemory),
     }
@@ -214,8 +199,7 @@ pub(crate) fn make_later<F: Fn(u32, u32) -> i64 + Sync, V: Fn(u32, u32) -> i64 +
     ensures refused { IfErr result
         (IsMoveRefusal (H.refuses how.now) labelling.old.labels (Expand alpha)) }
 {
-    let parts = how.parts(labelling.sites() as usize);
-    if !how.decides_first() || !can_look(problem, labelling, alpha, changes, parts) {
+    if !how.decides_first() || !can_look(problem, labelling, alpha, changes) {
         return Ok(None);
     }
     if !look(problem, space, labelling.as_slice(), alpha, changes, how)? {

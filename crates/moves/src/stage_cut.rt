@@ -16,6 +16,7 @@ use cost_store::Problem;
 use label_field::Pairs;
 use labellings::Move;
 use move_energy::{MoveEnergy, OpenSites};
+use stages::Window;
 use std::alloc::{AllocError, Global};
 use std::mem::replace;
 
@@ -28,7 +29,7 @@ pub(crate) enum Standing {
 }
 
 /// The cut of a partly fixed move, over the listed open sites: a bit for each.
-fn cut_stage<F: Fn(u32, u32) -> i64 + Sync, V: Fn(u32, u32) -> i64 + Sync, H: How>(
+pub(crate) fn cut_stage<F: Fn(u32, u32) -> i64 + Sync, V: Fn(u32, u32) -> i64 + Sync, H: How>(
     problem: &Problem<F, V>,
     built: &mut MoveEnergy,
     sites: &OpenSites,
@@ -90,11 +91,16 @@ fn end_stage(space: &mut Workspace, pairs: &Pairs, bits: &[bool]) -> Result<Stan
     if closed {
         return Ok(Standing::Closed);
     }
+    let window = Window {
+        from: 0,
+        to: pairs.sites(),
+    };
     space.stage.reopen(
         &mut space.built.variables.choices,
         pairs,
         &space.deciding.ends,
         bits,
+        window,
     )?;
     Ok(Standing::Open)
 }

@@ -1,4 +1,4 @@
-use Rattle.std.proofs.Common.{◌≡◌, ◌↔◌, ◌<◌, List, ℕ, Bool, length, ap, sym, subst, arith}
+use Rattle.std.proofs.Common.{◌≡◌, ◌∙◌, ◌↔◌, ◌<◌, List, ℕ, Bool, length, ap, sym, subst, arith}
 use Rattle.labellings.specs.declared.change.Move.TheVariants.{Expand}
 use Rattle.labellings.specs.Energies.{labelling}
 use Rattle.move_energy.specs.declared.choice.Choice.TheVariants.{Zero}
@@ -23,7 +23,19 @@ returns-clause-fresh g c = λ m meant.
     let D : ℕ → Type 0 = λ since. A changes.stamps.items since c.mark_fresh.new.self.fresh.items in
     let F : List Bool → Type 0 = λ flags. A changes.stamps.items (made_of changes a) flags in
     on_ok (F c.open_first.new.self.fresh.items) c.open_first.result
-    (subst F (sym (ap (λ (v : _). v.items) c.open_first.ensures.same.0)) (subst D c.last.ensures (subst B c.deref.ensures.value fresh)))
+    (subst F (sym (ap (λ (v : _). v.items) (c.open_first.ensures.same.0 ∙ c.open_apart.ensures.same.fresh))) (subst D c.last.ensures (subst B c.deref.ensures.value fresh)))
+
+pub returns-then-branch-clause-fresh : goal.returns-then-branch-clause-fresh
+returns-then-branch-clause-fresh g c = λ m meant.
+    let a = c.args.alpha in
+    let f = labelling c.args.at.now in
+    let changes = c.args.changes.now in
+    let fresh = c.in_ok-mark_fresh.ensures.fresh.fresh m meant.sites_are meant.pairs_are in
+    let A : List ℕ → ℕ → List Bool → Type 0 = λ stamps since flags. AreFresh m a f (changed_since stamps since) (is_marked flags) in
+    let B : List ℕ → Type 0 = λ stamps. A stamps c.last.result c.mark_fresh.new.self.fresh.items in
+    let D : ℕ → Type 0 = λ since. A changes.stamps.items since c.mark_fresh.new.self.fresh.items in
+    let F : List Bool → Type 0 = λ flags. A changes.stamps.items (made_of changes a) flags in
+    subst F (sym (ap (λ (v : _). v.items) c.open_apart.ensures.same.fresh)) (subst D c.last.ensures (subst B c.deref.ensures.value fresh))
 
 pub returns-clause-zeros : goal.returns-clause-zeros
 returns-clause-zeros g c = λ m meant.
