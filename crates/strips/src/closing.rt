@@ -25,14 +25,12 @@ ghost use Rattle.strips.specs.Parts.{EndsWithStrip};
 ghost use Rattle.strips.specs.Sides.{IsAsTold};
 ghost use Rattle.strips.specs.Views.{IsView, KeepsChosen, strip_view};
 
-use crate::cutting::{build_asked, cut_asked, cut_strip, list_weights};
-use crate::material::{Basis, Material, Room, StripSites};
+use crate::cutting::{build_asked, cut_asked, cut_read, list_weights};
+use crate::material::{Basis, Room, StripSites};
 use crate::opening::list_next;
-use crate::parting::read_weights;
 use crate::sides::write_form;
 use crate::telling::tell_strip;
-use deciding::{MoveToFind, RiseNumbers, told_surplus};
-use label_field::Pair;
+use deciding::{MoveToFind, RiseNumbers};
 use move_energy::{Choice, MoveEnergy};
 use plain_cut::BothSides;
 use std::alloc::{AllocError, Global};
@@ -144,27 +142,15 @@ impl Strips {
             OnOk result (EndsWithStrip m move f known.old.items from to
             (choice_at known.new.items))) }
     {
-        read_weights(&mut self.weights, numbers, known, from, to, &self.opened)?;
-        let savings = |pair: Pair| -> i64
-            requires covered { CoversPair numbers.now.table.now numbers.now.at.now pair }
-            ensures value { (m : Instance) (move : AnyMove) (f : ℕ → ℕ) →
-                IsTableFrom numbers.entry.now.table.now numbers.entry.now.at.now m move f →
-                result ≡ surplus_of (pair_table m move f pair) }
-            ensures range { unsigned_abs result ≤ surplus_limit }
-        { told_surplus(numbers.table, numbers.at, pair) };
-        let material = Material {
-            pairs: numbers.pairs,
-            ends: numbers.ends,
-            start: known,
+        let sides = cut_read(
+            numbers,
             known,
-        };
-        let sites = StripSites {
             from,
             to,
-            opened: &self.opened,
-            weights: &self.weights,
-        };
-        let sides = cut_strip(&savings, &material, &sites, &mut self.room)?;
+            &self.opened,
+            &mut self.weights,
+            &mut self.room,
+        )?;
         self.tell(known, &sides)
     }
 
@@ -187,27 +173,15 @@ impl Strips {
             (λ p. choice_of (value_of known.now bits.items p)))) }
     {
         let to = known.len() as u32;
-        read_weights(&mut self.weights, numbers, known, 0, to, opened)?;
-        let savings = |each: Pair| -> i64
-            requires covered { CoversPair numbers.now.table.now numbers.now.at.now each }
-            ensures value { (m : Instance) (move : AnyMove) (f : ℕ → ℕ) →
-                IsTableFrom numbers.entry.now.table.now numbers.entry.now.at.now m move f →
-                result ≡ surplus_of (pair_table m move f each) }
-            ensures range { unsigned_abs result ≤ surplus_limit }
-        { told_surplus(numbers.table, numbers.at, each) };
-        let material = Material {
-            pairs: numbers.pairs,
-            ends: numbers.ends,
-            start: known,
+        let both = cut_read(
+            numbers,
             known,
-        };
-        let sites = StripSites {
-            from: 0,
+            0,
             to,
             opened,
-            weights: &self.weights,
-        };
-        let both = cut_strip(&savings, &material, &sites, &mut self.room)?;
+            &mut self.weights,
+            &mut self.room,
+        )?;
         Ok(both.upper)
     }
 

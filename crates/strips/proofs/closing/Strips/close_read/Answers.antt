@@ -1,9 +1,7 @@
-use Rattle.std.proofs.Common.{◌≡◌, ◌∙◌, ℕ, ℤ, List, length, map, refl, sym, ap, subst}
+use Rattle.std.proofs.Common.{◌≡◌, ◌∙◌, ℕ, List, length, sym, subst}
 use Rattle.labellings.specs.Energies.{labelling}
 use Rattle.move_energy.specs.declared.choice.Choice.{Choice}
-use Rattle.move_energy.specs.Choices.{choice_at}
 use Rattle.move_energy.proofs.Opened.{opened_within}
-use Rattle.deciding.specs.Parts.{site_weight}
 use Rattle.strips.specs.Sides.{AreBounds}
 use Rattle.strips.specs.Views.{strip_view}
 use Rattle.strips.proofs.Ranges.{on_ok, told_keeps, told_right, told_ends}
@@ -26,29 +24,17 @@ pub returns-clause-agree : goal.returns-clause-agree
 returns-clause-agree c = λ m move told is agree.
     let a = c.args in
     let f = labelling a.numbers.now.at.now in
-    let W : List Choice → List ℕ → List ℤ = λ ks xs. map (site_weight m move f (choice_at ks)) xs in
-    let starts = c.deref-6.ensures.value ∙ c.in_ok-read_weights.ensures.weights m move told is
-    ∙ ap (λ ks. W ks c.deref-2.result.now) (c.deref.ensures.value ∙ sym c.deref-3.ensures.value)
-    ∙ ap (W c.deref-3.result.now) (c.deref-2.ensures.value ∙ sym c.deref-5.ensures.value) in
-    let K : List Choice → Type 0 = λ ks. AreBounds m move f ks c.deref-5.result.now c.in_ok-sides.sides in
+    let K : List Choice → Type 0 = λ ks. AreBounds m move f ks c.deref-2.result.now c.in_ok-sides.sides in
     let B : List ℕ → Type 0 = λ xs. AreBounds m move f a.known.now.items xs c.in_ok-sides.sides in
     let size : length a.known.now.items ≡ m.sites = c.requires.count ∙ c.requires.readable.sites ∙ sym told.sites_are in
-    let tells = c.in_ok-sides.ensures.tells m move f (λ pair z gives. gives.1.0 m move f record { rises = told.told; within = told.labels; from = refl })
-    record { sites_are = told.sites_are; pairs_are = told.pairs_are; instance = is; allowed = told.allowed } starts in
-    on_ok c.tell.result _ (told_right m move f a.known.now.items c.tell.new.known.items a.self.now.opened.items c.in_ok-sides.sides is told.allowed size c.tell.ensures.told
-    (subst B c.deref-5.ensures.value (subst K c.deref-4.ensures.value tells)) agree)
+    let tells = subst B c.deref-2.ensures.value (subst K c.deref.ensures.value (c.in_ok-sides.ensures.tells m move told is)) in
+    on_ok c.tell.result _ (told_right m move f a.known.now.items c.tell.new.known.items a.self.now.opened.items c.in_ok-sides.sides is told.allowed size c.tell.ensures.told tells agree)
 
 pub returns-clause-ends : goal.returns-clause-ends
 returns-clause-ends c = λ m move told is agree.
     let a = c.args in
     let f = labelling a.numbers.now.at.now in
-    let W : List Choice → List ℕ → List ℤ = λ ks xs. map (site_weight m move f (choice_at ks)) xs in
-    let starts = c.deref-6.ensures.value ∙ c.in_ok-read_weights.ensures.weights m move told is
-    ∙ ap (λ ks. W ks c.deref-2.result.now) (c.deref.ensures.value ∙ sym c.deref-3.ensures.value)
-    ∙ ap (W c.deref-3.result.now) (c.deref-2.ensures.value ∙ sym c.deref-5.ensures.value) in
-    let K : List Choice → Type 0 = λ ks. AreBounds m move f ks c.deref-5.result.now c.in_ok-sides.sides in
+    let K : List Choice → Type 0 = λ ks. AreBounds m move f ks c.deref-2.result.now c.in_ok-sides.sides in
     let B : List ℕ → Type 0 = λ xs. AreBounds m move f a.known.now.items xs c.in_ok-sides.sides in
-    let tells = c.in_ok-sides.ensures.tells m move f (λ pair z gives. gives.1.0 m move f record { rises = told.told; within = told.labels; from = refl })
-    record { sites_are = told.sites_are; pairs_are = told.pairs_are; instance = is; allowed = told.allowed } starts in
-    on_ok c.tell.result _ (told_ends m move f a.known.now.items c.tell.new.known.items a.from a.to a.self.now.opened.items c.in_ok-sides.sides c.tell.ensures.count c.requires.opened c.tell.ensures.told
-    (subst B c.deref-5.ensures.value (subst K c.deref-4.ensures.value tells)) agree)
+    let tells = subst B c.deref-2.ensures.value (subst K c.deref.ensures.value (c.in_ok-sides.ensures.tells m move told is)) in
+    on_ok c.tell.result _ (told_ends m move f a.known.now.items c.tell.new.known.items a.from a.to a.self.now.opened.items c.in_ok-sides.sides c.tell.ensures.count c.requires.opened c.tell.ensures.told tells agree)
