@@ -21,8 +21,8 @@ use Rattle.block_workers.specs.declared.seat.Seat.{Seat}
 use Rattle.block_workers.specs.Ends.{ports}
 use Rattle.block_workers.specs.Seeing.{messages, ways_of_ports, AreRising, AreSame}
 use Rattle.block_workers.specs.Workers.{AllWorked, HasWorked}
-use Rattle.rounds.specs.Joined.{port_to, IsPaired, AreJoined}
-use Rattle.rounds.specs.Mated.{room_to}
+use Rattle.block_rings.specs.Joined.{port_to, IsPaired, AreJoined}
+use Rattle.block_rings.specs.Mated.{room_to}
 use Rattle.rounds.specs.Seated.{blocks_of, ends_of_seats, ports_of, AreSeated}
 use Rattle.rounds.specs.Together.{AreBackAfter}
 use Rattle.rounds.proofs.Borders.{leads_out}

@@ -9,7 +9,7 @@ use Rattle.block_net.specs.Whole.{Whole}
 use Rattle.block_core.specs.AllWays.{HasRooms}
 use Rattle.block_cut.specs.Rounds.{Ways, IsRoundOfTurns, state_after}
 use Rattle.block_cut.proofs.Quiet.{round_is_held}
-use Rattle.rounds.specs.Left.{AreFitting}
+use Rattle.block_rings.specs.Left.{AreFitting}
 
 pub round_fits : (w : Whole) (got : ℕ) (blocks : List CellsView) (left : Ways) (steps : ℕ → ℕ) (rooms : List (List ℕ)) → HasRooms w.net (length w.blocks) rooms
     → IsRoundOfTurns w got blocks left steps → AreFitting (length w.blocks) rooms left

@@ -11,8 +11,8 @@ use Rattle.block_core.specs.AllWays.{IsHeld}
 use Rattle.block_cut.specs.Rounds.{Ways, AreBack, IsRoundOfTurns, quiet_state, state_after}
 use Rattle.block_cut.proofs.Quiet.{quiet_is_start, round_is_held}
 use Rattle.block_cut.proofs.Rounds.{seats_make_round}
-use Rattle.rounds.specs.Links.{RingsView, sent_in, taken_in, ring_room}
-use Rattle.rounds.specs.Left.{AreLeft, AreFitting, HaveRoomFor}
+use Rattle.block_rings.specs.Links.{RingsView, sent_in, taken_in, ring_room}
+use Rattle.block_rings.specs.Left.{AreLeft, AreFitting, HaveRoomFor}
 use Rattle.rounds.specs.Together.{AreBackAfter, HaveRun}
 use Rattle.rounds.specs.Short.{IsShortRound, HasFewOnTheWay}
 use Rattle.rounds.proofs.Counts.{few_events}

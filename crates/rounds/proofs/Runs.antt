@@ -9,9 +9,9 @@ use Rattle.block_workers.specs.declared.port.Port.{Port}
 use Rattle.block_workers.specs.declared.seat.Seat.{Seat}
 use Rattle.block_workers.specs.Seeing.{AreRising}
 use Rattle.block_workers.specs.Workers.{AllWorked, turns_of}
-use Rattle.rounds.specs.Joined.{AreJoined}
-use Rattle.rounds.specs.Links.{RingsView, sent_in, taken_in, ring_room}
-use Rattle.rounds.specs.Mated.{AreMated, messages_sent, messages_taken, room_to}
+use Rattle.block_rings.specs.Joined.{AreJoined}
+use Rattle.block_rings.specs.Links.{RingsView, sent_in, taken_in, ring_room}
+use Rattle.block_rings.specs.Mated.{AreMated, messages_sent, messages_taken, room_to}
 use Rattle.rounds.specs.Seated.{blocks_of, ends_of_seats, ports_of, AreSeated}
 use Rattle.rounds.specs.Together.{AreBackAfter, HaveRun}
 use Rattle.rounds.proofs.Backs.{first_of, long_old, long_lists, many_new, few_room, still_rising, still_paired, still_none, seats_back}

@@ -1,16 +1,9 @@
 pub use Rattle.worker_options.specs.Limits
 pub use Rattle.worker_options.specs.Ranges
 pub use Rattle.block_workers.specs.Book
-pub mod Joined
-pub mod Joining
+pub use Rattle.block_rings.specs.Joined
 pub mod Dealing
 pub mod Laws
-pub mod Mated
-pub mod Left
-pub mod Links
-pub mod Draining
-pub mod Kept
-pub mod Pairing
 pub mod PartCounts
 pub mod Seated
 pub mod Sharing

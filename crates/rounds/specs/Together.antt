@@ -10,8 +10,8 @@ use Rattle.block_opening.specs.Split.{whole_of}
 use Rattle.block_events.specs.Effects.{state_of}
 use Rattle.laid_blocks.specs.Views.{IsLaid, blocks_in}
 use Rattle.block_cut.specs.Rounds.{Ways, AreBack, rooms_lack}
-use Rattle.rounds.specs.Links.{RingsView, sent_in, taken_in}
-use Rattle.rounds.specs.Left.{AreLeft}
+use Rattle.block_rings.specs.Links.{RingsView, sent_in, taken_in}
+use Rattle.block_rings.specs.Left.{AreLeft}
 
 -- the state that the blocks show with the messages on the way: the sink got what the rooms lack
 abbrev pub gathered_state : Network → Parts → Ways → State

@@ -2,17 +2,16 @@
 ghost use Rattle.std.specs.Prelude.{◌≡◌, ◌<◌, ◌≤◌, ℕ, IfOk, OnOk, vec_len};
 ghost use Rattle.block_net.specs.Limits.{block_limit};
 ghost use Rattle.worker_options.specs.Ranges.{AreInRange};
-ghost use Rattle.rounds.specs.Joined.{AreJoined};
-ghost use Rattle.rounds.specs.Links.{ring_room};
+ghost use Rattle.block_rings.specs.Joined.{AreJoined};
+ghost use Rattle.block_rings.specs.Links.{ring_room};
 ghost use Rattle.rounds.specs.Seated.{AreSeated, AreBlocksSmall, ends_of_seats, ports_of};
 ghost use Rattle.rounds.specs.Together.{HaveRun};
 
-use crate::join::join_by;
 use crate::round_space::{Came, Space, gather_seats};
 use crate::round_work::{Shares, work_on};
 use crate::seats::seats_of;
-use crate::stock::Stock;
 use block_net::Cells;
+use block_rings::{Stock, join_by};
 use block_workers::{Job, RoundError, TurnBook};
 use std::alloc::{AllocError, Global};
 use std::sync::Wait;

@@ -4,9 +4,8 @@ ghost use Rattle.std.specs.Prelude.{vec_capacity, vec_len};
 ghost use Rattle.block_workers.specs.Workers.{turns_of};
 ghost use Rattle.rounds.specs.Dealing.{AreDealt, AreHands};
 
-use crate::deck::Deck;
-use crate::pile::Pile;
 use crate::turned::{take_next, turn_round};
+use block_rings::{Deck, Pile};
 use block_workers::{Job, Seat, Worker};
 use std::sync::ledger::Share;
 

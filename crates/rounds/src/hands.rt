@@ -6,9 +6,8 @@ ghost use Rattle.block_workers.specs.Workers.{AreNew};
 ghost use Rattle.rounds.specs.Dealing.{AreDealt, hand};
 
 use crate::collection::Room;
-use crate::deck::Deck;
-use crate::pile::Pile;
 use crate::turned::{take_next, turn_round};
+use block_rings::{Deck, Pile};
 use block_workers::{Job, Seat, Worker};
 use std::alloc::{AllocError, Global};
 use std::sync::ledger::Share;

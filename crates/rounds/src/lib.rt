@@ -13,19 +13,11 @@
 
 mod blocks;
 mod collection;
-mod deck;
 mod final_state;
 mod gates;
 mod hands;
-mod join;
-mod kept_rings;
 pub mod laws;
-mod linked_blocks;
-mod pair;
 mod parallel_error;
-mod pile;
-mod ring_ends;
-mod rings;
 mod round;
 mod round_space;
 mod round_state;
@@ -33,14 +25,13 @@ mod round_work;
 mod seat_work;
 mod seats;
 mod solver;
-mod stock;
 mod turned;
 mod workers;
 
+pub use block_rings::join_all;
 pub use block_workers::{Job, Ledgers, RoundError, TurnBook};
 pub use forks::ByThreads;
 pub use gates::{Lent, Open};
-pub use join::join_all;
 pub use label_search::distances_by_blocks;
 pub use parallel_error::ParallelError;
 pub use round::run_round;

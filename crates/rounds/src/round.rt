@@ -10,9 +10,9 @@ ghost use Rattle.rounds.specs.Short.{HasFewOnTheWay, IsShortRound};
 
 use crate::blocks::{Blanks, run_blocks};
 use crate::round_state::put_together;
-use crate::stock::Stock;
 use block_core::{Pieces, State};
 use block_opening::Parts;
+use block_rings::Stock;
 use block_workers::{Job, Ledgers, RoundError};
 use std::alloc::Global;
 use std::marker::Brand;

@@ -1,16 +1,13 @@
 //! Room for the blocks that come back from a round.
 ghost use Rattle.std.specs.Prelude.{◌≡◌, ◌*◌, ◌≤◌, ℕ, IfOk, length, vec_capacity, vec_len};
 ghost use Rattle.block_net.specs.Limits.{block_limit};
-ghost use Rattle.rounds.specs.Mated.{AreMated, room_to, messages_sent, messages_taken};
-ghost use Rattle.rounds.specs.Links.{ring_room, sent_in, taken_in};
+ghost use Rattle.block_rings.specs.Mated.{AreMated, room_to, messages_sent, messages_taken};
+ghost use Rattle.block_rings.specs.Links.{ring_room, sent_in, taken_in};
 ghost use Rattle.rounds.specs.Seated.{blocks_of, ends_of_seats, ports_of};
 
-use crate::deck::Deck;
-use crate::pair::PortPair;
-use crate::rings::Rings;
 use crate::seats::apart;
-use crate::stock::Piles;
 use block_net::Cells;
+use block_rings::{Deck, Piles, PortPair, Rings};
 use block_workers::Port;
 use std::alloc::{AllocError, Global};
 

@@ -2,8 +2,8 @@
 ghost use Rattle.std.specs.Prelude.{◌≡◌, ◌<◌, ◌≤◌, IfOk};
 ghost use Rattle.block_workers.specs.Workers.{AllWorked, AreNew, turns_of};
 
-use crate::deck::Deck;
 use crate::seat_work::work_seats;
+use block_rings::Deck;
 use block_workers::{Job, RoundError, TurnBook};
 use std::alloc::Global;
 use std::sync::ledger::Share;

@@ -4,8 +4,8 @@ ghost use Rattle.block_workers.specs.Workers.{AllWorked, AreNew, turns_of};
 ghost use Rattle.block_workers.specs.declared.crew.RoundError.TheVariants.{Workers};
 
 use crate::collection::collect;
-use crate::deck::Deck;
 use crate::hands::deal;
+use block_rings::Deck;
 use block_workers::{Job, RoundError, TurnBook, all_work};
 use std::alloc::Global;
 use std::sync::ledger::Share;

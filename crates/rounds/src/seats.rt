@@ -6,10 +6,9 @@ ghost use Rattle.block_workers.specs.Turns.{IsNewSeat};
 ghost use Rattle.rounds.specs.Seated.{AreSeated, AreBlocksSmall, blocks_of, ends_of_seats};
 ghost use Rattle.rounds.specs.Seated.{ports_of};
 
-use crate::pile::Pile;
-use crate::stock::Piles;
 use crate::turned::{take_next, turn_round};
 use block_net::Cells;
+use block_rings::{Pile, Piles};
 use block_turns::Block;
 use block_workers::{Ends, Port, Seat};
 use std::alloc::{AllocError, Global};

@@ -1,0 +1,13 @@
+pub mod Pairs
+pub mod Pushing
+pub mod Joining
+pub mod Keeping
+pub mod Scanning
+pub mod Seeing
+pub mod Leaving
+pub mod Moving
+pub mod Draining
+pub mod Pairing
+pub mod Taking
+pub mod Popping
+pub mod Callers

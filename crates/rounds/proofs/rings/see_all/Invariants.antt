@@ -1,9 +1,0 @@
-use Rattle.std.proofs.Common.{◌≡◌, ℕ, ◌<◌, map, get_or}
-use Rattle.rounds.specs.Links.{Link, link, IsLinkSeen}
-use Rattle.rounds.proofs.rings.see_all.Given as goal
-
-abbrev pub invariant-loop-k : goal.invariant-loop-k
-invariant-loop-k l = record {
-  same : map (λ p. link p) l.pairs.items ≡ map (λ p. link p) l.initial.pairs.items;
-  seen : (i : ℕ) (d : Link) → i < l.k → IsLinkSeen (get_or (map (λ p. link p) l.initial.pairs.items) i d);
-}
