@@ -26,7 +26,7 @@ PARTS = [
     ("reading", ("pgm_image", "byte_streams", "problem_files", "toml", "command_line", "clap")),
     ("pairs", ("label_field", "grouping")),
     ("costs", ("cost_store", "vision", "run_options", "labellings", "rayon")),
-    ("deciding", ("deciding", "stages", "closing_in")),
+    ("deciding", ("move_rises", "deciding", "stages", "closing_in")),
     ("building", ("move_energy", "strips", "pseudo_bool", "regular", "compile_cut", "sums")),
     ("cutting", ("plain_cut", "solvers", "sink_distances", "flow_network", "side_tests")),
     (

@@ -4,7 +4,8 @@ use Rattle.std.proofs.lemmas.Int.{ints}
 use Rattle.move_energy.specs.declared.choice.Choice.{Choice}
 use Rattle.move_energy.specs.declared.choice.Choice.TheVariants.{Open, Zero, One}
 use Rattle.move_energy.specs.Choices.{bit_of, is_open}
-use Rattle.deciding.specs.Decisions.{Decision, AreForced, IsSubmodular, IsOver, IsSmallestLeast}
+use Rattle.move_rises.specs.Assignments.{IsSubmodular, IsOver}
+use Rattle.deciding.specs.Decisions.{Decision, AreForced, IsSmallestLeast}
 use Rattle.deciding.proofs.Putting.{forced_least}
 use Rattle.closing_in.specs.Fixing.{with_choices, fixed_value, HasZeros, HasOnes}
 use Rattle.closing_in.specs.Agreeing.{Agree, IsAgreed, AreOpened, AreOfDecisions, or_else, choices_or}

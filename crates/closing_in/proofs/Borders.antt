@@ -19,14 +19,16 @@ use Rattle.move_energy.specs.Choices.{bit_of, choice_at, is_open}
 use Rattle.move_energy.specs.BySite.{AreNeighboursOf, degree, pair_of}
 use Rattle.move_energy.proofs.Beside.{site_sum}
 use Rattle.move_energy.specs.Weights.{weight_at, pair_surplus, AreWeights}
-use Rattle.deciding.specs.Decisions.{set_bit, rise, IsSmallestLeast}
-use Rattle.deciding.specs.MoveValues.{move_value, data_rise, pair_rise}
+use Rattle.move_rises.specs.Assignments.{set_bit, rise}
+use Rattle.deciding.specs.Decisions.{IsSmallestLeast}
+use Rattle.move_rises.specs.MoveValues.{move_value, data_rise, pair_rise}
 use Rattle.deciding.specs.Decided.{AreDecided}
 use Rattle.deciding.specs.Working.{TellsValue, ArePartlyDecided}
 use Rattle.deciding.specs.declared.bounds.Bounds.{Bounds}
-use Rattle.deciding.proofs.Putting.{set_at, set_other, set_same, value_same, passed_forced}
-use Rattle.deciding.proofs.Rises.{move_falls, move_over, rise_over, rise_parts, pair_rise-first, pair_rise-second, pair_rise-none}
-use Rattle.deciding.proofs.SiteSums.{test_true, test_false}
+use Rattle.move_rises.proofs.Assignments.{set_at, set_other, set_same, value_same}
+use Rattle.deciding.proofs.Putting.{passed_forced}
+use Rattle.move_rises.proofs.Rising.{move_falls, move_over, rise_over, rise_parts, pair_rise-first, pair_rise-second, pair_rise-none}
+use Rattle.move_rises.proofs.SiteSums.{test_true, test_false}
 use Rattle.closing_in.specs.Fixing.{with_choices, fixed_value}
 use Rattle.closing_in.specs.Agreeing.{Agree, TellsOne, or_else, choices_or}
 use Rattle.closing_in.specs.Strips.{Strip, others_at, lower_value, upper_value, with_batches, AreBatches}

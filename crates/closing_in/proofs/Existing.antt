@@ -6,8 +6,9 @@ use Rattle.std.proofs.lemmas.Bool.Decides.{nat_tests}
 use Rattle.move_energy.specs.declared.choice.Choice.{Choice}
 use Rattle.move_energy.specs.declared.choice.Choice.TheVariants.{Open}
 use Rattle.move_energy.specs.Choices.{bit_of, choice_of}
-use Rattle.deciding.specs.Decisions.{IsSubmodular, IsOver, IsSmallestLeast}
-use Rattle.deciding.proofs.Putting.{value_same}
+use Rattle.move_rises.specs.Assignments.{IsSubmodular, IsOver}
+use Rattle.deciding.specs.Decisions.{IsSmallestLeast}
+use Rattle.move_rises.proofs.Assignments.{value_same}
 use Rattle.closing_in.specs.Fixing.{with_choices}
 use Rattle.closing_in.proofs.Lattice.{both, either, both_second, both_and_either}
 use Rattle.closing_in.proofs.Fixing.{fixed_falls}

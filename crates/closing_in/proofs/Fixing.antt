@@ -5,8 +5,9 @@ use Rattle.std.proofs.lemmas.Bool.{cases_eq}
 use Rattle.move_energy.specs.declared.choice.Choice.{Choice}
 use Rattle.move_energy.specs.declared.choice.Choice.TheVariants.{Open, Zero, One}
 use Rattle.move_energy.specs.Choices.{bit_of}
-use Rattle.deciding.specs.Decisions.{set_bit, rise, OnesWithin, IsSubmodular, IsOver, IsSmallestLeast}
-use Rattle.deciding.proofs.Putting.{set_at, set_other, value_same}
+use Rattle.move_rises.specs.Assignments.{set_bit, rise, OnesWithin, IsSubmodular, IsOver}
+use Rattle.deciding.specs.Decisions.{IsSmallestLeast}
+use Rattle.move_rises.proofs.Assignments.{set_at, set_other, value_same}
 use Rattle.closing_in.specs.Fixing.{with_choices, fixed_value, IsLeast, HasZeros, HasOnes, OnesLieWithin}
 use Rattle.closing_in.proofs.Lattice.{both, either, both_second, both_and_either}
 

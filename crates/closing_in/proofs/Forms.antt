@@ -17,7 +17,7 @@ use Rattle.move_energy.specs.declared.choice.Choice.{Choice}
 use Rattle.move_energy.specs.declared.choice.Choice.TheVariants.{Open, Zero, One}
 use Rattle.move_energy.specs.Choices.{bit_of, is_open, made_by, StandsFor}
 use Rattle.deciding.specs.Decisions.{IsSmallestLeast}
-use Rattle.deciding.specs.MoveValues.{move_value}
+use Rattle.move_rises.specs.MoveValues.{move_value}
 use Rattle.closing_in.specs.Fixing.{with_choices, fixed_value, IsLeast}
 use Rattle.closing_in.specs.Agreeing.{or_else}
 use Rattle.closing_in.specs.Strips.{others_at, lower_value, upper_value}

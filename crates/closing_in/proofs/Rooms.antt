@@ -13,7 +13,7 @@ use Rattle.labellings.specs.Moves.{IsRegularPair, IsAllowed}
 use Rattle.move_energy.specs.BySite.{AreBySite, degree, pair_of}
 use Rattle.move_energy.specs.declared.choice.Choice.{Choice}
 use Rattle.move_energy.proofs.Parts.{pair_has}
-use Rattle.deciding.proofs.Places.{meant_pairs, meant_beside}
+use Rattle.move_rises.proofs.Places.{meant_pairs, meant_beside}
 use Rattle.closing_in.specs.Borders.{pair_border, border_at}
 use Rattle.closing_in.proofs.Borders.{border_by_site}
 

@@ -7,9 +7,10 @@ use Rattle.std.proofs.lemmas.List.Elements.{All-head, All-tail}
 use Rattle.move_energy.specs.declared.choice.Choice.{Choice}
 use Rattle.move_energy.specs.declared.choice.Choice.TheVariants.{Open, Zero, One}
 use Rattle.move_energy.specs.Choices.{bit_of, choice_of}
-use Rattle.deciding.specs.Decisions.{set_bit, rise, IsSubmodular, IsOver, IsSmallestLeast}
-use Rattle.deciding.proofs.Putting.{set_at, set_other, value_same}
-use Rattle.deciding.proofs.SiteSums.{test_true, test_false}
+use Rattle.move_rises.specs.Assignments.{set_bit, rise, IsSubmodular, IsOver}
+use Rattle.deciding.specs.Decisions.{IsSmallestLeast}
+use Rattle.move_rises.proofs.Assignments.{set_at, set_other, value_same}
+use Rattle.move_rises.proofs.SiteSums.{test_true, test_false}
 use Rattle.closing_in.specs.Fixing.{with_choices, fixed_value, IsLeast, AreLeastZeros}
 use Rattle.closing_in.specs.Agreeing.{Agree, IsAgreed, ChooseMore, TellsOne, with_one, or_else, choices_or}
 use Rattle.closing_in.specs.Strips.{Strip, others_at, lower_value, upper_value, IsStripBounded, choice_of_bounds, told_by, with_strips, with_batches, AreBatches}

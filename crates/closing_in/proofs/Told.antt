@@ -9,8 +9,8 @@ use Rattle.std.proofs.lemmas.Grind.{get_or_default_zero}
 use Rattle.move_energy.specs.declared.choice.Choice.{Choice}
 use Rattle.move_energy.specs.declared.choice.Choice.TheVariants.{Open, Zero, One}
 use Rattle.move_energy.specs.Choices.{choice_at}
-use Rattle.deciding.specs.Decisions.{IsSubmodular, IsOver}
-use Rattle.deciding.proofs.SiteSums.{test_true, test_false}
+use Rattle.move_rises.specs.Assignments.{IsSubmodular, IsOver}
+use Rattle.move_rises.proofs.SiteSums.{test_true, test_false}
 use Rattle.closing_in.specs.Agreeing.{Agree, ChooseMore, or_else, choices_or}
 use Rattle.closing_in.specs.Strips.{Strip, IsStripBounded, choice_of_bounds, told_by}
 use Rattle.closing_in.specs.Telling.{IsStripListed}

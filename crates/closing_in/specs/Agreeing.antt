@@ -5,7 +5,8 @@ use Rattle.std.specs.Prelude.{◌<ℤ◌}
 use Rattle.move_energy.specs.declared.choice.Choice.{Choice}
 use Rattle.move_energy.specs.declared.choice.Choice.TheVariants.{Open, Zero, One}
 use Rattle.move_energy.specs.Choices.{bit_of, choice_of}
-use Rattle.deciding.specs.Decisions.{Decision, with_decisions, rise}
+use Rattle.move_rises.specs.Assignments.{rise}
+use Rattle.deciding.specs.Decisions.{Decision, with_decisions}
 use Rattle.closing_in.specs.Fixing.{with_choices, AreLeastZeros, AreLeastOnes}
 
 -- the choices agree with the least assignment with the fewest ones

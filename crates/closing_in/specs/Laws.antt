@@ -14,9 +14,10 @@ use Rattle.move_energy.specs.declared.choice.Choice.TheVariants.{Open, Zero, One
 use Rattle.move_energy.specs.Choices.{choice_at, StandsFor}
 use Rattle.move_energy.specs.BySite.{AreNeighboursOf, degree, pair_of}
 use Rattle.move_energy.specs.Weights.{weight_at, AreWeights}
-use Rattle.deciding.specs.Decisions.{Decision, AreForced, rise, IsSubmodular, IsOver}
+use Rattle.move_rises.specs.Assignments.{rise, IsSubmodular, IsOver}
+use Rattle.deciding.specs.Decisions.{Decision, AreForced}
 use Rattle.deciding.specs.Decisions.{IsSmallestLeast}
-use Rattle.deciding.specs.MoveValues.{move_value}
+use Rattle.move_rises.specs.MoveValues.{move_value}
 use Rattle.deciding.specs.Decided.{AreDecided}
 use Rattle.deciding.specs.Working.{TellsValue, ArePartlyDecided}
 use Rattle.deciding.specs.declared.bounds.Bounds.{Bounds}

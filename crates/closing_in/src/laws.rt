@@ -5,7 +5,8 @@
 ghost use Rattle.std.specs.Prelude.{ℕ, Bool, List, ℤ};
 ghost use Rattle.move_energy.specs.declared.choice.Choice.{Choice};
 ghost use Rattle.move_energy.specs.declared.choice.Choice.TheVariants.{Open};
-ghost use Rattle.deciding.specs.Decisions.{IsSubmodular, IsOver, IsSmallestLeast};
+ghost use Rattle.move_rises.specs.Assignments.{IsSubmodular, IsOver};
+ghost use Rattle.deciding.specs.Decisions.{IsSmallestLeast};
 ghost use Rattle.closing_in.specs.Fixing.{fixed_value};
 ghost use Rattle.closing_in.specs.Agreeing.{Agree, AreOpened};
 ghost use Rattle.closing_in.specs.Strips.{Strip, with_batches, AreBatches};

@@ -3,7 +3,7 @@ ghost use Rattle.std.specs.Prelude.{◌≡◌, ◌<◌, ◌≤◌, ℕ, ℤ, Boo
 ghost use Rattle.std.specs.List.{All};
 ghost use Rattle.move_energy.specs.Choices.{choice_at};
 ghost use Rattle.move_energy.specs.declared.choice.Choice.{Choice as AnyChoice};
-ghost use Rattle.deciding.specs.Decisions.{IsSubmodular, IsOver};
+ghost use Rattle.move_rises.specs.Assignments.{IsSubmodular, IsOver};
 ghost use Rattle.closing_in.specs.Agreeing.{Agree, ChooseMore, or_else as else_of, choices_or};
 ghost use Rattle.closing_in.specs.Strips.{Strip, IsStripBounded, choice_of_bounds, told_by};
 ghost use Rattle.closing_in.specs.Telling.{IsStripListed};

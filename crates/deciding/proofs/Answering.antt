@@ -14,11 +14,13 @@ use Rattle.move_energy.specs.declared.choice.Choice.TheVariants.{Open}
 use Rattle.move_energy.specs.Choices.{bit_of, choice_at}
 use Rattle.move_energy.proofs.PairEnds.{Touches, touching_found}
 use Rattle.deciding.specs.declared.bounds.Bounds.{Bounds}
-use Rattle.deciding.specs.Decisions.{set_bit, with_decisions, rise}
-use Rattle.deciding.specs.MoveValues.{move_value, data_rise, pair_rise}
-use Rattle.deciding.specs.Working.{AvoidsSite, HasNoneBefore, bound_at, open_ends, IsSummed, IsMarked, IsAnswered, TellsValue, AreWaiting, AreWaitingBut, ArePartlyDecided}
-use Rattle.deciding.proofs.Putting.{set_at, set_other}
-use Rattle.deciding.proofs.Rises.{pair_rise-none}
+use Rattle.move_rises.specs.Assignments.{set_bit, rise}
+use Rattle.deciding.specs.Decisions.{with_decisions}
+use Rattle.move_rises.specs.MoveValues.{move_value, data_rise, pair_rise}
+use Rattle.move_rises.specs.Ends.{AvoidsSite, HasNoneBefore}
+use Rattle.deciding.specs.Working.{bound_at, open_ends, IsSummed, IsMarked, IsAnswered, TellsValue, AreWaiting, AreWaitingBut, ArePartlyDecided}
+use Rattle.move_rises.proofs.Assignments.{set_at, set_other}
+use Rattle.move_rises.proofs.Rising.{pair_rise-none}
 use Rattle.deciding.proofs.Seeing.{pair_rise-same}
 use Rattle.deciding.proofs.Spreading.{pair_in, rise_by_places, passes_of}
 use Rattle.deciding.proofs.Left.{left_less}

@@ -8,7 +8,7 @@ use Rattle.label_field.specs.declared.pair.Pair.{Pair}
 use Rattle.label_field.specs.PairLists.{IsPair}
 use Rattle.move_energy.specs.declared.by_site.Neighbours.{Neighbours}
 use Rattle.move_energy.specs.BySite.{pair_from, pair_beside, is_first, neighbour_at, weight_at}
-use Rattle.deciding.specs.declared.table.RiseTable.{RiseTable}
+use Rattle.move_rises.specs.declared.table.RiseTable.{RiseTable}
 use Rattle.deciding.specs.Parts.{own_at}
 
 pub own_is : (z : ℤ) → unsigned_abs z ≤ 10000000 → to_z w32 (of_z w32 z) ≡ z

@@ -9,9 +9,10 @@ use Rattle.labellings.specs.Moves.{label_after, labelling_made, pair_entry, IsRe
 use Rattle.move_energy.specs.declared.choice.Choice.{Choice}
 use Rattle.move_energy.specs.declared.choice.Choice.TheVariants.{Open, Zero, One}
 use Rattle.move_energy.specs.Choices.{bit_of, choice_at, AreAllOpen}
-use Rattle.deciding.specs.Decisions.{Decision, set_bit, with_decisions, Passes, HavePassed}
-use Rattle.deciding.specs.MoveValues.{move_value}
-use Rattle.deciding.proofs.Putting.{set_at, set_other}
+use Rattle.move_rises.specs.Assignments.{set_bit}
+use Rattle.deciding.specs.Decisions.{Decision, with_decisions, Passes, HavePassed}
+use Rattle.move_rises.specs.MoveValues.{move_value}
+use Rattle.move_rises.proofs.Assignments.{set_at, set_other}
 
 -- both values of the site's variable make one label
 abbrev pub IsFixed : Move → ℕ → Type 0

@@ -8,12 +8,13 @@ use Rattle.labellings.specs.Moves.{IsAllowed}
 use Rattle.move_energy.specs.declared.choice.Choice.{Choice}
 use Rattle.move_energy.specs.declared.choice.Choice.TheVariants.{Open, Zero, One}
 use Rattle.move_energy.specs.Choices.{bit_of, choice_at}
-use Rattle.deciding.specs.Decisions.{with_decisions, rise, Passes}
-use Rattle.deciding.specs.MoveValues.{move_value}
-use Rattle.deciding.specs.Working.{decided_or}
+use Rattle.move_rises.specs.Assignments.{rise}
+use Rattle.deciding.specs.Decisions.{with_decisions, Passes}
+use Rattle.move_rises.specs.MoveValues.{move_value}
+use Rattle.move_rises.specs.Ends.{decided_or}
 use Rattle.deciding.specs.Parts.{ArePassedChoices}
-use Rattle.deciding.proofs.Putting.{set_at, set_other}
-use Rattle.deciding.proofs.Rises.{rise_over, move_falls}
+use Rattle.move_rises.proofs.Assignments.{set_at, set_other}
+use Rattle.move_rises.proofs.Rising.{rise_over, move_falls}
 
 -- ---- choices
 

@@ -46,12 +46,6 @@ left_most pairs ends choices by_site =
     let most = starts_within pairs ends pairs.sites by_site (omega arith) in
     omega (arith, below, all, most, ends_len pairs.list)
 
--- and of one site
-pub degree_most : (pairs : PairList) (ends : Neighbours) (site : ℕ) → AreBySite pairs ends → site < pairs.sites → degree ends site ≤ 2 * length pairs.list
-degree_most pairs ends site by_site l =
-    let most = starts_within pairs ends (site + 1) by_site (omega (arith, l)) in
-    omega (arith, most, ends_len pairs.list)
-
 climbs : (pairs : PairList) (ends : Neighbours) (v k : ℕ) → AreBySite pairs ends → v + k ≤ pairs.sites → neighbours_start ends v ≤ neighbours_start ends (v + k)
 climbs pairs ends v zero b l =
     let same : v + zero ≡ v = omega arith in

@@ -1,13 +1,11 @@
 -- The places of a site's part, as the loop over them reads them.
-use Rattle.std.proofs.Common.{◌≡◌, ◌≢◌, ℕ, ◌+◌, ◌-◌, ◌*◌, ◌<◌, ◌≤◌, Bool, List, All, Some, Contains, Result, Ok, Err, OnOk, [], ◌∷◌, ◌++◌, unsigned_abs, sym, ap, ◌∙◌, inl, inr, subst, arith}
+use Rattle.std.proofs.Common.{◌≡◌, ◌≢◌, ℕ, ◌+◌, ◌-◌, ◌*◌, ◌<◌, ◌≤◌, Bool, List, Some, Contains, Result, Ok, Err, OnOk, [], ◌∷◌, ◌++◌, unsigned_abs, sym, ap, ◌∙◌, inl, inr, subst, arith}
 use Rattle.std.proofs.lemmas.List.Elements.{All-pop, Contains-push_cases}
 use Rattle.move_energy.specs.declared.by_site.Neighbours.{Neighbours}
-use Rattle.grouping.specs.Grouping.{IsGrouped}
-use Rattle.label_field.specs.declared.pair.Pair.{Pair}
-use Rattle.label_field.specs.PairLists.{IsPair, PairList, IsPairList}
-use Rattle.move_energy.specs.BySite.{pair_ends, neighbours_start, grouped_at, AreBySite, AreNeighboursOf}
+use Rattle.label_field.specs.PairLists.{PairList, IsPairList}
+use Rattle.move_energy.specs.BySite.{neighbours_start, AreBySite}
 use Rattle.labellings.specs.declared.change.Move.{Move}
-use Rattle.labellings.specs.Energies.{Instance, IsInstance}
+use Rattle.labellings.specs.Energies.{Instance}
 use Rattle.move_energy.specs.declared.choice.Choice.{Choice}
 use Rattle.move_energy.specs.declared.choice.Choice.TheVariants.{Open}
 use Rattle.move_energy.specs.Choices.{bit_of, choice_at}
@@ -15,25 +13,7 @@ use Rattle.deciding.specs.declared.bounds.Bounds.{Bounds}
 use Rattle.deciding.specs.Decisions.{with_decisions}
 use Rattle.deciding.specs.Working.{bound_at, budget_of, IsWithinRange, IsLooking, IsMarked, AreWaiting, AreWaitingBut, ArePartlyDecided, CanDecide}
 use Rattle.deciding.proofs.Ranges.{range_wider, below_not, tells_same}
-use Rattle.deciding.proofs.Left.{degree_most}
-
-pub meant_pairs : (m : Instance) (pairs : PairList) → m.pairs ≡ pairs.list → m.sites ≡ pairs.sites → IsPairList pairs → IsInstance m
-meant_pairs m pairs same sites list =
-    let P : ℕ → Type 0 = λ n. All (IsPair n) pairs.list in
-    let Q : List Pair → Type 0 = λ ps. All (IsPair m.sites) ps in
-    subst Q (sym same) (subst P (sym sites) list.each)
-
-pub meant_grouped : (m : Instance) (pairs : PairList) (ends : Neighbours) → m.pairs ≡ pairs.list → m.sites ≡ pairs.sites → (b : AreBySite pairs ends) → IsGrouped m.sites (pair_ends m.pairs) (grouped_at ends b.places)
-meant_grouped m pairs ends same sites b =
-    let P : ℕ → Type 0 = λ n. IsGrouped n (pair_ends pairs.list) (grouped_at ends b.places) in
-    let Q : List Pair → Type 0 = λ ps. IsGrouped m.sites (pair_ends ps) (grouped_at ends b.places) in
-    subst Q (sym same) (subst P (sym sites) b.grouped)
-
-pub meant_beside : (m : Instance) (pairs : PairList) (ends : Neighbours) → m.pairs ≡ pairs.list → m.sites ≡ pairs.sites → AreBySite pairs ends → AreNeighboursOf m ends
-meant_beside m pairs ends same sites by_site =
-    let P : ℕ → Type 0 = λ n. AreBySite (record { sites = n; list = pairs.list }) ends in
-    let Q : List Pair → Type 0 = λ ps. AreBySite (record { sites = m.sites; list = ps }) ends in
-    subst Q (sym same) (subst P (sym sites) by_site)
+use Rattle.move_rises.proofs.Places.{degree_most}
 
 -- the range while places are looked at
 pub range_step : (start place : ℕ) (first old new : Bounds) → start ≤ place → IsLooking 1 old new

@@ -1,24 +1,10 @@
 -- Forced variables.
-use Rattle.std.proofs.Common.{◌≡◌, ◌≢◌, ◌⊎◌, ℕ, ◌<◌, Bool, true, false, List, [], ◌∷◌, ℤ, pos, ◌-ℤ◌, ◌≤ℤ◌, ◌<ℤ◌, refl, sym, ap, ◌∙◌, inl, inr, subst, arith}
+use Rattle.std.proofs.Common.{◌≡◌, ◌⊎◌, ℕ, ◌<◌, Bool, true, false, List, [], ◌∷◌, ℤ, pos, ◌-ℤ◌, ◌≤ℤ◌, ◌<ℤ◌, refl, sym, ap, ◌∙◌, inl, inr, subst, arith}
 use Rattle.std.proofs.lemmas.Int.{ints}
 use Rattle.std.proofs.lemmas.Bool.{cases_eq, cases_Bool}
-use Rattle.std.proofs.lemmas.Bool.Decides.{nat_tests}
-use Rattle.deciding.specs.Decisions.{Decision, set_bit, with_decisions, OnesWithin, IsSubmodular, Passes, HavePassed, IsForced, AreForced, IsSmallestLeast}
-
-pub set_at : (x : ℕ → Bool) (i k : ℕ) (b : Bool) → k ≡ i → set_bit x i b k ≡ b
-set_at x i k b h = grind (arith, nat_tests)
-
-pub set_other : (x : ℕ → Bool) (i k : ℕ) (b : Bool) → k ≢ i → set_bit x i b k ≡ x k
-set_other x i k b h = grind (arith, nat_tests)
-
-pub set_same : (x : ℕ → Bool) (i : ℕ) (b : Bool) → x i ≡ b → (k : ℕ) → set_bit x i b k ≡ x k
-set_same x i b h k = elim (cases_eq k i) [
-  | inl same ↦ set_at x i k b same ∙ sym h ∙ ap x (sym same)
-  | inr other ↦ set_other x i k b other
-]
-
-pub value_same : (E : (ℕ → Bool) → ℤ) (x y : ℕ → Bool) → ((k : ℕ) → x k ≡ y k) → E x ≡ E y
-value_same E x y h = ap E (λ j k. h k j)
+use Rattle.move_rises.specs.Assignments.{set_bit, OnesWithin, IsSubmodular}
+use Rattle.move_rises.proofs.Assignments.{set_at, set_other, set_same, value_same}
+use Rattle.deciding.specs.Decisions.{Decision, with_decisions, Passes, HavePassed, IsForced, AreForced, IsSmallestLeast}
 
 le_of : (y z : ℤ) → y ≡ z → y ≤ℤ z
 le_of y z h = omega (arith, ints, h)

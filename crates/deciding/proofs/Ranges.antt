@@ -1,5 +1,5 @@
 -- Bounds that are written, their range, and the sites that wait.
-use Rattle.std.proofs.Common.{◌≡◌, ◌≢◌, ℕ, ◌+◌, ◌*◌, ◌<◌, ◌≤◌, Bool, List, [], ◌∷◌, ◌++◌, length, get_or, All, Contains, ℤ, pos, ◌+ℤ◌, ◌≤ℤ◌, ◌<ℤ◌, unsigned_abs, refl, sym, ap, ◌∙◌, inl, inr, subst, arith}
+use Rattle.std.proofs.Common.{◌≡◌, ◌≢◌, ℕ, ◌+◌, ◌*◌, ◌<◌, ◌≤◌, Bool, List, [], ◌∷◌, ◌++◌, length, get_or, All, Contains, ℤ, pos, ◌+ℤ◌, ◌≤ℤ◌, ◌<ℤ◌, unsigned_abs, w64, to_z, of_z, refl, sym, ap, ◌∙◌, inl, inr, subst, arith}
 use Rattle.std.specs.Prelude.{slice_set}
 use Rattle.std.specs.List.{sum_by}
 use Rattle.std.proofs.lemmas.List.Sums.{sum_by-set, sum_by_push}
@@ -10,7 +10,8 @@ use Rattle.sums.proofs.IntegerSumLemmas.{abs-add}
 use Rattle.move_energy.specs.declared.choice.Choice.TheVariants.{Open}
 use Rattle.move_energy.specs.Choices.{choice_at}
 use Rattle.deciding.specs.declared.bounds.Bounds.{Bounds}
-use Rattle.deciding.specs.Working.{bound_at, CanDecide, IsSummed, IsWithinRange, AddsBounds, AreWaiting, AreWaitingBut, Shifts, least_shift, greatest_shift, CallsUp, IsMarked, IsLooking, greatest_total}
+use Rattle.move_rises.proofs.SiteSums.{sum_passed}
+use Rattle.deciding.specs.Working.{bound_at, budget_of, CanDecide, IsSummed, IsWithinRange, AddsBounds, AreWaiting, AreWaitingBut, Shifts, least_shift, greatest_shift, CallsUp, IsMarked, IsLooking, greatest_total}
 
 -- ---- written bounds
 
@@ -303,3 +304,7 @@ shifts_same site value surplus old mid new ls gs shifts = record {
   greatest = ap (λ (v : _). bound_at v.items site) gs ∙ shifts.greatest;
   others = λ u other. (ap (λ (v : _). bound_at v.items u) ls ∙ (shifts.others u other).0, ap (λ (v : _). bound_at v.items u) gs ∙ (shifts.others u other).1);
 }
+
+-- the bounds of a site that was summed have room
+pub sum_room : (z : ℤ) (k n : ℕ) → unsigned_abs z ≤ 10000000 + 10000000 * k → k ≤ 8388608 → n ≤ 8388608 → unsigned_abs (to_z w64 (of_z w64 z)) ≤ budget_of n
+sum_room z k n within few left = (let e = ap unsigned_abs (sum_passed z k within few) in omega (arith, e, within, few, left))

@@ -1,7 +1,8 @@
 -- What is left, and the whole.
 use Rattle.std.proofs.Common.{◌≡◌, ℕ, ◌<◌, Bool, List, ℤ, ◌+ℤ◌, ◌≤ℤ◌, sym, ap, ◌∙◌, inl, inr, arith}
 use Rattle.std.proofs.lemmas.Int.{ints}
-use Rattle.deciding.specs.Decisions.{Decision, with_decisions, AreForced, IsOver, IsSmallestLeast, IsRest}
+use Rattle.move_rises.specs.Assignments.{IsOver}
+use Rattle.deciding.specs.Decisions.{Decision, with_decisions, AreForced, IsSmallestLeast, IsRest}
 use Rattle.deciding.proofs.Putting.{put-le, put_ones, cases_put}
 
 -- an assignment of what is left, put together with the decisions, is what the decisions make of the

@@ -1,21 +1,21 @@
 -- What a pair's rise is, seen with the value of one of its ends.
-use Rattle.std.proofs.Common.{◌≡◌, ◌≢◌, ℕ, ◌<◌, Bool, true, false, IsTrue, ◌↔◌, List, All, length, ℤ, pos, ◌+ℤ◌, ◌-ℤ◌, ◌≤ℤ◌, refl, sym, ap, ◌∙◌, inl, inr, subst, arith}
+use Rattle.std.proofs.Common.{◌≡◌, ◌≢◌, ℕ, ◌<◌, Bool, true, false, ℤ, pos, ◌+ℤ◌, ◌-ℤ◌, refl, sym, ap, ◌∙◌, inl, inr, arith}
 use Rattle.std.proofs.lemmas.Int.{ints}
 use Rattle.std.proofs.lemmas.Bool.{cases_eq}
 use Rattle.label_field.specs.declared.pair.Pair.{Pair}
 use Rattle.labellings.specs.declared.change.Move.{Move}
-use Rattle.label_field.specs.PairLists.{IsPair}
-use Rattle.labellings.specs.Energies.{Instance, labelling}
-use Rattle.labellings.specs.Moves.{pair_entry, IsRegularPair}
+use Rattle.labellings.specs.Energies.{Instance}
+use Rattle.labellings.specs.Moves.{pair_entry}
 use Rattle.move_energy.specs.declared.choice.Choice.TheVariants.{Open}
 use Rattle.move_energy.specs.Choices.{choice_at}
 use Rattle.deciding.specs.declared.bounds.Bounds.{Bounds}
-use Rattle.deciding.specs.Decisions.{set_bit}
-use Rattle.deciding.specs.MoveValues.{pair_rise}
+use Rattle.move_rises.specs.Assignments.{set_bit}
+use Rattle.move_rises.specs.MoveValues.{pair_rise}
 use Rattle.move_energy.specs.Weights.{surplus_of, pair_table}
-use Rattle.deciding.specs.Working.{bound_at, AreEnds, Shifts, SeesPair, least_shift, greatest_shift}
-use Rattle.deciding.proofs.Putting.{set_at}
-use Rattle.deciding.proofs.Rises.{pair_rise-first, pair_rise-second, pair_rise-none}
+use Rattle.move_rises.specs.Ends.{AreEnds}
+use Rattle.deciding.specs.Working.{bound_at, Shifts, SeesPair, least_shift, greatest_shift}
+use Rattle.move_rises.proofs.Assignments.{set_at}
+use Rattle.move_rises.proofs.Rising.{pair_rise-first, pair_rise-second, pair_rise-none}
 
 -- ---- seen with a value
 
@@ -145,26 +145,3 @@ ends_apart pair site other (inr ends) unequal same = unequal (ends.0 ∙ sym sam
 pub other_inside : (pair : Pair) (site other n : ℕ) → AreEnds pair site other → pair.first < n → pair.second < n → other < n
 other_inside pair site other n (inl ends) first second = omega (arith, ends.1, second)
 other_inside pair site other n (inr ends) first second = omega (arith, ends.0, first)
-
--- ---- regular terms
-
-pub regular_term : (m : Instance) (move : Move) (f : ℕ → ℕ) (pair : Pair) → pos 0 ≤ℤ surplus_of (pair_table m move f pair) → IsRegularPair m move f pair
-regular_term m move f pair h = omega (arith, ints, h)
-
-pub regular_surplus : (m : Instance) (move : Move) (f : ℕ → ℕ) (pair : Pair) → IsRegularPair m move f pair → pos 0 ≤ℤ surplus_of (pair_table m move f pair)
-regular_surplus m move f pair h = omega (arith, ints, h)
-
--- the ends of a pair have labels of the problem
-pub labels_below : (k : ℕ) (at : List ℕ) (sites : ℕ) (pair : Pair) → length at ≡ sites → All (λ label. label < k) at → IsPair sites pair
-    → (labelling at pair.first < k) × (labelling at pair.second < k)
-labels_below k at sites pair same below is =
-    (below pair.first 0 (omega (arith, same, is.first)), below pair.second 0 (omega (arith, same, is.second)))
-
--- whether a term is regular, told by the surplus of its table
-pub told_regular : (m : Instance) (told : Bool) (table : List ℤ) (move : Move) (f : ℕ → ℕ) (pair : Pair) → table ≡ pair_table m move f pair → (IsTrue told ↔ (pos 0 ≤ℤ surplus_of table))
-    → IsTrue told ↔ IsRegularPair m move f pair
-told_regular m told table move f pair is tells =
-    let S : List ℤ → Type 0 = λ t. pos 0 ≤ℤ surplus_of t in (
-      (λ yes. regular_term m move f pair (subst S is (tells.0 yes))),
-      λ regular. tells.1 (subst S (sym is) (regular_surplus m move f pair regular)),
-    )

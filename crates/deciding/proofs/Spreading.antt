@@ -17,11 +17,12 @@ use Rattle.move_energy.specs.declared.choice.Choice.{Choice}
 use Rattle.move_energy.specs.declared.choice.Choice.TheVariants.{Open}
 use Rattle.move_energy.specs.Choices.{bit_of, choice_at}
 use Rattle.deciding.specs.declared.bounds.Bounds.{Bounds}
-use Rattle.deciding.specs.Decisions.{Decision, set_bit, with_decisions, rise, Passes}
-use Rattle.deciding.specs.MoveValues.{move_value, data_rise, pair_rise}
+use Rattle.move_rises.specs.Assignments.{set_bit, rise}
+use Rattle.deciding.specs.Decisions.{Decision, with_decisions, Passes}
+use Rattle.move_rises.specs.MoveValues.{move_value, data_rise, pair_rise}
 use Rattle.deciding.specs.Working.{bound_at, TellsValue, IsMarked, ArePartlyDecided, SeesPair}
-use Rattle.deciding.proofs.Putting.{set_at, set_other}
-use Rattle.deciding.proofs.Rises.{rise_parts}
+use Rattle.move_rises.proofs.Assignments.{set_at, set_other}
+use Rattle.move_rises.proofs.Rising.{rise_parts}
 use Rattle.deciding.proofs.Seeing.{pair_rise-same}
 use Rattle.move_energy.proofs.PairEnds.{Touches, end_touches, touching_found, apart_pairs}
 

@@ -10,9 +10,9 @@ use Rattle.labellings.specs.Energies.{Instance, IsInstance}
 use Rattle.move_energy.specs.declared.choice.Choice.{Choice}
 use Rattle.move_energy.specs.declared.choice.Choice.TheVariants.{Open, Zero, One}
 use Rattle.move_energy.specs.Choices.{bit_of, choice_at}
-use Rattle.deciding.specs.Decisions.{rise}
-use Rattle.deciding.specs.MoveValues.{move_value}
-use Rattle.deciding.specs.Working.{decided_or}
+use Rattle.move_rises.specs.Assignments.{rise}
+use Rattle.move_rises.specs.MoveValues.{move_value}
+use Rattle.move_rises.specs.Ends.{decided_or}
 use Rattle.deciding.specs.Parts.{ArePassedChoices}
 use Rattle.deciding.proofs.Joining.{choices_same, choices_more, passes_low, passes_high}
 

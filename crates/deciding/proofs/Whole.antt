@@ -7,14 +7,16 @@ use Rattle.move_energy.specs.declared.choice.Choice.TheVariants.{Open}
 use Rattle.move_energy.specs.Weights.{AreWeights}
 use Rattle.std.proofs.lemmas.Bool.{cases_eq}
 use Rattle.move_energy.specs.Choices.{bit_of, choice_at}
-use Rattle.deciding.proofs.Putting.{set_at, set_other}
-use Rattle.deciding.proofs.SiteSums.{test_true, test_false}
-use Rattle.deciding.proofs.Rises.{rise_over, move_over}
+use Rattle.move_rises.proofs.Assignments.{set_at, set_other}
+use Rattle.move_rises.proofs.SiteSums.{test_true, test_false}
+use Rattle.move_rises.proofs.Rising.{rise_over, move_over}
 use Rattle.deciding.proofs.Ranges.{AreAdded, least_before, least_at}
 use Rattle.deciding.specs.declared.bounds.Bounds.{Bounds}
-use Rattle.deciding.specs.Decisions.{set_bit, with_decisions, rise, Passes}
-use Rattle.deciding.specs.MoveValues.{move_value}
-use Rattle.deciding.specs.Working.{bound_at, decided_or, CanDecide, AreUndecided, AreUnsummed, ArePartlyDecided}
+use Rattle.move_rises.specs.Assignments.{set_bit, rise}
+use Rattle.deciding.specs.Decisions.{with_decisions, Passes}
+use Rattle.move_rises.specs.MoveValues.{move_value}
+use Rattle.move_rises.specs.Ends.{decided_or}
+use Rattle.deciding.specs.Working.{bound_at, CanDecide, AreUndecided, AreUnsummed, ArePartlyDecided}
 use Rattle.deciding.specs.Parts.{ArePassedChoices, site_weight}
 use Rattle.deciding.specs.Decided.{AreDecided}
 use Rattle.deciding.proofs.Fixed.{fixed_site, shown_by, shown_put, shown_passed}

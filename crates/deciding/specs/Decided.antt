@@ -13,8 +13,8 @@ use Rattle.move_energy.specs.Problems.{IsPrepareRefusal}
 use Rattle.deciding.specs.declared.sites.Deciding.{Deciding}
 use Rattle.deciding.specs.Decisions.{Decision, with_decisions, Passes, HavePassed}
 use Rattle.deciding.specs.Listed.{AreListed}
-use Rattle.deciding.specs.MoveValues.{move_value}
-use Rattle.deciding.specs.Rising.{IsRiseTable}
+use Rattle.move_rises.specs.MoveValues.{move_value}
+use Rattle.move_rises.specs.Rising.{IsRiseTable}
 use Rattle.deciding.specs.Working.{AreOfSites}
 
 -- the sites were decided one after another, each by the test, and none that is open passes it

@@ -1,17 +1,14 @@
 -- Variables of a function of yes-no variables whose value in its least assignment with the fewest
 -- ones is known before the rest is looked at (Iyer, Jegelka, Bilmes, ICML 2013, section 4; Boros
 -- and Hammer 2002).
-use Rattle.std.specs.Prelude.{◌≡◌, ℕ, ◌<◌, ◌==◌, Bool, true, false, cond, List, [], ◌∷◌, ℤ, pos}
-use Rattle.std.specs.Prelude.{◌+ℤ◌, ◌-ℤ◌, ◌≤ℤ◌, ◌<ℤ◌}
+use Rattle.std.specs.Prelude.{◌≡◌, ℕ, ◌<◌, Bool, true, false, List, [], ◌∷◌, ℤ, pos}
+use Rattle.std.specs.Prelude.{◌+ℤ◌, ◌≤ℤ◌, ◌<ℤ◌}
+use Rattle.move_rises.specs.Assignments.{set_bit, rise}
 
 -- a variable and its value
 pub record Decision : Type 0 where
   pub variable : ℕ
   pub value : Bool
-
--- the assignment with one variable set
-abbrev pub set_bit : (ℕ → Bool) → ℕ → Bool → ℕ → Bool
-set_bit x i b k = cond (k == i) b (x k)
 
 -- the assignment with all decided variables set; the latest decision stands first
 abbrev pub with_decisions : List Decision → (ℕ → Bool) → ℕ → Bool
@@ -31,18 +28,6 @@ abbrev pub AreForced : ((ℕ → Bool) → ℤ) → List Decision → Type 0
 AreForced E [] = Unit {0}
 AreForced E (d ∷ ds) = AreForced E ds × IsForced E ds d.variable d.value
 
--- by how much the value rises where one variable turns from 0 to 1
-abbrev pub rise : ((ℕ → Bool) → ℤ) → ℕ → (ℕ → Bool) → ℤ
-rise E i x = E (set_bit x i true) -ℤ E (set_bit x i false)
-
--- the ones of the one assignment are ones of the other
-abbrev pub OnesWithin : (ℕ → Bool) → (ℕ → Bool) → Type 0
-OnesWithin x y = (k : ℕ) → x k ≡ true → y k ≡ true
-
--- the more of the others are 1, the less a variable's turning to 1 raises the value
-abbrev pub IsSubmodular : ((ℕ → Bool) → ℤ) → Type 0
-IsSubmodular E = (x y : ℕ → Bool) (i : ℕ) → OnesWithin x y → rise E i y ≤ℤ rise E i x
-
 -- the test: a variable may be 0 where its turning to 1 does not lower the value even if every
 -- undecided one is 1, and is to be 1 where it lowers the value even if every undecided one is 0
 abbrev pub Passes : ((ℕ → Bool) → ℤ) → List Decision → ℕ → Bool → Type 0
@@ -53,10 +38,6 @@ Passes E ds i true = rise E i (with_decisions ds (λ k. false)) <ℤ pos 0
 abbrev pub HavePassed : ((ℕ → Bool) → ℤ) → List Decision → Type 0
 HavePassed E [] = Unit {0}
 HavePassed E (d ∷ ds) = HavePassed E ds × Passes E ds d.variable d.value
-
--- the value depends on the first n variables alone
-abbrev pub IsOver : ℕ → ((ℕ → Bool) → ℤ) → Type 0
-IsOver n E = (x y : ℕ → Bool) → ((k : ℕ) → k < n → x k ≡ y k) → E x ≡ E y
 
 -- an assignment of least value, whose ones are ones of every assignment of that value
 pub record IsSmallestLeast (n : ℕ) (E : (ℕ → Bool) → ℤ) (x : ℕ → Bool) : Type 0 where

@@ -6,8 +6,9 @@ use Rattle.labellings.specs.Energies.{Instance, IsInstance}
 use Rattle.labellings.specs.Moves.{IsAllowed}
 use Rattle.deciding.specs.Decisions.{Decision, with_decisions, Passes, HavePassed, IsForced}
 use Rattle.deciding.specs.Decisions.{AreForced}
-use Rattle.deciding.specs.Decisions.{IsSubmodular, IsOver, IsSmallestLeast, IsRest}
-use Rattle.deciding.specs.MoveValues.{move_value}
+use Rattle.move_rises.specs.Assignments.{IsSubmodular, IsOver}
+use Rattle.deciding.specs.Decisions.{IsSmallestLeast, IsRest}
+use Rattle.move_rises.specs.MoveValues.{move_value}
 
 -- what passes the test is forced, in a function whose rises fall
 abbrev pub PassingIsForced : Type 0

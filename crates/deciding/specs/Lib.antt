@@ -1,9 +1,6 @@
 pub mod Limits
 pub mod Decisions
-pub mod MoveValues
 pub mod Working
-pub mod Rising
-pub mod Savings
 pub mod Finding
 pub mod Decided
 pub mod Listed

@@ -13,10 +13,10 @@ use Rattle.move_energy.specs.declared.choice.Choice.TheVariants.{Open}
 use Rattle.move_energy.specs.Choices.{bit_of, choice_at}
 use Rattle.move_energy.specs.Weights.{open_energy}
 use Rattle.deciding.specs.Decisions.{Decision, with_decisions, Passes, HavePassed}
-use Rattle.deciding.specs.MoveValues.{move_value, data_rise}
-use Rattle.deciding.specs.declared.move_to_find.RiseNumbers.{RiseNumbers}
+use Rattle.move_rises.specs.MoveValues.{move_value, data_rise}
+use Rattle.move_rises.specs.declared.move_to_find.RiseNumbers.{RiseNumbers}
 use Rattle.deciding.specs.declared.sites.Deciding.{Deciding}
-use Rattle.deciding.specs.Rising.{IsRiseTable, IsTableOf}
+use Rattle.move_rises.specs.Rising.{IsRiseTable, IsTableOf}
 
 -- the choices are those of decisions that each passed the test, given those before it
 pub record ArePassedChoices (m : Instance) (move : Move) (f : ℕ → ℕ)

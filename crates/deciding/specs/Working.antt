@@ -1,46 +1,23 @@
 -- What is kept while sites are decided.
 use Rattle.std.specs.Prelude.{◌≡◌, ◌≢◌, ◌⊎◌, ℕ, ◌+◌, ◌-◌, ◌*◌, ◌<◌, ◌≤◌, Bool, true, false, List}
 use Rattle.std.specs.Prelude.{[], ◌∷◌, ◌++◌, length, replicate, slice_index_or, slice_set}
-use Rattle.std.specs.Prelude.{unsigned_abs, ◌^◌, ℤ, pos, ◌+ℤ◌, ◌-ℤ◌, ◌≤ℤ◌, ◌<ℤ◌, Result, Ok, Err}
+use Rattle.std.specs.Prelude.{unsigned_abs, ◌^◌, ℤ, pos, ◌+ℤ◌, ◌-ℤ◌, ◌≤ℤ◌, ◌<ℤ◌}
 use Rattle.std.specs.List.{All, Contains, sum_by}
 use Rattle.sums.specs.Sums.{sum_below, count_if}
 use Rattle.move_energy.specs.declared.by_site.Neighbours.{Neighbours}
 use Rattle.label_field.specs.declared.pair.Pair.{Pair}
 use Rattle.labellings.specs.declared.change.Move.{Move}
 use Rattle.labellings.specs.Energies.{Instance}
-use Rattle.labellings.specs.Moves.{label_after, IsAllowed}
-use Rattle.move_energy.specs.declared.error.BuildError.{BuildError}
-use Rattle.move_energy.specs.Problems.{IsPrepareRefusal}
 use Rattle.move_energy.specs.declared.choice.Choice.{Choice}
 use Rattle.move_energy.specs.declared.choice.Choice.TheVariants.{Open}
-use Rattle.move_energy.specs.BySite.{degree, neighbours_start, pair_beside}
+use Rattle.move_energy.specs.BySite.{degree}
 use Rattle.move_energy.specs.Choices.{bit_of, choice_at, is_open, AreAllOpen}
 use Rattle.move_energy.specs.Limits.{surplus_limit}
-use Rattle.cost_store.specs.Limits.{site_cost_limit, pair_cost_limit}
+use Rattle.move_rises.specs.Assignments.{set_bit, rise}
+use Rattle.move_rises.specs.MoveValues.{move_value, pair_rise}
 use Rattle.deciding.specs.Limits.{bound_limit}
-use Rattle.deciding.specs.Decisions.{Decision, set_bit, with_decisions, rise, HavePassed}
-use Rattle.deciding.specs.MoveValues.{move_value, pair_rise}
+use Rattle.deciding.specs.Decisions.{Decision, with_decisions, HavePassed}
 use Rattle.deciding.specs.declared.bounds.Bounds.{Bounds}
-
--- the two sites are the ends of the pair
-abbrev pub AreEnds : Pair → ℕ → ℕ → Type 0
-AreEnds pair site other =
-    ((pair.first ≡ site) × (pair.second ≡ other)) ⊎ ((pair.first ≡ other) × (pair.second ≡ site))
-
--- the site is no end of the pair
-abbrev pub AvoidsSite : ℕ → Pair → Type 0
-AvoidsSite u pair = (pair.first ≢ u) × (pair.second ≢ u)
-
--- no open site before this one has a pair with it
-abbrev pub HasNoneBefore : List Choice → Neighbours → ℕ → Type 0
-HasNoneBefore choices ends site =
-    (place u : ℕ) → neighbours_start ends site ≤ place
-    → place < neighbours_start ends (site + 1) → u < site
-    → choice_at choices u ≡ Open → AvoidsSite u (pair_beside ends site place)
-
--- the most that the energy rises or falls by where a site turns
-abbrev pub rise_limit : Neighbours → ℕ → ℕ
-rise_limit ends site = site_cost_limit + pair_cost_limit * degree ends site
 
 -- the bound of a site
 abbrev pub bound_at : List ℤ → ℕ → ℤ
@@ -140,28 +117,6 @@ pub record AreWaitingBut (n but : ℕ) (b : Bounds) : Type 0 where
 -- each of them waits
 abbrev pub AreWaiting : ℕ → Bounds → Type 0
 AreWaiting n b = AreWaitingBut n n b
-
--- what the testing of all pairs answers: each term is regular; or the first that is not
-abbrev pub AreTermsTested : Instance → Move → (ℕ → ℕ) → Result Unit BuildError → Type 0
-AreTermsTested m move f (Ok done) = IsAllowed m move f
-AreTermsTested m move f (Err e) = IsPrepareRefusal m move f e
-
--- the labels that the move gives a site of this label, at 0 and at 1
-abbrev pub AreTwoLabels : Move → ℕ → ℕ → ℕ → Type 0
-AreTwoLabels move old stays turns =
-    (stays ≡ label_after move old false) × (turns ≡ label_after move old true)
-
--- by how much a pair's cost rises where its first end, or its second, turns from the one label to
--- the other
-abbrev pub end_rise : Instance → ℕ → Bool → ℕ → ℕ → ℕ → ℤ
-end_rise m weight true stays turns other =
-    pos (weight * m.smooth_cost turns other) -ℤ pos (weight * m.smooth_cost stays other)
-end_rise m weight false stays turns other =
-    pos (weight * m.smooth_cost other turns) -ℤ pos (weight * m.smooth_cost other stays)
-
--- the decided sites have their values, and all others this one
-abbrev pub decided_or : List Choice → Bool → ℕ → Bool
-decided_or choices b p = bit_of (choice_at choices p) b
 
 -- the sites were decided one after another, each by the test, and the bounds of each open site
 -- below k are its rises with all undecided sites at 1 and at 0

@@ -10,10 +10,9 @@ ghost use Rattle.deciding.specs.Prelude.{PassesClosed, AreUndecided, AreUnsummed
 ghost use Rattle.deciding.specs.Prelude.{ArePartlyDecided, greatest_total};
 
 use crate::Bounds;
-use crate::move_to_find::MoveToFind;
-use crate::rises_of_site::site_rises;
 use labellings::Move;
 use move_energy::Choice;
+use move_rises::{MoveToFind, site_rises};
 use std::alloc::AllocError;
 
 /// What is known of a site before anything is summed. Where the move cannot change its label its

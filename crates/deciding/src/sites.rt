@@ -5,15 +5,13 @@ ghost use Rattle.deciding.specs.Prelude.{labelling, WhereMeant, IsDecidedMove, I
 ghost use Rattle.deciding.specs.Prelude.{KnowsMove, AreListsEmpty, RiseNumbers, AreReadable};
 ghost use Rattle.deciding.specs.Prelude.{AreRisesOf, ArePassedChoices, AreNumbersOf, AreOfNoSites};
 
-use crate::move_to_find::MoveToFind;
-use crate::regular_terms::test_terms;
 use crate::sweeps::list_own_rises;
-use crate::table::RiseTable;
 use crate::{Bounds, Lists};
 use cost_store::Problem;
 use label_field::Pairs;
 use labellings::Move;
 use move_energy::{BuildError, Neighbours, group_pairs};
+use move_rises::{MoveToFind, RiseTable, test_terms};
 use std::alloc::{AllocError, Global};
 
 /// The neighbours of each site by a list of pairs, made once a run, and the room in which the sites

@@ -9,12 +9,10 @@ ghost use Rattle.deciding.specs.Prelude.{data_rise as data_rise_of, decided_or, 
 ghost use Rattle.deciding.specs.Prelude.{AreReadable, AreRisesOf, ArePassedChoices, site_weight};
 ghost use Rattle.deciding.specs.Prelude.{WhereRead, KeepsKnown, KeepsPassed, IsSwept};
 
-use crate::costs::data_rise;
-use crate::move_to_find::RiseNumbers;
-use crate::rises_of_site::{Rises, table_rises};
 use cost_store::Problem;
 use labellings::Move;
 use move_energy::{Choice, pair_beside};
+use move_rises::{RiseNumbers, Rises, data_rise, table_rises};
 use std::alloc::AllocError;
 
 /// How much more the label costs a site where its value turns from 0 to 1, in four bytes.

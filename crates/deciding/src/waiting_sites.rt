@@ -1,23 +1,18 @@
 //! Deciding the sites that wait, one after another.
-ghost use Rattle.std.specs.Prelude.{◌≡◌, ◌≢◌, ◌⊎◌, ◌<◌, ◌≤◌, ◌+◌, ◌*◌, ◌^◌, ℕ, ℤ, ◌-ℤ◌};
-ghost use Rattle.std.specs.Prelude.{Bool, true, All, length, Some};
+ghost use Rattle.std.specs.Prelude.{◌≡◌, ◌≢◌, ◌⊎◌, ◌<◌, ◌≤◌, ◌+◌, ◌*◌, ◌^◌, ℕ, Bool, length, Some};
 ghost use Rattle.std.specs.Prelude.{unsigned_abs, OnOk, IsTrue, ◌↔◌, []};
-ghost use Rattle.deciding.specs.Prelude.{IsPair, degree, labelling, Open, choice_at, bit_of};
-ghost use Rattle.deciding.specs.Prelude.{surplus_limit, surplus_of, pair_table, IsPosedMove};
-ghost use Rattle.deciding.specs.Prelude.{WhereFound, IsInBudget, ends_left, total_left, rises_at};
-ghost use Rattle.deciding.specs.Prelude.{table_labels, summed_count, CanDecide, TellsValue};
-ghost use Rattle.deciding.specs.Prelude.{IsMarked, IsSummed, IsWithinRange, AreWaiting};
-ghost use Rattle.deciding.specs.Prelude.{AreWaitingBut, ArePartlyDecided, SeesPair, IsLooking};
-ghost use Rattle.deciding.specs.Prelude.{Shifts, least_shift as least_shift_of};
+ghost use Rattle.deciding.specs.Prelude.{IsPair, degree, Open, choice_at, bit_of, surplus_limit};
+ghost use Rattle.deciding.specs.Prelude.{IsPosedMove, WhereFound, IsInBudget, ends_left};
+ghost use Rattle.deciding.specs.Prelude.{total_left, summed_count, CanDecide, TellsValue, IsMarked};
+ghost use Rattle.deciding.specs.Prelude.{IsSummed, IsWithinRange, AreWaiting, AreWaitingBut};
+ghost use Rattle.deciding.specs.Prelude.{ArePartlyDecided, SeesPair, IsLooking, Shifts};
+ghost use Rattle.deciding.specs.Prelude.{least_shift as least_shift_of};
 ghost use Rattle.deciding.specs.Prelude.{greatest_shift as greatest_shift_of, greatest_total};
 
 use crate::Bounds;
-use crate::expansion_rises::end_cost;
-use crate::move_to_find::MoveToFind;
-use crate::rises_of_site::other_end;
-use crate::table::{EndRises, RiseTable};
 use label_field::Pair;
-use move_energy::{Choice, pair_beside, surplus, term};
+use move_energy::{Choice, pair_beside};
+use move_rises::{MoveToFind, other_end, pair_surplus};
 use std::alloc::AllocError;
 
 /// What is known of a variable once it has a value.
@@ -45,76 +40,6 @@ fn greatest_shift(value: bool, surplus: i64) -> i64
     ensures range { unsigned_abs result ≤ surplus_limit }
 {
     if value { -surplus } else { 0 }
-}
-
-/// What the values of two sites save together: the difference of the two rises of the first.
-#[inline]
-fn surplus_by(rises: EndRises) -> i64
-    ensures { result ≡ rises.low -ℤ rises.high }
-{
-    i64::from(rises.low) - i64::from(rises.high)
-}
-
-/// What the values of two sites save together, as the table tells it.
-#[inline]
-pub(crate) fn table_surplus(table: &RiseTable, at: &[u8], pair: Pair) -> i64
-    requires pair { IsPair (length at.now) pair }
-    requires few { All (λ label. label < table_labels) at.now }
-    requires size { length table.now.entries.items ≡ 8192 }
-    ensures { result ≡ (rises_at table.now true (labelling at.now pair.first)
-        (labelling at.now pair.second)).low
-        -ℤ (rises_at table.now true (labelling at.now pair.first)
-        (labelling at.now pair.second)).high }
-{
-    let own = u32::from(at[pair.first as usize]);
-    let other = u32::from(at[pair.second as usize]);
-    let rises = table.rises(true, own, other);
-    surplus_by(rises)
-}
-
-/// What the values of two sites save together, as the lists of an expansion tell it beside what
-/// their pair costs.
-#[inline]
-fn listed_surplus<F: Fn(u32, u32) -> i64 + Sync, V: Fn(u32, u32) -> i64 + Sync>(
-    step: &MoveToFind<F, V>,
-    pair: Pair,
-) -> i64
-    requires posed { IsPosedMove F.Fn V.Fn step.now }
-    requires pair { IsPair (length step.now.at.now) pair }
-    requires lists { (step.now.table.now.lists.stands ≡ true)
-        × (step.now.table.now.weight ≡ pair.weight) }
-    ensures value { WhereFound F.Fn V.Fn step.now
-        (λ m move f. result ≡ surplus_of (pair_table m move f pair)) }
-    ensures range { unsigned_abs result ≤ surplus_limit }
-{
-    let own = u32::from(step.at[pair.first as usize]);
-    let other = u32::from(step.at[pair.second as usize]);
-    let cost = end_cost(step.problem, pair.weight, true, own, other);
-    let rises = step.table.lists.rises(true, own, other, cost);
-    surplus_by(rises)
-}
-
-/// The surplus of a pair. The table or the lists tell it where they are of the pair's weight; else
-/// costs are asked.
-#[inline]
-pub fn pair_surplus<F: Fn(u32, u32) -> i64 + Sync, V: Fn(u32, u32) -> i64 + Sync>(
-    step: &MoveToFind<F, V>,
-    pair: Pair,
-) -> i64
-    requires posed { IsPosedMove F.Fn V.Fn step.now }
-    requires pair { IsPair (length step.now.at.now) pair }
-    ensures value { WhereFound F.Fn V.Fn step.now
-        (λ m move f. result ≡ surplus_of (pair_table m move f pair)) }
-    ensures range { unsigned_abs result ≤ surplus_limit }
-{
-    if step.table.covers(pair.weight) {
-        return table_surplus(step.table, step.at, pair);
-    }
-    if step.table.lists_cover(pair.weight) {
-        return listed_surplus(step, pair);
-    }
-    let costs = term(step.problem, step.at, step.change, pair);
-    surplus(&costs)
 }
 
 impl Bounds {

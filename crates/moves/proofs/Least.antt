@@ -24,8 +24,8 @@ use Rattle.move_energy.specs.declared.choice.Choice.TheVariants.{Open, Zero as D
 use Rattle.move_energy.specs.Choices.{bit_of, choice_at, choice_of, value_of, open_rank, made_by, AreAllOpen, AreAssigned, StandsFor}
 use Rattle.moves.specs.Building.{site_values, made_value}
 use Rattle.deciding.specs.Decisions.{IsSmallestLeast}
-use Rattle.deciding.specs.MoveValues.{move_value}
-use Rattle.deciding.proofs.Rises.{move_falls, move_over}
+use Rattle.move_rises.specs.MoveValues.{move_value}
+use Rattle.move_rises.proofs.Rising.{move_falls, move_over}
 use Rattle.closing_in.specs.Fixing.{with_choices}
 use Rattle.closing_in.specs.Agreeing.{Agree}
 use Rattle.closing_in.specs.Forms.{bits_by_site}

@@ -18,8 +18,8 @@ use Rattle.move_energy.specs.declared.choice.Choice.{Choice}
 use Rattle.move_energy.specs.declared.choice.Choice.TheVariants.{Zero}
 use Rattle.move_energy.specs.Choices.{choice_at, choice_of, bit_of, value_of, open_rank, StandsFor}
 use Rattle.deciding.specs.Decisions.{IsSmallestLeast}
-use Rattle.deciding.specs.MoveValues.{move_value}
-use Rattle.deciding.proofs.Rises.{move_falls, move_over}
+use Rattle.move_rises.specs.MoveValues.{move_value}
+use Rattle.move_rises.proofs.Rising.{move_falls, move_over}
 use Rattle.closing_in.specs.Fixing.{with_choices, AreLeastZeros}
 use Rattle.stages.specs.Fresh.{WasExpanded, AreFresh, IsApart}
 use Rattle.stages.specs.Looking.{IsClosedIn}

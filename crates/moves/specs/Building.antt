@@ -27,8 +27,8 @@ use Rattle.label_field.specs.PairLists.{PairList}
 use Rattle.move_energy.specs.BySite.{AreBySite, IsListing, met_at}
 use Rattle.deciding.specs.Listed.{AreListed, changes}
 use Rattle.deciding.specs.Decisions.{IsSmallestLeast}
-use Rattle.deciding.specs.MoveValues.{move_value}
-use Rattle.deciding.specs.Rising.{IsRiseTable, IsTableOf}
+use Rattle.move_rises.specs.MoveValues.{move_value}
+use Rattle.move_rises.specs.Rising.{IsRiseTable, IsTableOf}
 use Rattle.moves.specs.declared.workspace.Workspace.{Workspace}
 
 -- the pairs by their sites, once they were grouped

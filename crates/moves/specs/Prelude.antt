@@ -9,7 +9,7 @@ pub use Rattle.cost_store.specs.Posed.{IsPosed, WhereMeant, IsAsked, AreOfOneSiz
 pub use Rattle.cost_store.specs.Promises.{Keeps, IsCost, IsMetricTable, entry_at}
 pub use Rattle.deciding.specs.Decided.{IsDecidedMove}
 pub use Rattle.deciding.specs.Decisions.{IsSmallestLeast}
-pub use Rattle.deciding.specs.MoveValues.{move_value}
+pub use Rattle.move_rises.specs.MoveValues.{move_value}
 pub use Rattle.label_field.specs.Limits.{site_limit, label_limit}
 pub use Rattle.label_field.specs.PairLists.{IsPair}
 pub use Rattle.labellings.specs.Chains.{expansions, swaps, moves_of}

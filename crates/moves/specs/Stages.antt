@@ -14,7 +14,7 @@ use Rattle.move_energy.specs.BySite.{AreBySite}
 use Rattle.move_energy.specs.declared.choice.Choice.{Choice}
 use Rattle.move_energy.specs.Choices.{choice_at, value_of, AreOpenSites}
 use Rattle.deciding.specs.Decisions.{IsSmallestLeast}
-use Rattle.deciding.specs.MoveValues.{move_value}
+use Rattle.move_rises.specs.MoveValues.{move_value}
 use Rattle.stages.specs.declared.changes.Changes.{Changes}
 use Rattle.stages.specs.Changes.{AreStamped, changed_after}
 use Rattle.closing_in.specs.Fixing.{with_choices, fixed_value, AreLeastZeros}

@@ -9,7 +9,7 @@ use Rattle.move_energy.specs.declared.choice.Choice.{Choice}
 use Rattle.move_energy.specs.declared.choice.Choice.TheVariants.{Zero}
 use Rattle.move_energy.specs.Choices.{choice_at}
 use Rattle.deciding.specs.Parts.{WhereRead}
-use Rattle.deciding.specs.declared.move_to_find.RiseNumbers.{RiseNumbers}
+use Rattle.move_rises.specs.declared.move_to_find.RiseNumbers.{RiseNumbers}
 use Rattle.stage_parts.specs.declared.windows.PartSizes.{PartSizes}
 use Rattle.stage_parts.specs.Parts.{AreZerosOf, AreZeroCodes, HasZeroCode, IsPartFound, seen_start}
 

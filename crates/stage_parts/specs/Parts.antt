@@ -10,9 +10,9 @@ use Rattle.move_energy.specs.declared.choice.Choice.{Choice}
 use Rattle.move_energy.specs.BySite.{AreBySite}
 use Rattle.move_energy.specs.Choices.{choice_at, AreOpenSites}
 use Rattle.deciding.specs.Decisions.{IsSmallestLeast}
-use Rattle.deciding.specs.MoveValues.{move_value}
+use Rattle.move_rises.specs.MoveValues.{move_value}
 use Rattle.deciding.specs.Parts.{WhereRead}
-use Rattle.deciding.specs.declared.move_to_find.RiseNumbers.{RiseNumbers}
+use Rattle.move_rises.specs.declared.move_to_find.RiseNumbers.{RiseNumbers}
 use Rattle.closing_in.specs.Fixing.{AreLeastZeros}
 use Rattle.stage_parts.specs.declared.part.Part.{Part}
 use Rattle.stage_parts.specs.declared.windows.PartSizes.{PartSizes}

@@ -10,9 +10,10 @@ use Rattle.labellings.proofs.Repeating.{best_again}
 use Rattle.move_energy.specs.declared.choice.Choice.{Choice}
 use Rattle.move_energy.specs.declared.choice.Choice.TheVariants.{Open, Zero, One}
 use Rattle.move_energy.specs.Choices.{bit_of}
-use Rattle.deciding.specs.Decisions.{IsOver, IsSmallestLeast}
-use Rattle.deciding.specs.MoveValues.{move_value}
-use Rattle.deciding.proofs.Rises.{move_falls, move_over}
+use Rattle.move_rises.specs.Assignments.{IsOver}
+use Rattle.deciding.specs.Decisions.{IsSmallestLeast}
+use Rattle.move_rises.specs.MoveValues.{move_value}
+use Rattle.move_rises.proofs.Rising.{move_falls, move_over}
 use Rattle.closing_in.specs.Fixing.{with_choices, fixed_value, AreLeastZeros, OnesLieWithin, IsLeftOpen}
 use Rattle.stages.specs.Fresh.{LowersNothing, WasExpanded, AreFresh, HoldsFresh, IsPartOf}
 use Rattle.stages.proofs.Parts.{swapped_le, closing}

@@ -12,9 +12,10 @@ use Rattle.labellings.specs.declared.change.Move.TheVariants.{Expand}
 use Rattle.labellings.specs.Energies.{Instance, IsInstance, plain_energy, pair_cost}
 use Rattle.labellings.specs.Moves.{labelling_made}
 use Rattle.labellings.proofs.Energy.{plain-same}
-use Rattle.deciding.specs.Decisions.{set_bit, IsSmallestLeast}
-use Rattle.deciding.specs.MoveValues.{move_value}
-use Rattle.deciding.proofs.Putting.{set_at, set_other}
+use Rattle.move_rises.specs.Assignments.{set_bit}
+use Rattle.deciding.specs.Decisions.{IsSmallestLeast}
+use Rattle.move_rises.specs.MoveValues.{move_value}
+use Rattle.move_rises.proofs.Assignments.{set_at, set_other}
 use Rattle.closing_in.specs.Fixing.{OnesLieWithin}
 use Rattle.stages.specs.Fresh.{WasExpanded, IsFreshAcross, AreFresh, HoldsNoFresh, HoldsFresh, IsApart, IsPartOf}
 

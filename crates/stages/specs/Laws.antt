@@ -6,7 +6,7 @@ use Rattle.labellings.specs.declared.change.Move.TheVariants.{Expand}
 use Rattle.labellings.specs.Energies.{Instance, IsInstance, AreLabelsFree, labelling}
 use Rattle.labellings.specs.Moves.{IsAllowed, IsBest}
 use Rattle.deciding.specs.Decisions.{IsSmallestLeast}
-use Rattle.deciding.specs.MoveValues.{move_value}
+use Rattle.move_rises.specs.MoveValues.{move_value}
 use Rattle.closing_in.specs.Fixing.{with_choices, fixed_value, AreLeastZeros, OnesLieWithin}
 use Rattle.closing_in.specs.Fixing.{IsLeftOpen}
 use Rattle.stages.specs.Fresh.{WasExpanded, AreFresh, HoldsNoFresh, HoldsFresh, IsApart, IsPartOf}

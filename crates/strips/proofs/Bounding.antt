@@ -22,8 +22,8 @@ use Rattle.move_energy.specs.Weights.{pair_surplus}
 use Rattle.move_energy.proofs.Numbers.{rank_below}
 use Rattle.move_energy.proofs.Opened.{opened_has, opened_place, opened_count, true_open, open_true}
 use Rattle.deciding.specs.Decisions.{IsSmallestLeast}
-use Rattle.deciding.specs.MoveValues.{move_value}
-use Rattle.deciding.proofs.Rises.{move_falls, move_over}
+use Rattle.move_rises.specs.MoveValues.{move_value}
+use Rattle.move_rises.proofs.Rising.{move_falls, move_over}
 use Rattle.closing_in.specs.Fixing.{fixed_value}
 use Rattle.closing_in.specs.Agreeing.{Agree, or_else, choices_or}
 use Rattle.closing_in.specs.Strips.{Strip, others_at, IsStripBounded, told_by}

@@ -13,13 +13,13 @@ use Rattle.labellings.specs.Moves.{IsAllowed}
 use Rattle.move_energy.specs.declared.choice.Choice.{Choice}
 use Rattle.move_energy.specs.declared.choice.Choice.TheVariants.{Open, Zero, One}
 use Rattle.move_energy.specs.Choices.{choice_at}
-use Rattle.deciding.specs.declared.move_to_find.RiseNumbers.{RiseNumbers}
+use Rattle.move_rises.specs.declared.move_to_find.RiseNumbers.{RiseNumbers}
 use Rattle.deciding.specs.Decisions.{Passes}
-use Rattle.deciding.specs.MoveValues.{move_value}
+use Rattle.move_rises.specs.MoveValues.{move_value}
 use Rattle.deciding.specs.Parts.{AreRisesOf, ArePassedChoices}
 use Rattle.strips.specs.Parts.{ArePartCodes, IsPartAnswer, OfParts, FillsPart, IsPartJoined, DecidesTold, EndsWithStrip, PartsEndWithStrips, known_or, coded_at, part_start}
 use Rattle.deciding.proofs.Putting.{passed_forced}
-use Rattle.deciding.proofs.Rises.{move_falls}
+use Rattle.move_rises.proofs.Rising.{move_falls}
 use Rattle.closing_in.specs.Agreeing.{Agree}
 use Rattle.closing_in.proofs.Agreeing.{each_agreed, forced_agree}
 

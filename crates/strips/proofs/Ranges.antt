@@ -14,7 +14,7 @@ use Rattle.move_energy.specs.declared.choice.Choice.{Choice}
 use Rattle.move_energy.specs.declared.choice.Choice.TheVariants.{Zero}
 use Rattle.move_energy.specs.Choices.{choice_at, open_at, AreOpenSites}
 use Rattle.deciding.specs.Decisions.{IsSmallestLeast}
-use Rattle.deciding.specs.MoveValues.{move_value}
+use Rattle.move_rises.specs.MoveValues.{move_value}
 use Rattle.closing_in.specs.Agreeing.{Agree, or_else, choices_or}
 use Rattle.closing_in.specs.Borders.{is_inside, range_of}
 use Rattle.closing_in.specs.Strips.{Strip, told_by}

@@ -12,7 +12,7 @@ use Rattle.move_energy.specs.declared.choice.Choice.{Choice}
 use Rattle.move_energy.specs.declared.choice.Choice.TheVariants.{Open, Zero, One}
 use Rattle.move_energy.specs.Choices.{bit_of, choice_at, is_open, openness, open_at, open_rank}
 use Rattle.move_energy.specs.Weights.{AreWeights}
-use Rattle.deciding.proofs.Rises.{move_over}
+use Rattle.move_rises.proofs.Rising.{move_over}
 use Rattle.closing_in.specs.Fixing.{with_choices}
 use Rattle.closing_in.specs.Agreeing.{or_else, choices_or}
 use Rattle.closing_in.specs.Borders.{range_of, is_inside}

@@ -14,8 +14,8 @@ use Rattle.move_energy.specs.BySite.{rising_sites}
 use Rattle.move_energy.specs.Choices.{choice_at, choice_of, bit_of, is_open, open_at, open_rank, value_of, AreOpenSites}
 use Rattle.move_energy.proofs.Numbers.{rank_below}
 use Rattle.move_energy.proofs.Opened.{opened_place, opened_count, cases_open}
-use Rattle.deciding.specs.MoveValues.{move_value}
-use Rattle.deciding.proofs.Rises.{move_falls, move_over}
+use Rattle.move_rises.specs.MoveValues.{move_value}
+use Rattle.move_rises.proofs.Rising.{move_falls, move_over}
 use Rattle.closing_in.specs.Fixing.{AreLeastZeros}
 use Rattle.closing_in.specs.Agreeing.{or_else}
 use Rattle.closing_in.specs.Strips.{choice_of_bounds}

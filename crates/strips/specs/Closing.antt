@@ -7,8 +7,8 @@ use Rattle.move_energy.specs.Choices.{choice_at}
 use Rattle.move_energy.specs.declared.choice.Choice.{Choice}
 use Rattle.move_energy.specs.Limits.{weights_limit}
 use Rattle.move_energy.specs.Weights.{AreWeights}
-use Rattle.deciding.specs.declared.move_to_find.MoveToFind.{MoveToFind}
-use Rattle.deciding.specs.Finding.{IsPosedMove, WhereFound}
+use Rattle.move_rises.specs.declared.move_to_find.MoveToFind.{MoveToFind}
+use Rattle.move_rises.specs.Finding.{IsPosedMove, WhereFound}
 use Rattle.strips.specs.declared.material.Basis.{Basis}
 use Rattle.strips.specs.Views.{KeepsChosen}
 

@@ -9,8 +9,8 @@ use Rattle.move_energy.specs.declared.choice.Choice.{Choice}
 use Rattle.move_energy.specs.declared.choice.Choice.TheVariants.{Open, Zero, One}
 use Rattle.move_energy.specs.Choices.{choice_at}
 use Rattle.deciding.specs.Decisions.{Passes}
-use Rattle.deciding.specs.MoveValues.{move_value}
-use Rattle.deciding.specs.declared.move_to_find.RiseNumbers.{RiseNumbers}
+use Rattle.move_rises.specs.MoveValues.{move_value}
+use Rattle.move_rises.specs.declared.move_to_find.RiseNumbers.{RiseNumbers}
 use Rattle.deciding.specs.Parts.{AreRisesOf, ArePassedChoices, WhereRead}
 use Rattle.closing_in.specs.Agreeing.{Agree, choices_or}
 use Rattle.closing_in.specs.Borders.{is_inside, range_of}

@@ -8,7 +8,7 @@ ghost use Rattle.compile_cut.specs.Weights.{weights_size};
 ghost use Rattle.move_energy.specs.declared.choice.Choice.{Choice as AnyChoice};
 ghost use Rattle.move_energy.specs.Choices.{choice_at, AreOpenSites};
 ghost use Rattle.move_energy.specs.Limits.{weights_limit};
-ghost use Rattle.deciding.specs.MoveValues.{move_value};
+ghost use Rattle.move_rises.specs.MoveValues.{move_value};
 ghost use Rattle.deciding.specs.Parts.{AreReadable, ArePassedChoices, WhereRead, site_weight};
 ghost use Rattle.closing_in.specs.Agreeing.{Agree};
 ghost use Rattle.strips.specs.Parts.{IsPartClosed, IsPartAnswer, OfParts, DecidesTold};

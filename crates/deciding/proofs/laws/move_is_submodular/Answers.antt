@@ -1,6 +1,6 @@
 use Rattle.deciding.proofs.Putting.{passed_forced}
-use Rattle.deciding.proofs.Rises.{move_falls, move_over}
-use Rattle.deciding.specs.MoveValues.{move_value}
+use Rattle.move_rises.proofs.Rising.{move_falls, move_over}
+use Rattle.move_rises.specs.MoveValues.{move_value}
 use Rattle.deciding.proofs.laws.move_is_submodular.Goals as goal
 
 pub returns : goal.returns

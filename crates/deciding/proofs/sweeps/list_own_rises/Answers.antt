@@ -1,6 +1,6 @@
 use Rattle.std.proofs.Common.{◌∙◌, unsigned_abs, ap, arith}
 use Rattle.labellings.specs.Energies.{labelling}
-use Rattle.deciding.specs.MoveValues.{data_rise}
+use Rattle.move_rises.specs.MoveValues.{data_rise}
 use Rattle.deciding.proofs.Covering.{own_is, listed_len, listed_small, listed_own}
 use Rattle.deciding.proofs.sweeps.list_own_rises.Goals as goal
 

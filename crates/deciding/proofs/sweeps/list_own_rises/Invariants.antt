@@ -1,7 +1,7 @@
 use Rattle.std.proofs.Common.{◌≡◌, ◌≤◌, ◌<◌, ℕ, All, length, unsigned_abs}
 use Rattle.labellings.specs.Energies.{Instance, labelling}
 use Rattle.cost_store.specs.Posed.{IsMeant}
-use Rattle.deciding.specs.MoveValues.{data_rise}
+use Rattle.move_rises.specs.MoveValues.{data_rise}
 use Rattle.deciding.specs.Parts.{own_at}
 use Rattle.deciding.proofs.sweeps.list_own_rises.Given as goal
 

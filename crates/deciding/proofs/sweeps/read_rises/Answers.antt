@@ -2,13 +2,13 @@ use Rattle.std.proofs.Common.{◌≡◌, ◌<◌, ◌≤◌, ◌-◌, ◌+◌, �
 use Rattle.move_energy.specs.BySite.{degree, neighbours_start}
 use Rattle.move_energy.proofs.Parts.{start_read, starts_rise}
 use Rattle.labellings.specs.Energies.{labelling}
-use Rattle.deciding.specs.Working.{decided_or}
+use Rattle.move_rises.specs.Ends.{decided_or}
 use Rattle.deciding.specs.Parts.{own_at}
-use Rattle.deciding.proofs.Numbers.{passed_on, passed_range}
-use Rattle.deciding.proofs.SiteSums.{risen, risen_none, risen_more, risen_all, sum_fits, range_more, added_is}
-use Rattle.deciding.proofs.Left.{degree_most}
-use Rattle.deciding.proofs.Places.{meant_pairs, meant_beside}
-use Rattle.deciding.proofs.Tables.{other_of, table_rise, table_small}
+use Rattle.move_rises.proofs.Numbers.{passed_on, passed_range}
+use Rattle.move_rises.proofs.SiteSums.{risen, risen_none, risen_more, risen_all, sum_fits, range_more, added_is}
+use Rattle.move_rises.proofs.Places.{degree_most}
+use Rattle.move_rises.proofs.Places.{meant_pairs, meant_beside}
+use Rattle.move_rises.proofs.Tables.{other_of, table_rise, table_small}
 use Rattle.deciding.proofs.Covering.{own_is, own_within, covered_weight, inside_pair}
 use Rattle.deciding.proofs.sweeps.read_rises.Goals as goal
 

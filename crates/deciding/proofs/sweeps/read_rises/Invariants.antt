@@ -2,9 +2,9 @@ use Rattle.std.proofs.Common.{◌≡◌, ◌+◌, ◌-◌, ◌*◌, ◌≤◌, t
 use Rattle.labellings.specs.declared.change.Move.{Move}
 use Rattle.labellings.specs.Energies.{Instance, labelling}
 use Rattle.move_energy.specs.BySite.{neighbours_start}
-use Rattle.deciding.specs.Working.{decided_or}
+use Rattle.move_rises.specs.Ends.{decided_or}
 use Rattle.deciding.specs.Parts.{AreRisesOf}
-use Rattle.deciding.proofs.SiteSums.{risen}
+use Rattle.move_rises.proofs.SiteSums.{risen}
 use Rattle.deciding.proofs.sweeps.read_rises.Given as goal
 
 abbrev pub invariant-loop-place : goal.invariant-loop-place

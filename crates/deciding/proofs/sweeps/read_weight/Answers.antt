@@ -1,8 +1,8 @@
 use Rattle.std.proofs.Common.{◌<◌, ◌≤◌, ◌∙◌, arith}
 use Rattle.labellings.specs.Energies.{labelling}
 use Rattle.move_energy.specs.BySite.{degree}
-use Rattle.deciding.proofs.Left.{degree_most}
-use Rattle.deciding.proofs.SiteSums.{sum_passed}
+use Rattle.move_rises.proofs.Places.{degree_most}
+use Rattle.move_rises.proofs.SiteSums.{sum_passed}
 use Rattle.deciding.proofs.Whole.{weight_is}
 use Rattle.deciding.proofs.sweeps.read_weight.Goals as goal
 

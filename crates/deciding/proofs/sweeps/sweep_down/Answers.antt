@@ -3,10 +3,10 @@ use Rattle.std.proofs.lemmas.Bool.{cases_eq}
 use Rattle.labellings.specs.Energies.{labelling}
 use Rattle.move_energy.specs.Choices.{choice_at}
 use Rattle.deciding.specs.Decisions.{Passes}
-use Rattle.deciding.specs.MoveValues.{move_value}
+use Rattle.move_rises.specs.MoveValues.{move_value}
 use Rattle.deciding.specs.Parts.{IsSwept}
 use Rattle.deciding.proofs.Joining.{passes_still}
-use Rattle.deciding.proofs.Places.{meant_pairs}
+use Rattle.move_rises.proofs.Places.{meant_pairs}
 use Rattle.deciding.proofs.sweeps.sweep_down.Goals as goal
 
 pub loop-site-init : goal.loop-site-init

@@ -4,7 +4,7 @@ use Rattle.labellings.specs.Energies.{labelling}
 use Rattle.move_energy.specs.declared.choice.Choice.TheVariants.{Open, Zero}
 use Rattle.move_energy.specs.Choices.{choice_at}
 use Rattle.deciding.proofs.Joining.{not_untold}
-use Rattle.deciding.proofs.Places.{meant_pairs}
+use Rattle.move_rises.proofs.Places.{meant_pairs}
 use Rattle.deciding.proofs.Trying.{set_here, tried_passed}
 use Rattle.deciding.proofs.sweeps.try_site.Goals as goal
 

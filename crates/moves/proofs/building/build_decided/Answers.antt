@@ -5,7 +5,7 @@ use Rattle.labellings.specs.Energies.{labelling}
 use Rattle.move_energy.specs.declared.choice.Choice.{Choice}
 use Rattle.move_energy.specs.Choices.{choice_at, open_rank}
 use Rattle.cost_store.proofs.Meaning.{pairs_meant}
-use Rattle.deciding.specs.MoveValues.{move_value}
+use Rattle.move_rises.specs.MoveValues.{move_value}
 use Rattle.closing_in.specs.Agreeing.{Agree}
 use Rattle.closing_in.proofs.Borders.{decided_agree}
 use Rattle.move_energy.specs.declared.by_site.Neighbours.{Neighbours}

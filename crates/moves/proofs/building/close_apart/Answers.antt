@@ -3,7 +3,7 @@ use Rattle.cost_store.proofs.Meaning.{pairs_meant}
 use Rattle.labellings.specs.Energies.{labelling}
 use Rattle.move_energy.specs.declared.choice.Choice.{Choice}
 use Rattle.move_energy.specs.Choices.{choice_at}
-use Rattle.deciding.specs.declared.move_to_find.RiseNumbers.{RiseNumbers}
+use Rattle.move_rises.specs.declared.move_to_find.RiseNumbers.{RiseNumbers}
 use Rattle.deciding.specs.Parts.{AreRisesOf, ArePassedChoices}
 use Rattle.moves.proofs.building.close_apart.Goals as goal
 

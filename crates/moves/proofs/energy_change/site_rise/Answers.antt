@@ -1,5 +1,5 @@
 use Rattle.std.proofs.Common.{pos, ap, ◌∙◌}
-use Rattle.deciding.proofs.Numbers.{difference_is}
+use Rattle.move_rises.proofs.Numbers.{difference_is}
 use Rattle.moves.proofs.energy_change.site_rise.Goals as goal
 
 pub returns-clause-rise : goal.returns-clause-rise

@@ -4,7 +4,7 @@ use Rattle.labellings.specs.Energies.{labelling}
 use Rattle.move_energy.specs.declared.choice.Choice.TheVariants.{Zero}
 use Rattle.move_energy.specs.Choices.{choice_at}
 use Rattle.cost_store.proofs.Meaning.{pairs_meant}
-use Rattle.deciding.specs.MoveValues.{move_value}
+use Rattle.move_rises.specs.MoveValues.{move_value}
 use Rattle.stages.specs.Changes.{made_of}
 use Rattle.closing_in.specs.Fixing.{AreLeastZeros}
 use Rattle.stages.specs.Fresh.{AreFresh}

@@ -5,7 +5,7 @@ use Rattle.labellings.specs.declared.change.Move.TheVariants.{Expand}
 use Rattle.labellings.specs.Energies.{labelling}
 use Rattle.cost_store.proofs.Meaning.{pairs_meant, metric_meant}
 use Rattle.deciding.specs.Decisions.{IsSmallestLeast}
-use Rattle.deciding.specs.MoveValues.{move_value}
+use Rattle.move_rises.specs.MoveValues.{move_value}
 use Rattle.stages.specs.Changes.{changed_after}
 use Rattle.stages.specs.Fresh.{WasExpanded}
 use Rattle.stages.specs.Looking.{is_marked, AreTaking}

@@ -4,7 +4,7 @@ use Rattle.labellings.specs.Energies.{labelling}
 use Rattle.move_energy.specs.declared.choice.Choice.{Choice}
 use Rattle.move_energy.specs.Choices.{choice_at, value_of}
 use Rattle.cost_store.proofs.Meaning.{pairs_meant}
-use Rattle.deciding.specs.MoveValues.{move_value}
+use Rattle.move_rises.specs.MoveValues.{move_value}
 use Rattle.closing_in.specs.Fixing.{AreLeastZeros}
 use Rattle.stages.specs.Looking.{is_marked, IsClosedIn}
 use Rattle.moves.proofs.Stages.{closed_ends, next_zeros}

@@ -3,7 +3,7 @@ use Rattle.labellings.specs.declared.change.Move.{Move}
 use Rattle.labellings.specs.Energies.{Instance, IsInstance, labelling}
 use Rattle.move_energy.specs.declared.choice.Choice.{Choice}
 use Rattle.move_energy.specs.Choices.{choice_at, AreOpenSites}
-use Rattle.deciding.specs.MoveValues.{move_value}
+use Rattle.move_rises.specs.MoveValues.{move_value}
 use Rattle.deciding.specs.Parts.{AreRisesOf}
 use Rattle.closing_in.specs.Agreeing.{Agree}
 use Rattle.strips.specs.Views.{KeepsChosen, strip_view}

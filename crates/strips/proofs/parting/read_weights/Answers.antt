@@ -4,8 +4,8 @@ use Rattle.move_energy.specs.BySite.{degree}
 use Rattle.move_energy.specs.Choices.{choice_at}
 use Rattle.move_energy.proofs.Opened.{opened_has, open_true, true_open}
 use Rattle.deciding.specs.Parts.{site_weight}
-use Rattle.deciding.proofs.Left.{degree_most}
-use Rattle.deciding.proofs.SiteSums.{sum_passed}
+use Rattle.move_rises.proofs.Places.{degree_most}
+use Rattle.move_rises.proofs.SiteSums.{sum_passed}
 use Rattle.strips.specs.Views.{strip_view}
 use Rattle.strips.proofs.Borders.{list_more}
 use Rattle.strips.proofs.Views.{view_length, open_inside}

@@ -4,7 +4,7 @@ use Rattle.move_energy.specs.BySite.{degree, neighbours_start}
 use Rattle.move_energy.specs.Choices.{choice_at, open_at, open_rank}
 use Rattle.move_energy.specs.Weights.{unsaved_surplus}
 use Rattle.move_energy.proofs.Parts.{starts_rise}
-use Rattle.deciding.proofs.Left.{degree_most}
+use Rattle.move_rises.proofs.Places.{degree_most}
 use Rattle.closing_in.specs.Borders.{not_ones, range_of}
 use Rattle.closing_in.proofs.Rooms.{total_is, total_all}
 use Rattle.strips.specs.Views.{strip_view}

@@ -8,7 +8,8 @@ use Rattle.move_energy.proofs.Parts.{start_read, starts_rise}
 use Rattle.deciding.proofs.Left.{left_less}
 use Rattle.deciding.proofs.Ranges.{range_wider, decided_waits, total_same}
 use Rattle.deciding.proofs.Spreading.{IsSpread, spread_start, spread_step, spread_end, pair_in}
-use Rattle.deciding.proofs.Places.{meant_pairs, meant_grouped, range_start, range_step, range_enough, site_free}
+use Rattle.move_rises.proofs.Places.{meant_pairs, meant_grouped}
+use Rattle.deciding.proofs.Places.{range_start, range_step, range_enough, site_free}
 use Rattle.std.proofs.lemmas.Result.{err_from_is_err_and}
 use Rattle.deciding.proofs.bounds.Bounds.decide.Goals as goal
 

@@ -3,7 +3,7 @@ use Rattle.std.proofs.lemmas.Result.{on_ok_weaker}
 use Rattle.labellings.specs.Energies.{labelling}
 use Rattle.move_energy.specs.declared.choice.Choice.TheVariants.{Open}
 use Rattle.move_energy.specs.Choices.{choice_at}
-use Rattle.deciding.proofs.Numbers.{passed_on}
+use Rattle.move_rises.proofs.Numbers.{passed_on}
 use Rattle.deciding.proofs.Seeing.{sees_open, sees_none, ends_apart, other_inside}
 use Rattle.deciding.proofs.bounds.Bounds.see.Goals as goal
 

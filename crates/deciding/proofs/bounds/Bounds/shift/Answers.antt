@@ -1,7 +1,7 @@
 use Rattle.std.proofs.Common.{◌+◌, ◌≤◌, ℤ, ap, subst, refl, length, arith}
 use Rattle.std.proofs.lemmas.Result.{on_ok_weaker}
 use Rattle.deciding.specs.Working.{Shifts}
-use Rattle.deciding.proofs.Numbers.{passed_on}
+use Rattle.move_rises.proofs.Numbers.{passed_on}
 use Rattle.deciding.proofs.Ranges.{looking_of, shifts_same, shifted_waits, still_waits, called_waits}
 use Rattle.deciding.proofs.bounds.Bounds.shift.Goals as goal
 

@@ -1,6 +1,6 @@
 use Rattle.std.proofs.Common.{◌∙◌, ap, arith}
 use Rattle.deciding.specs.Working.{least_shift, greatest_shift}
-use Rattle.deciding.proofs.Numbers.{passed_on, passed_range}
+use Rattle.move_rises.proofs.Numbers.{passed_on, passed_range}
 use Rattle.deciding.proofs.Ranges.{raised_shifts, raised_range, raised_total}
 use Rattle.deciding.proofs.bounds.Bounds.shift_bounds.Goals as goal
 

@@ -4,14 +4,15 @@ use Rattle.move_energy.specs.BySite.{degree}
 use Rattle.labellings.specs.Energies.{labelling}
 use Rattle.move_energy.specs.Choices.{choice_at}
 use Rattle.move_energy.specs.declared.choice.Choice.{Choice}
-use Rattle.deciding.specs.Decisions.{rise}
-use Rattle.deciding.specs.MoveValues.{move_value}
-use Rattle.deciding.specs.Working.{decided_or, open_ends, budget_of, HasNoneBefore}
+use Rattle.move_rises.specs.Assignments.{rise}
+use Rattle.move_rises.specs.MoveValues.{move_value}
+use Rattle.move_rises.specs.Ends.{decided_or, HasNoneBefore}
+use Rattle.deciding.specs.Working.{open_ends, budget_of}
 use Rattle.deciding.proofs.Answering.{answered_bounds, answered_summed, answered_waits, answered_left, answered_decides}
-use Rattle.deciding.proofs.Left.{degree_most}
-use Rattle.deciding.proofs.Places.{meant_pairs, meant_beside}
-use Rattle.deciding.proofs.Ranges.{added_of, added_summed, added_range, added_waits, range_same, added_total, total_same}
-use Rattle.deciding.proofs.SiteSums.{sum_passed, sum_room}
+use Rattle.move_rises.proofs.Places.{degree_most}
+use Rattle.move_rises.proofs.Places.{meant_pairs, meant_beside}
+use Rattle.deciding.proofs.Ranges.{added_of, added_summed, added_range, added_waits, range_same, added_total, total_same, sum_room}
+use Rattle.move_rises.proofs.SiteSums.{sum_passed}
 use Rattle.deciding.proofs.Whole.{partly_more}
 use Rattle.deciding.proofs.bounds.Bounds.sum_site.Goals as goal
 

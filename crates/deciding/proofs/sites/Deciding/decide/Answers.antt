@@ -2,7 +2,7 @@ use Rattle.std.proofs.Common.{◌≡◌, ◌∙◌, List, refl, sym, subst, leng
 use Rattle.labellings.specs.Energies.{labelling}
 use Rattle.move_energy.specs.declared.choice.Choice.{Choice}
 use Rattle.deciding.specs.Listed.{AreListed}
-use Rattle.deciding.proofs.Places.{meant_pairs}
+use Rattle.move_rises.proofs.Places.{meant_pairs}
 use Rattle.deciding.proofs.Whole.{unsummed_first, partly_first, decided_last, partly_weights}
 use Rattle.std.proofs.lemmas.Result.{err_from_is_err_and}
 use Rattle.deciding.proofs.sites.Deciding.decide.Goals as goal

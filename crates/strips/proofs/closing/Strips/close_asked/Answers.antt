@@ -3,7 +3,7 @@ use Rattle.labellings.specs.Energies.{labelling}
 use Rattle.move_energy.specs.declared.choice.Choice.{Choice}
 use Rattle.move_energy.specs.Choices.{AreOpenSites}
 use Rattle.move_energy.proofs.Opened.{opened_within}
-use Rattle.deciding.proofs.Places.{meant_pairs}
+use Rattle.move_rises.proofs.Places.{meant_pairs}
 use Rattle.strips.specs.Sides.{AreBounds}
 use Rattle.strips.specs.Views.{strip_view}
 use Rattle.strips.proofs.Ranges.{on_ok, told_keeps, told_right}

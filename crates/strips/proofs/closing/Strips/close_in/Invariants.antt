@@ -2,7 +2,7 @@ use Rattle.std.proofs.Common.{◌≤◌, ◌-◌}
 use Rattle.cost_store.specs.Posed.{IsMeant}
 use Rattle.labellings.specs.Energies.{Instance, labelling}
 use Rattle.move_energy.specs.Choices.{choice_at, AreOpenSites}
-use Rattle.deciding.specs.MoveValues.{move_value}
+use Rattle.move_rises.specs.MoveValues.{move_value}
 use Rattle.closing_in.specs.Agreeing.{Agree}
 use Rattle.strips.specs.Closing.{CanClose}
 use Rattle.strips.specs.Views.{strip_view}
