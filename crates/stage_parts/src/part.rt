@@ -68,10 +68,13 @@ fn make_part_stage(numbers: &RiseNumbers, part: &mut Part, seen: Window) -> Resu
         part.old.variables.choices.items part.new.variables.choices.items) }
 {
     numbers.pairs.keeps();
+    let bits = part.strips.look_read(
+        numbers,
+        &part.variables.choices,
+        &part.stage.opened,
+        &mut part.variables.of_sites,
+    )?;
     part.variables.number_listed(&part.stage.opened)?;
-    let bits = part
-        .strips
-        .look_read(numbers, &part.variables.choices, &part.stage.opened)?;
     part.stage.close(
         numbers.pairs,
         numbers.ends,

@@ -156,12 +156,14 @@ impl Strips {
 
     /// Cuts all open sites by numbers alone, where those that count as 1 may be 0 at the end: a bit
     /// for each open site, which are listed. What is 0 for good where each zero was known for good
-    /// is 0 by its bit or was known.
+    /// is 0 by its bit or was known. The sites are numbered in the memory of `list`, which holds
+    /// nothing of use afterwards.
     pub fn look_read(
         &mut self,
         numbers: &RiseNumbers,
         known: &[Choice],
         opened: &[u32],
+        list: &mut Vec<u32>,
     ) -> Result<Vec<bool>, AllocError>
         requires readable { AreReadable numbers.now }
         requires count { length known.now ≡ length numbers.now.at.now }
@@ -172,6 +174,7 @@ impl Strips {
             IfOk result (λ bits. AreLeastZeros m.sites (move_value m move f)
             (λ p. choice_of (value_of known.now bits.items p)))) }
     {
+        swap(list, &mut self.room.numbers);
         let to = known.len() as u32;
         let both = cut_read(
             numbers,
@@ -182,6 +185,7 @@ impl Strips {
             &mut self.weights,
             &mut self.room,
         )?;
+        swap(list, &mut self.room.numbers);
         Ok(both.upper)
     }
 
