@@ -1,12 +1,15 @@
--- Opening keeps what is at 0.
-use Rattle.std.proofs.Common.{◌≡◌, ◌↔◌, ℕ, ◌<◌, Bool, true, false, not, List, length, refl, sym, ap, ◌∙◌, inl, inr, arith}
+-- Opening keeps what is at 0, and opens sites of a window alone.
+use Rattle.std.proofs.Common.{◌≡◌, ◌↔◌, ◌⊎◌, ℕ, ◌<◌, ◌≤◌, min, Bool, true, false, not, List, [], length, refl, sym, ap, ◌∙◌, inl, inr, arith}
 use Rattle.std.specs.Prelude.{slice_set}
-use Rattle.std.proofs.lemmas.Bool.{cases_eq}
-use Rattle.std.proofs.lemmas.List.{length-set, get_or-set_same, get_or-set_other}
+use Rattle.std.proofs.lemmas.Bool.{cases_eq, cases_lt}
+use Rattle.std.proofs.lemmas.List.{length-set, get_or-set_same, get_or-set_other, get_or_past}
+use Rattle.deciding.proofs.Skipping.{skipped}
+use Rattle.move_energy.specs.BySite.{IsListing}
 use Rattle.move_energy.specs.declared.choice.Choice.{Choice}
 use Rattle.move_energy.specs.declared.choice.Choice.TheVariants.{Open, Zero, One}
-use Rattle.move_energy.specs.Choices.{choice_at, choice_of, value_of, AreAssigned}
-use Rattle.stages.specs.Working.{KeepsZeros}
+use Rattle.move_energy.specs.Choices.{choice_at, choice_of, is_open, open_at, value_of, AreAssigned, AreOpenSites}
+use Rattle.stages.specs.declared.opening.Window.{Window}
+use Rattle.stages.specs.Working.{KeepsZeros, OpensWithin, LieWithin}
 
 pub keeps_same : (choices : List Choice) → KeepsZeros choices choices
 keeps_same choices = record { count = refl; each = λ p l. ((λ zero. zero), (λ zero. zero)) }
@@ -36,6 +39,73 @@ keeps_opened site old new l was is = record {
         ((λ zero. sym here ∙ zero), (λ zero. here ∙ zero))
   ];
 }
+
+-- ---- a window
+
+pub opens_same : (window : Window) (choices : List Choice) → OpensWithin window choices choices
+opens_same window choices = record { zeros = keeps_same choices; within = λ before. before }
+
+pub opens_then : (window : Window) (first now new : List Choice) → OpensWithin window first now → OpensWithin window now new → OpensWithin window first new
+opens_then window first now new one two = record {
+  zeros = keeps_then first now new one.zeros two.zeros;
+  within = λ before. two.within (one.within before);
+}
+
+-- a site of the window that was not looked at is opened
+pub opens_one : (window : Window) (site : ℕ) (old new : List Choice) → site < length old → choice_at old site ≡ One → window.from ≤ site → site < window.to
+    → new ≡ slice_set old site Open → OpensWithin window old new
+opens_one window site old new l was above below is = record {
+  zeros = keeps_opened site old new l was is;
+  within = λ before p opened. elim (cases_eq p site) [
+    | inl same ↦ (omega (arith, same, above), omega (arith, same, below))
+    | inr other ↦
+        let here : choice_at old p ≡ choice_at new p = sym (ap (λ (xs : List Choice). choice_at xs p) is ∙ get_or-set_other old site p Open Zero other) in
+        before p (ap is_open here ∙ opened)
+  ];
+}
+
+shut_bit : (b : Bool) → is_open (choice_of b) ≡ true → ⊥
+shut_bit true opened = cc (opened)
+shut_bit false opened = cc (opened)
+
+-- once each site has its value, none is open
+pub assigned_within : (window : Window) (old : List Choice) (bits : List Bool) (new : List Choice) → AreAssigned old bits new → LieWithin window new
+assigned_within window old bits new assigned p opened = elim (cases_lt p (length old)) [
+  | inl l ↦ absurd (shut_bit (value_of old bits p) (ap is_open (sym (assigned.each p l)) ∙ opened))
+  | inr past ↦ absurd (let e = sym opened ∙ ap is_open (get_or_past new p Zero (omega (arith, past, assigned.count))) in cc (e))
+]
+
+-- all sites are a window
+pub all_within : (window : Window) (choices : List Choice) → window.from ≡ 0 → window.to ≡ length choices → LieWithin window choices
+all_within window choices first last p opened = elim (cases_lt p (length choices)) [
+  | inl l ↦ (omega (arith, first), omega (arith, last, l))
+  | inr past ↦ absurd (let e = sym opened ∙ ap is_open (get_or_past choices p Zero (omega (arith, past))) in cc (e))
+]
+
+not_open : (b : Bool) → (b ≡ true → ⊥) → b ≡ false
+not_open true none = absurd (none refl)
+not_open false none = refl
+
+-- before the window no site is open
+pub none_before : (window : Window) (choices : List Choice) (n : ℕ) → LieWithin window choices → n ≤ window.from → IsListing (open_at choices) n []
+none_before window choices n within l = skipped (open_at choices) 0 n [] (omega (arith))
+    (λ p from below. not_open (open_at choices p) (λ opened. absurd (let at = within p opened in omega (arith, at.0, below, l)))) refl
+
+-- the lesser of two numbers is one of them
+pub lesser_ends : (n to end : ℕ) → end ≡ min n to → (to ≤ end) ⊎ (n ≤ end)
+lesser_ends n to end is = elim (cases_lt n to) [
+  | inl less ↦ inr (omega (arith, is, less))
+  | inr other ↦ inl (omega (arith, is, other))
+]
+
+-- and behind it none is
+pub none_behind : (window : Window) (choices : List Choice) (end : ℕ) (sites : List ℕ) → LieWithin window choices → end ≤ length choices
+    → (window.to ≤ end) ⊎ (length choices ≤ end) → IsListing (open_at choices) end sites → AreOpenSites choices sites
+none_behind window choices end sites within l all listed = skipped (open_at choices) end (length choices) sites l
+    (λ p from below. not_open (open_at choices p) (λ opened. elim all [
+      | inl to ↦ absurd (let at = within p opened in omega (arith, at.1, from, to))
+      | inr last ↦ absurd (omega (arith, from, below, last))
+    ])) listed
 
 -- ---- what the cut showed
 

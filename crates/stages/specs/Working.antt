@@ -8,8 +8,9 @@ use Rattle.label_field.specs.PairLists.{PairList}
 use Rattle.move_energy.specs.BySite.{degree, pair_of}
 use Rattle.move_energy.specs.declared.choice.Choice.{Choice}
 use Rattle.move_energy.specs.declared.choice.Choice.TheVariants.{Open, Zero}
-use Rattle.move_energy.specs.Choices.{choice_at, value_of, open_count, IsNumbering}
+use Rattle.move_energy.specs.Choices.{choice_at, open_at, value_of, open_count, IsNumbering}
 use Rattle.stages.specs.declared.closing.StageCut.{StageCut}
+use Rattle.stages.specs.declared.opening.Window.{Window}
 use Rattle.stages.specs.declared.stage.Stage.{Stage}
 use Rattle.stages.specs.Looking.{is_marked}
 
@@ -54,6 +55,16 @@ pub record IsMarkedAround (pairs : PairList) (ends : Neighbours) (a : ℕ) (f : 
 pub record KeepsZeros (old new : List Choice) : Type 0 where
   pub count : length new ≡ length old
   pub each : (p : ℕ) → p < length old → choice_at new p ≡ Zero ↔ choice_at old p ≡ Zero
+
+-- each open site is one of the window's
+abbrev pub LieWithin : Window → List Choice → Type 0
+LieWithin window choices =
+    (p : ℕ) → open_at choices p ≡ true → (window.from ≤ p) × (p < window.to)
+
+-- sites of the window may be opened, and the same sites are at 0
+pub record OpensWithin (window : Window) (old new : List Choice) : Type 0 where
+  pub zeros : KeepsZeros old new
+  pub within : LieWithin window old → LieWithin window new
 
 -- ---- taking
 

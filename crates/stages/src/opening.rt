@@ -9,7 +9,7 @@ ghost use Rattle.move_energy.specs.declared.choice.Choice.TheVariants.{Zero};
 ghost use Rattle.move_energy.specs.Choices.{choice_at, choice_of, is_open, open_at, value_of};
 ghost use Rattle.move_energy.specs.Choices.{open_count, AreOpenSites, AreAssigned};
 ghost use Rattle.stages.specs.Looking.{AreTaking};
-ghost use Rattle.stages.specs.Working.{KeepsZeros};
+ghost use Rattle.stages.specs.Working.{KeepsZeros, OpensWithin, LieWithin};
 
 use crate::Stage;
 use crate::stage::other_end;
@@ -84,7 +84,7 @@ pub struct Window {
 /// Opens a site of a window that was not looked at. It answers whether it was one.
 fn open_site(choices: &mut Vec<Choice>, site: u32, window: Window) -> bool
     requires { site < length choices.old.items }
-    ensures { KeepsZeros choices.old.items choices.new.items }
+    ensures { OpensWithin window choices.old.items choices.new.items }
 {
     let opens = match choices[site as usize] {
         Choice::One => window.from <= site && site < window.to,
@@ -99,7 +99,7 @@ fn open_site(choices: &mut Vec<Choice>, site: u32, window: Window) -> bool
 /// Opens those of the sites that are of a window and were not looked at.
 fn open_all(choices: &mut Vec<Choice>, sites: &[u32], window: Window)
     requires { All (λ p. p < length choices.old.items) sites.now }
-    ensures { KeepsZeros choices.old.items choices.new.items }
+    ensures { OpensWithin window choices.old.items choices.new.items }
 {
     for site in sites {
         open_site(choices, *site, window);
@@ -178,15 +178,22 @@ fn list_block(
     Ok(())
 }
 
-/// Lists the open sites. They are few, so that most blocks of sites are passed over at once.
-fn list_open(opened: &mut Vec<u32>, choices: &[Choice]) -> Result<(), AllocError>
-    requires { length choices.now ≤ site_limit }
+/// Lists the open sites, which lie in a window. They are few, so that most blocks of its sites are
+/// passed over at once. No other site is looked at.
+fn list_open(
+    opened: &mut Vec<u32>,
+    choices: &[Choice],
+    window: Window,
+) -> Result<(), AllocError>
+    requires few { length choices.now ≤ site_limit }
+    requires within { LieWithin window choices.now }
     ensures { OnOk result (AreOpenSites choices.now opened.new.items) }
 {
     opened.clear();
-    let mut from = 0;
-    while from < choices.len() {
-        let to = choices.len().min(from + BLOCK);
+    let end = choices.len().min(window.to as usize);
+    let mut from = end.min(window.from as usize);
+    while from < end {
+        let to = end.min(from + BLOCK);
         list_block(opened, choices, from, to)?;
         from = to;
     }
@@ -206,7 +213,7 @@ fn open_beside(
     requires sites { length choices.old.items ≡ pairs.now.sites }
     requires site { site < pairs.now.sites }
     requires inside { All (λ p. p < pairs.now.sites) ring.old.items }
-    ensures zeros { OnOk result (KeepsZeros choices.old.items choices.new.items) }
+    ensures opened { OnOk result (OpensWithin window choices.old.items choices.new.items) }
     ensures inside { OnOk result (All (λ p. p < pairs.now.sites) ring.new.items) }
     ensures more { OnOk result (length ring.old.items ≤ length ring.new.items) }
 {
@@ -232,7 +239,7 @@ fn open_ring(
     requires by_site { AreBySite pairs.now ends.now }
     requires sites { length choices.old.items ≡ pairs.now.sites }
     requires inside { All (λ p. p < pairs.now.sites) ring.old.items }
-    ensures zeros { OnOk result (KeepsZeros choices.old.items choices.new.items) }
+    ensures opened { OnOk result (OpensWithin window choices.old.items choices.new.items) }
     ensures inside { OnOk result (All (λ p. p < pairs.now.sites) ring.new.items) }
 {
     for index in from..ring.len() {
@@ -262,7 +269,7 @@ fn open_rings(
     requires by_site { AreBySite pairs.now ends.now }
     requires sites { length choices.old.items ≡ pairs.now.sites }
     requires inside { All (λ p. p < pairs.now.sites) ring.old.items }
-    ensures zeros { OnOk result (KeepsZeros choices.old.items choices.new.items) }
+    ensures opened { OnOk result (OpensWithin window choices.old.items choices.new.items) }
     ensures inside { OnOk result (All (λ p. p < pairs.now.sites) ring.new.items) }
 {
     let mut from = 0;
@@ -339,12 +346,16 @@ impl Stage {
             most: most_listed(self.front.len(), self.front.len()),
         };
         open_rings(pairs, ends, choices, &mut self.front, rings, window)?;
-        list_open(&mut self.opened, choices)
+        let all = Window {
+            from: 0,
+            to: pairs.sites(),
+        };
+        list_open(&mut self.opened, choices, all)
     }
 
     /// The choices of the next stage: what the cut showed to be 0 is 0 for good; the parts that
     /// hold a fresh site, `front` and rings around it are open as far as they are of a window, and
-    /// all else counts as 1. `opened` lists the open ones.
+    /// all else counts as 1. `opened` lists the open ones. Sites beyond the window are not passed.
     pub fn reopen(
         &mut self,
         choices: &mut Vec<Choice>,
@@ -375,6 +386,6 @@ impl Stage {
             most: most_listed(self.front.len(), self.taking.len() + self.front.len()),
         };
         open_rings(pairs, ends, choices, &mut self.front, rings, window)?;
-        list_open(&mut self.opened, choices)
+        list_open(&mut self.opened, choices, window)
     }
 }

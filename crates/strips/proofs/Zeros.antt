@@ -1,6 +1,6 @@
--- What a cut with all other sites at 1 shows to be 0, where no more is known than zeros.
-use Rattle.std.proofs.Common.{◌≡◌, ◌≢◌, ◌<◌, ◌≤◌, ℕ, List, Bool, true, false, cond, length, refl, sym, ap, ◌∙◌, inl, inr, subst, arith}
-use Rattle.std.specs.Prelude.{slice_index}
+-- What a cut of all open sites shows, where all other sites are fixed.
+use Rattle.std.proofs.Common.{◌≡◌, ◌≢◌, ◌⊎◌, ◌<◌, ◌≤◌, ℕ, ℤ, List, Bool, true, false, cond, length, refl, sym, ap, ◌∙◌, inl, inr, subst, arith}
+use Rattle.std.specs.Prelude.{slice_index, ◌≤ℤ◌}
 use Rattle.std.specs.List.{Contains}
 use Rattle.std.proofs.lemmas.List.Elements.{Contains-get_or}
 use Rattle.labellings.specs.declared.change.Move.{Move}
@@ -14,14 +14,18 @@ use Rattle.move_energy.specs.BySite.{rising_sites}
 use Rattle.move_energy.specs.Choices.{choice_at, choice_of, bit_of, is_open, open_at, open_rank, value_of, AreOpenSites}
 use Rattle.move_energy.proofs.Numbers.{rank_below}
 use Rattle.move_energy.proofs.Opened.{opened_place, opened_count, cases_open}
+use Rattle.deciding.specs.Decisions.{IsSmallestLeast}
+use Rattle.move_rises.specs.Assignments.{IsOver}
 use Rattle.move_rises.specs.MoveValues.{move_value}
 use Rattle.move_rises.proofs.Rising.{move_falls, move_over}
-use Rattle.closing_in.specs.Fixing.{AreLeastZeros}
+use Rattle.closing_in.specs.Fixing.{with_choices, fixed_value, AreLeastZeros}
 use Rattle.closing_in.specs.Agreeing.{or_else}
-use Rattle.closing_in.specs.Strips.{choice_of_bounds}
-use Rattle.closing_in.proofs.Strips.{upper_zeros}
+use Rattle.closing_in.specs.Strips.{Strip, others_at, lower_value}
+use Rattle.closing_in.proofs.Fixing.{fixed_same, ones_bound}
+use Rattle.strips.specs.Looking.{IsStageLeast}
 use Rattle.strips.specs.Sides.{AreBounds}
 use Rattle.strips.specs.Views.{strip_view}
+use Rattle.strips.proofs.Bounding.{inside_length}
 use Rattle.strips.proofs.Views.{view_length, whole_is}
 
 -- a strip of all sites sees what is known
@@ -30,39 +34,80 @@ whole_listed known opened to all listed =
     listed ∙ ap (λ (choice : ℕ → Choice). rising_sites (λ p. is_open (choice p)) (length known)) (sym (whole_is known to all))
     ∙ ap (rising_sites (open_at (strip_view known 0 to))) (sym (view_length known 0 to))
 
-known_zero : (c : Choice) (b : Bool) → c ≢ Open → choice_of (bit_of c b) ≡ Zero → c ≡ Zero
-known_zero Open b shut z = absurd (shut refl)
-known_zero Zero b shut z = refl
-known_zero One b shut z = z
+-- ---- a strip of all open sites fixes no other
 
-open_zero : (c : Choice) (b : Bool) → c ≡ Open → choice_of (bit_of c b) ≡ Zero → b ≡ false
-open_zero Open true h z = absurd (cc (z))
-open_zero Open false h z = refl
-open_zero Zero b h z = absurd (cc (h))
-open_zero One b h z = absurd (cc (h))
+shut_else : (c : Choice) (b : Bool) → c ≢ Open → c ≡ cond b c (or_else c Zero)
+shut_else Open b shut = absurd (shut refl)
+shut_else Zero true shut = refl
+shut_else Zero false shut = refl
+shut_else One true shut = refl
+shut_else One false shut = refl
 
-told_above : (c : Choice) (set above : Bool) → c ≡ Open → set ≡ true → above ≡ false → or_else c (cond set (choice_of_bounds false above) Open) ≡ Zero
-told_above c set above h inside none =
-    ap (λ (d : Choice). or_else d (cond set (choice_of_bounds false above) Open)) h
-    ∙ ap (λ (b : Bool). cond b (choice_of_bounds false above) Open) inside ∙ ap (λ (b : Bool). choice_of_bounds false b) none
+open_inside : (c : Choice) (b : Bool) → b ≡ true → c ≡ cond b c (or_else c Zero)
+open_inside c b inside = ap (λ (set : Bool). cond set c (or_else c Zero)) (sym inside)
 
--- what the upper side shows to be 0 is 0 in the least values
-pub shown_zeros : (m : Instance) (move : Move) (f : ℕ → ℕ) (known : List Choice) (opened : List ℕ) (sides : BothSides) → IsInstance m → IsAllowed m move f
-    → length known ≡ m.sites → AreOpenSites known opened → AreBounds m move f known opened sides
-    → AreLeastZeros m.sites (move_value m move f) (choice_at known)
-    → AreLeastZeros m.sites (move_value m move f) (λ p. choice_of (value_of known sides.upper.items p))
-shown_zeros m move f known opened sides pairs allowed size listed bounds zeros s best p l zero =
-    let strip = bounds.0 in
-    let bits = sides.upper.items in
+-- an open site stands in the list, and so in the strip
+open_listed : (known : List Choice) (opened : List ℕ) (p : ℕ) → AreOpenSites known opened → p < length known → choice_at known p ≡ Open
+    → Contains opened p × (open_rank known p < length opened) × (slice_index opened (open_rank known p) ≡ p)
+open_listed known opened p listed below is_so =
+    let at = opened_place known opened p listed below is_so in
     let rank = open_rank known p in
-    let below : p < length known = omega (arith, l, size) in
-    elim (cases_open (choice_at known p)) [
-      | inl is_so ↦
-          let at = opened_place known opened p listed below is_so in
-          let inside : rank < length opened = omega (arith, rank_below known p (length known) below is_so, opened_count known opened listed) in
-          let set : strip.set p ≡ true = (bounds.1.set p).1 (subst (λ (q : ℕ). Contains opened q) at (Contains-get_or opened rank 0 inside)) in
-          let shown : strip.upper p ≡ assignment bits rank = subst (λ (q : ℕ). strip.upper q ≡ assignment bits rank) at (bounds.1.upper rank inside) in
-          upper_zeros m.sites (move_value m move f) (choice_at known) strip.set strip.upper (move_falls m move f pairs allowed) (move_over m move f pairs) zeros bounds.2.upper
-          s best p l (told_above (choice_at known p) (strip.set p) (strip.upper p) is_so set (shown ∙ open_zero (choice_at known p) (assignment bits rank) is_so zero))
-      | inr shut ↦ zeros s best p l (known_zero (choice_at known p) (assignment bits rank) shut zero)
-    ]
+    let inside : rank < length opened = omega (arith, rank_below known p (length known) below is_so, opened_count known opened listed) in
+    (subst (λ (q : ℕ). Contains opened q) at (Contains-get_or opened rank 0 inside), inside, at)
+
+same_below : (known : List Choice) (opened : List ℕ) (set : ℕ → Bool) (p : ℕ) → AreOpenSites known opened → (Contains opened p → set p ≡ true) → p < length known
+    → choice_at known p ≡ others_at Zero set (choice_at known) p
+same_below known opened set p listed there below = elim (cases_open (choice_at known p)) [
+  | inl is_so ↦ open_inside (choice_at known p) (set p) (there (open_listed known opened p listed below is_so).0)
+  | inr shut ↦ shut_else (choice_at known p) (set p) shut
+]
+
+-- a function that is the same everywhere has the same least assignment with the fewest ones
+least_along : (n : ℕ) (E F : (ℕ → Bool) → ℤ) (s : ℕ → Bool) → ((x : ℕ → Bool) → E x ≡ F x) → IsSmallestLeast n F s → IsSmallestLeast n E s
+least_along n E F s same best = record {
+  least = λ y. subst (λ (v : ℤ). v ≤ℤ E y) (sym (same s)) (subst (λ (v : ℤ). F s ≤ℤ v) (sym (same y)) (best.least y));
+  smallest = λ y is. best.smallest y (sym (same y) ∙ is ∙ same s);
+}
+
+known_bit : (c : Choice) (a b : Bool) → (c ≡ Open → a ≡ b) → bit_of c a ≡ bit_of c b
+known_bit Open a b same = same refl
+known_bit Zero a b same = refl
+known_bit One a b same = refl
+
+open_below : (known : List Choice) (p : ℕ) → choice_at known p ≡ Open → p < length known
+open_below known p is_so = inside_length known p (ap is_open is_so)
+
+-- the lower side of a strip of all open sites is the least values of what is open
+pub shown_least : (m : Instance) (move : Move) (f : ℕ → ℕ) (known : List Choice) (opened : List ℕ) (sides : BothSides) → IsInstance m
+    → length known ≡ m.sites → AreOpenSites known opened → AreBounds m move f known opened sides → IsStageLeast m move f known sides.lower.items
+shown_least m move f known opened sides pairs size listed bounds =
+    let strip = bounds.0 in
+    let E = move_value m move f in
+    let C = choice_at known in
+    let same : (x : ℕ → Bool) → fixed_value E C x ≡ lower_value E C strip.set x = fixed_same m.sites E C (others_at Zero strip.set C) (move_over m move f pairs)
+    (λ p l. same_below known opened strip.set p listed (bounds.1.set p).1 (omega (arith, l, size))) in record {
+      values = strip.lower;
+      least = least_along m.sites (fixed_value E C) (lower_value E C strip.set) strip.lower same bounds.2.lower;
+      shown = λ p. known_bit (C p) (strip.lower p) (assignment sides.lower.items (open_rank known p)) (λ is_so.
+      let l = open_listed known opened p listed (open_below known p is_so) is_so in
+      subst (λ (q : ℕ). strip.lower q ≡ assignment sides.lower.items (open_rank known p)) l.2 (bounds.1.lower (open_rank known p) l.1));
+    }
+
+-- ---- what is 0 in the least values of what is open
+
+zero_bit : (b : Bool) → choice_of b ≡ Zero → b ≡ false
+zero_bit true is = absurd (cc is)
+zero_bit false is = refl
+
+none_of : (b : Bool) → (b ≡ true → ⊥) → b ≡ false
+none_of true h = absurd (h refl)
+none_of false h = refl
+
+-- where each zero was one of the least values of the move, each is that the least values of what is open have
+pub stage_zeros : (m : Instance) (move : Move) (f : ℕ → ℕ) (known : List Choice) (bits : List Bool) → IsInstance m → IsAllowed m move f
+    → IsStageLeast m move f known bits → AreLeastZeros m.sites (move_value m move f) (choice_at known)
+    → AreLeastZeros m.sites (move_value m move f) (λ p. choice_of (value_of known bits p))
+stage_zeros m move f known bits pairs allowed stage zeros s best p l is =
+    let E = move_value m move f in
+    let within = ones_bound m.sites E (choice_at known) s stage.values (move_falls m move f pairs allowed) (move_over m move f pairs) best (zeros s best) stage.least.least in
+    none_of (s p) (λ one. (let shown = sym (stage.shown p) ∙ within p l one in let none = zero_bit (value_of known bits p) is in cc (shown, none)))

@@ -4,6 +4,7 @@ pub mod RowForms
 pub mod Strips
 pub mod Closing
 pub mod Limits
+pub mod Looking
 pub mod Parts
 pub mod Sides
 pub mod Views

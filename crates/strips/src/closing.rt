@@ -21,6 +21,7 @@ ghost use Rattle.move_rises.specs.Savings.{CoversPair, IsTableFrom};
 ghost use Rattle.closing_in.specs.Agreeing.{Agree};
 ghost use Rattle.closing_in.specs.Fixing.{AreLeastZeros};
 ghost use Rattle.strips.specs.Closing.{IsBasisOf, CanClose};
+ghost use Rattle.strips.specs.Looking.{IsStageLeast};
 ghost use Rattle.strips.specs.Parts.{EndsWithStrip};
 ghost use Rattle.strips.specs.Sides.{IsAsTold};
 ghost use Rattle.strips.specs.Views.{IsView, KeepsChosen, strip_view};
@@ -155,9 +156,10 @@ impl Strips {
     }
 
     /// Cuts all open sites by numbers alone, where those that count as 1 may be 0 at the end: a bit
-    /// for each open site, which are listed. What is 0 for good where each zero was known for good
-    /// is 0 by its bit or was known. The sites are numbered in the memory of `list`, which holds
-    /// nothing of use afterwards.
+    /// for each open site, which are listed. The bits and what is known are the least values, with
+    /// the fewest ones, of what is open (`least`). So where each zero was known for good, each zero
+    /// of the bits is one for good (`zeros`). The sites are numbered in the memory of `list`, which
+    /// holds nothing of use afterwards. It refuses only where memory runs out.
     pub fn look_read(
         &mut self,
         numbers: &RiseNumbers,
@@ -169,6 +171,8 @@ impl Strips {
         requires count { length known.now ≡ length numbers.now.at.now }
         requires opened { AreOpenSites known.now opened.now }
         ensures count { IfOk result (λ bits. length bits.items ≡ open_count known.now) }
+        ensures least { WhereRead numbers.now (λ m move f. IsInstance m →
+            IfOk result (λ bits. IsStageLeast m move f known.now bits.items)) }
         ensures zeros { WhereRead numbers.now (λ m move f. IsInstance m →
             AreLeastZeros m.sites (move_value m move f) (choice_at known.now) →
             IfOk result (λ bits. AreLeastZeros m.sites (move_value m move f)
@@ -186,7 +190,7 @@ impl Strips {
             &mut self.room,
         )?;
         swap(list, &mut self.room.numbers);
-        Ok(both.upper)
+        Ok(both.lower)
     }
 
     /// Closes in all strips but the last, so many sites each and what the strip before left open.

@@ -1,10 +1,10 @@
 use Rattle.std.proofs.Common.{◌<◌, ◌≤◌, All, length}
-use Rattle.stages.specs.Working.{KeepsZeros}
+use Rattle.stages.specs.Working.{OpensWithin}
 use Rattle.stages.proofs.opening.open_ring.Given as goal
 
 abbrev pub invariant-loop-index : goal.invariant-loop-index
 invariant-loop-index l = record {
-  zeros : KeepsZeros l.fn.choices.items l.choices.items;
+  opened : OpensWithin l.window l.fn.choices.items l.choices.items;
   inside : All (λ p. p < l.pairs.sites) l.ring.items;
   more : length l.fn.ring.items ≤ length l.ring.items;
 }
