@@ -1,6 +1,8 @@
 -- Opening keeps what is at 0, and opens sites of a window alone.
-use Rattle.std.proofs.Common.{◌≡◌, ◌↔◌, ◌⊎◌, ℕ, ◌<◌, ◌≤◌, min, Bool, true, false, not, List, [], length, refl, sym, ap, ◌∙◌, inl, inr, arith}
-use Rattle.std.specs.Prelude.{slice_set}
+use Rattle.std.proofs.Common.{◌≡◌, ◌↔◌, ◌⊎◌, ℕ, ◌<◌, ◌+◌, ◌≤◌, min, Bool, true, false, not, List, All, [], ◌∷◌, ◌++◌, subst, length, get_or, below_more, refl, sym, ap, ◌∙◌, inl, inr, arith}
+use Rattle.std.specs.Prelude.{slice_index, slice_set}
+use Rattle.std.specs.List.{Contains}
+use Rattle.std.proofs.lemmas.List.Elements.{All-contains, All-get_or, All-from_get_or, Contains-append_left, Contains-push}
 use Rattle.std.proofs.lemmas.Bool.{cases_eq, cases_lt}
 use Rattle.std.proofs.lemmas.List.{length-set, get_or-set_same, get_or-set_other, get_or_past}
 use Rattle.deciding.proofs.Skipping.{skipped}
@@ -9,7 +11,7 @@ use Rattle.move_energy.specs.declared.choice.Choice.{Choice}
 use Rattle.move_energy.specs.declared.choice.Choice.TheVariants.{Open, Zero, One}
 use Rattle.move_energy.specs.Choices.{choice_at, choice_of, is_open, open_at, value_of, AreAssigned, AreOpenSites}
 use Rattle.stages.specs.declared.opening.Window.{Window}
-use Rattle.stages.specs.Working.{KeepsZeros, OpensWithin, LieWithin}
+use Rattle.stages.specs.Working.{KeepsZeros, OpensWithin, LieWithin, WasLookedAt, AreLookedAt}
 
 pub keeps_same : (choices : List Choice) → KeepsZeros choices choices
 keeps_same choices = record { count = refl; each = λ p l. ((λ zero. zero), (λ zero. zero)) }
@@ -43,12 +45,13 @@ keeps_opened site old new l was is = record {
 -- ---- a window
 
 pub opens_same : (window : Window) (choices : List Choice) → OpensWithin window choices choices
-opens_same window choices = record { zeros = keeps_same choices; within = λ before. before }
+opens_same window choices = record { zeros = keeps_same choices; within = λ before. before; looked = λ p was. was }
 
 pub opens_then : (window : Window) (first now new : List Choice) → OpensWithin window first now → OpensWithin window now new → OpensWithin window first new
 opens_then window first now new one two = record {
   zeros = keeps_then first now new one.zeros two.zeros;
   within = λ before. two.within (one.within before);
+  looked = λ p was. two.looked p (one.looked p was);
 }
 
 -- a site of the window that was not looked at is opened
@@ -62,7 +65,69 @@ opens_one window site old new l was above below is = record {
         let here : choice_at old p ≡ choice_at new p = sym (ap (λ (xs : List Choice). choice_at xs p) is ∙ get_or-set_other old site p Open Zero other) in
         before p (ap is_open here ∙ opened)
   ];
+  looked = λ p before one. elim (cases_eq p site) [
+    | inl same ↦
+        let here : choice_at new p ≡ Open = ap (λ (xs : List Choice). choice_at xs p) is ∙ ap (choice_at (slice_set old site Open)) same ∙ get_or-set_same old site Open Zero l in
+        (let e = sym here ∙ one in cc (e))
+    | inr other ↦
+        let here : choice_at old p ≡ choice_at new p = sym (ap (λ (xs : List Choice). choice_at xs p) is ∙ get_or-set_other old site p Open Zero other) in
+        before (here ∙ one)
+  ];
 }
+
+-- each of the first i sites that is of the window was looked at
+abbrev pub AreFirstLookedAt : Window → List ℕ → ℕ → List Choice → Type 0
+AreFirstLookedAt window sites i choices =
+    (k : ℕ) → k < i → window.from ≤ slice_index sites k → slice_index sites k < window.to → WasLookedAt choices (slice_index sites k)
+
+pub looked_more : (window : Window) (sites : List ℕ) (i : ℕ) (now new : List Choice) → AreFirstLookedAt window sites i now → OpensWithin window now new
+    → (window.from ≤ slice_index sites i → slice_index sites i < window.to → WasLookedAt new (slice_index sites i)) → AreFirstLookedAt window sites (i + 1) new
+looked_more window sites i now new before opened here =
+    below_more (λ k. window.from ≤ slice_index sites k → slice_index sites k < window.to → WasLookedAt new (slice_index sites k)) i
+    (λ k l above below. opened.looked (slice_index sites k) (before k l above below)) here
+
+pub looked_all : (window : Window) (sites : List ℕ) (i : ℕ) (choices : List Choice) → length sites ≤ i → AreFirstLookedAt window sites i choices → AreLookedAt window sites choices
+looked_all window sites i choices all each =
+    All-from_get_or (λ p. window.from ≤ p → p < window.to → WasLookedAt choices p) sites 0 (λ k l. each k (omega (arith, l, all)))
+
+-- each of the first i sites was looked at, or is listed
+abbrev pub AreFirstListed : List Choice → List ℕ → ℕ → List ℕ → Type 0
+AreFirstListed choices sites i listed = (k : ℕ) → k < i → WasLookedAt choices (slice_index sites k) ⊎ Contains listed (slice_index sites k)
+
+pub listed_more : (choices : List Choice) (sites : List ℕ) (i : ℕ) (listed new more : List ℕ) → new ≡ listed ++ more → AreFirstListed choices sites i listed
+    → WasLookedAt choices (slice_index sites i) ⊎ Contains new (slice_index sites i) → AreFirstListed choices sites (i + 1) new
+listed_more choices sites i listed new more is before here =
+    below_more (λ k. WasLookedAt choices (slice_index sites k) ⊎ Contains new (slice_index sites k)) i
+    (λ k l. elim (before k l) [
+      | inl was ↦ inl was
+      | inr has ↦ inr (subst (λ (xs : List ℕ). Contains xs (slice_index sites k)) (sym is) (Contains-append_left listed more (slice_index sites k) has))
+    ]) here
+
+pub listed_here : (listed : List ℕ) (site : ℕ) (new : List ℕ) → new ≡ listed ++ site ∷ [] → Contains new site
+listed_here listed site new is = subst (λ (xs : List ℕ). Contains xs site) (sym is) (Contains-push listed site)
+
+-- what is listed and opened, or was looked at before
+pub looked_listed : (window : Window) (sites listed : List ℕ) (first now new : List Choice) → All (λ p. WasLookedAt first p ⊎ Contains listed p) sites
+    → OpensWithin window first now → AreLookedAt window listed now → OpensWithin window now new → AreLookedAt window sites new
+looked_listed window sites listed first now new each opened looked later =
+    All-from_get_or (λ p. window.from ≤ p → p < window.to → WasLookedAt new p) sites 0 (λ k l above below.
+    later.looked (get_or sites k 0) (elim (All-get_or (λ p. WasLookedAt first p ⊎ Contains listed p) sites k 0 l each) [
+      | inl was ↦ opened.looked (get_or sites k 0) was
+      | inr has ↦ All-contains (λ p. window.from ≤ p → p < window.to → WasLookedAt now p) listed (get_or sites k 0) looked has above below
+    ]))
+
+pub looked_later : (window : Window) (sites : List ℕ) (now new : List Choice) → AreLookedAt window sites now → OpensWithin window now new → AreLookedAt window sites new
+looked_later window sites now new looked opened =
+    All-from_get_or (λ p. window.from ≤ p → p < window.to → WasLookedAt new p) sites 0 (λ k l above below.
+    opened.looked (get_or sites k 0) (All-get_or (λ p. window.from ≤ p → p < window.to → WasLookedAt now p) sites k 0 l looked above below))
+
+-- all sites are of the window
+pub looked_whole : (window : Window) (n : ℕ) (sites : List ℕ) (choices : List Choice) → window.from ≡ 0 → window.to ≡ n → All (λ p. p < n) sites
+    → AreLookedAt window sites choices → All (λ p. WasLookedAt choices p) sites
+looked_whole window n sites choices first last inside looked =
+    All-from_get_or (λ p. WasLookedAt choices p) sites 0 (λ k l.
+    All-get_or (λ p. window.from ≤ p → p < window.to → WasLookedAt choices p) sites k 0 l looked (omega (arith, first))
+    (omega (arith, last, All-get_or (λ p. p < n) sites k 0 l inside)))
 
 shut_bit : (b : Bool) → is_open (choice_of b) ≡ true → ⊥
 shut_bit true opened = cc (opened)

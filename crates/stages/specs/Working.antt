@@ -7,7 +7,7 @@ use Rattle.label_field.specs.declared.pair.Pair.{Pair}
 use Rattle.label_field.specs.PairLists.{PairList}
 use Rattle.move_energy.specs.BySite.{degree, pair_of}
 use Rattle.move_energy.specs.declared.choice.Choice.{Choice}
-use Rattle.move_energy.specs.declared.choice.Choice.TheVariants.{Open, Zero}
+use Rattle.move_energy.specs.declared.choice.Choice.TheVariants.{Open, Zero, One}
 use Rattle.move_energy.specs.Choices.{choice_at, open_at, value_of, open_count, IsNumbering}
 use Rattle.stages.specs.declared.closing.StageCut.{StageCut}
 use Rattle.stages.specs.declared.opening.Window.{Window}
@@ -61,10 +61,20 @@ abbrev pub LieWithin : Window → List Choice → Type 0
 LieWithin window choices =
     (p : ℕ) → open_at choices p ≡ true → (window.from ≤ p) × (p < window.to)
 
+-- the site was looked at: it is open, or at 0
+abbrev pub WasLookedAt : List Choice → ℕ → Type 0
+WasLookedAt choices p = choice_at choices p ≢ One
+
+-- those of the sites that are of the window were looked at
+abbrev pub AreLookedAt : Window → List ℕ → List Choice → Type 0
+AreLookedAt window sites choices =
+    All (λ p. window.from ≤ p → p < window.to → WasLookedAt choices p) sites
+
 -- sites of the window may be opened, and the same sites are at 0
 pub record OpensWithin (window : Window) (old new : List Choice) : Type 0 where
   pub zeros : KeepsZeros old new
   pub within : LieWithin window old → LieWithin window new
+  pub looked : (p : ℕ) → WasLookedAt old p → WasLookedAt new p
 
 -- ---- taking
 

@@ -1,15 +1,16 @@
 //! Opening the sites of a stage.
-ghost use Rattle.std.specs.Prelude.{◌≡◌, ◌==◌, ◌↔◌, ◌++◌, ◌∷◌, [], cond, not, ℕ, ◌+◌, ◌<◌, ◌≤◌};
-ghost use Rattle.std.specs.Prelude.{true, false, length, OnOk};
-ghost use Rattle.std.specs.List.{All};
+ghost use Rattle.std.specs.Prelude.{◌≡◌, ◌⊎◌, ◌==◌, ◌↔◌, ◌++◌, ◌∷◌, [], cond, not, ℕ, ◌+◌, ◌<◌, ◌≤◌};
+ghost use Rattle.std.specs.Prelude.{true, false, length, OnOk, IsTrue};
+ghost use Rattle.std.specs.List.{All, Contains};
 ghost use Rattle.label_field.specs.Limits.{site_limit};
 ghost use Rattle.move_energy.specs.BySite.{AreBySite, IsListing};
 ghost use Rattle.labellings.specs.Energies.{labelling};
-ghost use Rattle.move_energy.specs.declared.choice.Choice.TheVariants.{Zero};
+ghost use Rattle.move_energy.specs.declared.choice.Choice.TheVariants.{Zero, One};
 ghost use Rattle.move_energy.specs.Choices.{choice_at, choice_of, is_open, open_at, value_of};
 ghost use Rattle.move_energy.specs.Choices.{open_count, AreOpenSites, AreAssigned};
 ghost use Rattle.stages.specs.Looking.{AreTaking};
-ghost use Rattle.stages.specs.Working.{KeepsZeros, OpensWithin, LieWithin};
+ghost use Rattle.stages.specs.Working.{KeepsZeros, OpensWithin, LieWithin, WasLookedAt};
+ghost use Rattle.stages.specs.Working.{AreLookedAt};
 
 use crate::Stage;
 use crate::stage::other_end;
@@ -84,7 +85,8 @@ pub struct Window {
 /// Opens a site of a window that was not looked at. It answers whether it was one.
 fn open_site(choices: &mut Vec<Choice>, site: u32, window: Window) -> bool
     requires { site < length choices.old.items }
-    ensures { OpensWithin window choices.old.items choices.new.items }
+    ensures opened { OpensWithin window choices.old.items choices.new.items }
+    ensures looked { window.from ≤ site → site < window.to → WasLookedAt choices.new.items site }
 {
     let opens = match choices[site as usize] {
         Choice::One => window.from <= site && site < window.to,
@@ -99,23 +101,36 @@ fn open_site(choices: &mut Vec<Choice>, site: u32, window: Window) -> bool
 /// Opens those of the sites that are of a window and were not looked at.
 fn open_all(choices: &mut Vec<Choice>, sites: &[u32], window: Window)
     requires { All (λ p. p < length choices.old.items) sites.now }
-    ensures { OpensWithin window choices.old.items choices.new.items }
+    ensures opened { OpensWithin window choices.old.items choices.new.items }
+    ensures looked { AreLookedAt window sites.now choices.new.items }
 {
-    for site in sites {
-        open_site(choices, *site, window);
+    for index in 0..sites.len() {
+        open_site(choices, sites[index], window);
+    }
+}
+
+/// Whether a site was not looked at.
+fn is_new(choice: Choice) -> bool
+    ensures { IsTrue result ↔ choice ≡ One }
+{
+    match choice {
+        Choice::One => true,
+        Choice::Open | Choice::Zero => false,
     }
 }
 
 /// Lists those of the sites that were not looked at.
 fn list_new(list: &mut Vec<u32>, choices: &[Choice], sites: &[u32]) -> Result<(), AllocError>
     requires { All (λ p. p < length choices.now) sites.now }
-    ensures { OnOk result (All (λ p. p < length choices.now) list.new.items) }
+    ensures inside { OnOk result (All (λ p. p < length choices.now) list.new.items) }
+    ensures listed { OnOk result
+        (All (λ p. WasLookedAt choices.now p ⊎ Contains list.new.items p) sites.now) }
 {
     list.clear();
-    for site in sites {
-        match choices[*site as usize] {
-            Choice::One => list.push(*site)?,
-            Choice::Open | Choice::Zero => {}
+    for index in 0..sites.len() {
+        let site = sites[index];
+        if is_new(choices[site as usize]) {
+            list.push(site)?;
         }
     }
     Ok(())
@@ -180,11 +195,7 @@ fn list_block(
 
 /// Lists the open sites, which lie in a window. They are few, so that most blocks of its sites are
 /// passed over at once. No other site is looked at.
-fn list_open(
-    opened: &mut Vec<u32>,
-    choices: &[Choice],
-    window: Window,
-) -> Result<(), AllocError>
+fn list_open(opened: &mut Vec<u32>, choices: &[Choice], window: Window) -> Result<(), AllocError>
     requires few { length choices.now ≤ site_limit }
     requires within { LieWithin window choices.now }
     ensures { OnOk result (AreOpenSites choices.now opened.new.items) }
@@ -309,6 +320,8 @@ impl Stage {
         ensures count { OnOk result (length choices.new.items ≡ length at.now) }
         ensures zeros { OnOk result ((p : ℕ) → p < length at.now →
             (choice_at choices.new.items p ≡ Zero ↔ labelling at.now p ≡ alpha)) }
+        ensures looked { OnOk result
+            (All (λ p. WasLookedAt choices.new.items p) self.old.fresh_sites.items) }
         ensures opened { OnOk result (AreOpenSites choices.new.items self.new.opened.items) }
         ensures same { (self.new.fresh ≡ self.old.fresh)
             × (self.new.fresh_sites ≡ self.old.fresh_sites) }
@@ -334,6 +347,8 @@ impl Stage {
         requires sites { length choices.old.items ≡ pairs.now.sites }
         requires inside { All (λ p. p < pairs.now.sites) self.old.fresh_sites.items }
         ensures zeros { OnOk result (KeepsZeros choices.old.items choices.new.items) }
+        ensures looked { OnOk result
+            (AreLookedAt window self.old.fresh_sites.items choices.new.items) }
         ensures opened { OnOk result (AreOpenSites choices.new.items self.new.opened.items) }
         ensures same { (self.new.fresh ≡ self.old.fresh)
             × (self.new.fresh_sites ≡ self.old.fresh_sites) }
@@ -373,6 +388,9 @@ impl Stage {
         ensures zeros { OnOk result ((p : ℕ) → p < length choices.old.items →
             (choice_at choices.new.items p ≡ Zero
             ↔ value_of choices.old.items bits.now p ≡ false)) }
+        ensures taking { OnOk result
+            (AreLookedAt window self.old.taking.items choices.new.items) }
+        ensures front { OnOk result (AreLookedAt window self.old.front.items choices.new.items) }
         ensures opened { OnOk result (AreOpenSites choices.new.items self.new.opened.items) }
         ensures same { (self.new.fresh ≡ self.old.fresh)
             × (self.new.fresh_sites ≡ self.old.fresh_sites) }

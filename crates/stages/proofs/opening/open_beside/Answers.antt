@@ -14,7 +14,7 @@ loop-index-preserved c =
     let ring = c.loop-index.ring.items in
     let invariant = c.loop-index.invariant in
     let inside = other_inside n c.pair_at.result a.site other c.pair_at.ensures.pair c.other_end-other.ensures in
-    let opened = opens_then a.window a.choices.now.items c.loop-index.choices.items c.open_site.new.choices.items invariant.opened c.open_site.ensures in
+    let opened = opens_then a.window a.choices.now.items c.loop-index.choices.items c.open_site.new.choices.items invariant.opened c.open_site.ensures.opened in
     let P : List ℕ → Type 0 = λ xs. All (λ p. p < n) xs in
     elim c.if-open_site.branch [
       | then-open_site+in_ok-push w ↦

@@ -14,11 +14,11 @@ loop-preserved c =
     let A : List ℕ → Type 0 = λ xs. All (λ p. p < a.pairs.now.sites) xs in
     elim c.if-to-rings.branch [
       | then-to-rings+in_ok-open_ring w ↦ record {
-          opened = subst O (sym (ap (λ (v : _). v.items) w.choices-is)) (opens_then a.window first c.loop.choices.items _ invariant.opened w.in_ok-open_ring.ensures.opened);
-          inside = subst A (sym (ap (λ (v : _). v.items) w.ring-is)) w.in_ok-open_ring.ensures.inside;
-        }
+        opened = subst O (sym (ap (λ (v : _). v.items) w.choices-is)) (opens_then a.window first c.loop.choices.items _ invariant.opened w.in_ok-open_ring.ensures.opened);
+        inside = subst A (sym (ap (λ (v : _). v.items) w.ring-is)) w.in_ok-open_ring.ensures.inside;
+      }
       | else-to-rings w ↦ record {
-          opened = subst O (sym (ap (λ (v : _). v.items) w.choices-is)) invariant.opened;
-          inside = subst A (sym (ap (λ (v : _). v.items) w.ring-is)) invariant.inside;
-        }
+        opened = subst O (sym (ap (λ (v : _). v.items) w.choices-is)) invariant.opened;
+        inside = subst A (sym (ap (λ (v : _). v.items) w.ring-is)) invariant.inside;
+      }
     ]
