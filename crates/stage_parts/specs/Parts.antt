@@ -1,6 +1,6 @@
 -- Parts of the sites that look by themselves, and what is kept while they do.
 use Rattle.std.specs.Prelude.{◌≡◌, ℕ, ◌<◌, ◌+◌, ◌-◌, ◌*◌, Bool, false, List, length, [], min}
-use Rattle.std.specs.Prelude.{slice_index}
+use Rattle.std.specs.Prelude.{slice_index, ◌&&◌, nat_le, nat_lt}
 use Rattle.std.specs.List.{All}
 use Rattle.label_field.specs.PairLists.{PairList}
 use Rattle.labellings.specs.declared.change.Move.{Move}
@@ -14,12 +14,17 @@ use Rattle.move_rises.specs.MoveValues.{move_value}
 use Rattle.deciding.specs.Parts.{WhereRead}
 use Rattle.move_rises.specs.declared.move_to_find.RiseNumbers.{RiseNumbers}
 use Rattle.closing_in.specs.Fixing.{AreLeastZeros}
+use Rattle.stages.specs.declared.opening.Window.{Window}
 use Rattle.stage_parts.specs.declared.part.Part.{Part}
 use Rattle.stage_parts.specs.declared.windows.PartSizes.{PartSizes}
 
 -- the first of n sites that a part sees
 abbrev pub seen_start : ℕ → PartSizes → ℕ → ℕ
 seen_start n sizes part = min (part * sizes.own) n - sizes.beyond
+
+-- is the site of the window?
+abbrev pub is_of : Window → ℕ → Bool
+is_of window p = nat_le window.from p && nat_lt p window.to
 
 -- a stage of a part can be cut: its choices are of the sites, and its open sites are listed
 pub record IsPartReady (pairs : PairList) (ends : Neighbours) (part : Part) : Type 0 where

@@ -1,7 +1,8 @@
 //! The sites of a part, and those that it sees.
-ghost use Rattle.std.specs.Prelude.{◌≡◌, ◌*◌, ◌-◌, ◌<◌, ◌≤◌, ℕ, All, min, IfOk};
+ghost use Rattle.std.specs.Prelude.{◌≡◌, ◌*◌, ◌-◌, ◌<◌, ◌≤◌, min, filter, IfOk};
+ghost use Rattle.std.specs.List.{list_any};
 ghost use Rattle.label_field.specs.Limits.{site_limit};
-ghost use Rattle.stage_parts.specs.Parts.{seen_start};
+ghost use Rattle.stage_parts.specs.Parts.{seen_start, is_of};
 
 use stages::Window;
 use std::alloc::{AllocError, Global};
@@ -40,19 +41,22 @@ pub(crate) fn seen_window(sites: u32, sizes: PartSizes, part: usize) -> Window
 }
 
 /// Whether a site is of a window.
-fn is_within(site: u32, window: Window) -> bool {
+fn is_within(site: u32, window: Window) -> bool
+    ensures { result ≡ is_of window site }
+{
     window.from <= site && site < window.to
 }
 
 /// Whether one of the sites is of a window.
-pub(crate) fn has_within(sites: &[u32], window: Window) -> bool {
-    let mut any = false;
-    for site in sites {
-        if is_within(*site, window) {
-            any = true;
+pub(crate) fn has_within(sites: &[u32], window: Window) -> bool
+    ensures { result ≡ list_any (is_of window) sites.now }
+{
+    for index in 0..sites.len() {
+        if is_within(sites[index], window) {
+            return true;
         }
     }
-    any
+    false
 }
 
 /// Those of the sites that are of a window.
@@ -61,13 +65,13 @@ pub(crate) fn list_within(
     sites: &[u32],
     window: Window,
 ) -> Result<Vec<u32>, AllocError>
-    ensures { IfOk result (λ list. (n : ℕ) →
-        All (λ p. p < n) sites.now → All (λ p. p < n) list.items) }
+    ensures { IfOk result (λ list. list.items ≡ filter (is_of window) sites.now) }
 {
     let mut list = Vec::new(alloc);
-    for site in sites {
-        if is_within(*site, window) {
-            list.push(*site)?;
+    for index in 0..sites.len() {
+        let site = sites[index];
+        if is_within(site, window) {
+            list.push(site)?;
         }
     }
     Ok(list)

@@ -1,4 +1,4 @@
-use Rattle.std.proofs.Common.{◌≡◌, ◌∙◌, ℕ, List, Result, length, sym, ap, subst, IfOk, arith}
+use Rattle.std.proofs.Common.{◌∙◌, ℕ, List, Result, length, sym, ap, subst, IfOk, arith}
 use Rattle.stage_parts.specs.Parts.{AreZeroCodes, seen_start}
 use Rattle.stage_parts.proofs.Codes.{zeros_joined}
 use Rattle.stage_parts.proofs.join.join_parts.Goals as goal

@@ -1,4 +1,4 @@
-use Rattle.std.proofs.Common.{◌≡◌, ◌∙◌, ℕ, List, Result, length, sym, subst}
+use Rattle.std.proofs.Common.{◌∙◌, ℕ, List, Result, length, sym, subst}
 use Rattle.std.specs.Global.{Vec}
 use Rattle.std.specs.declared.alloc.AllocError.{AllocError}
 use Rattle.labellings.specs.Energies.{labelling}

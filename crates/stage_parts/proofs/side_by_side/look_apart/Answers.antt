@@ -1,12 +1,18 @@
-use Rattle.std.proofs.Common.{◌≡◌, ◌+◌, ◌<◌, ℕ, List, length, sym, subst, arith}
+use Rattle.std.proofs.Common.{◌≡◌, ◌+◌, ◌<◌, ℕ, List, All, length, sym, subst, arith}
 use Rattle.std.specs.Prelude.{slice_index}
 use Rattle.labellings.specs.Energies.{labelling}
 use Rattle.move_energy.specs.declared.choice.Choice.{Choice}
 use Rattle.move_energy.specs.declared.choice.Choice.TheVariants.{Zero}
 use Rattle.move_energy.specs.Choices.{choice_at}
-use Rattle.stage_parts.specs.Parts.{AreZerosOf, AreZeroCodes}
+use Rattle.std.proofs.lemmas.List.Elements.{All-filter}
+use Rattle.stage_parts.specs.Parts.{AreZerosOf, AreZeroCodes, is_of}
 use Rattle.stage_parts.proofs.Codes.{if_ok_map}
 use Rattle.stage_parts.proofs.side_by_side.look_apart.Goals as goal
+
+pub begin_part-requires-clause-inside : goal.begin_part-requires-clause-inside
+begin_part-requires-clause-inside c =
+    let P : ℕ → Type 0 = λ p. p < c.args.numbers.now.pairs.now.sites in
+    subst (λ (xs : List ℕ). All P xs) (sym c.in_ok-own_fresh.ensures) (All-filter (is_of c.args.own) P c.args.fresh.now c.requires.inside)
 
 pub returns : goal.returns
 returns c = record {

@@ -1,4 +1,4 @@
-use Rattle.std.proofs.Common.{◌≡◌, ◌∙◌, ℕ, ap}
+use Rattle.std.proofs.Common.{◌∙◌, ℕ, ap}
 use Rattle.stage_parts.specs.Parts.{seen_start}
 use Rattle.stage_parts.proofs.Codes.{part_found}
 use Rattle.stage_parts.proofs.side_by_side.fn.look_each.do_parts.Goals as goal
