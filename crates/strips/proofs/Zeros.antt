@@ -103,7 +103,8 @@ none_of : (b : Bool) → (b ≡ true → ⊥) → b ≡ false
 none_of true h = absurd (h refl)
 none_of false h = refl
 
--- where each zero was one of the least values of the move, each is that the least values of what is open have
+-- where each zero was one of the least values of the move, so is each zero of the least values of
+-- what is open
 pub stage_zeros : (m : Instance) (move : Move) (f : ℕ → ℕ) (known : List Choice) (bits : List Bool) → IsInstance m → IsAllowed m move f
     → IsStageLeast m move f known bits → AreLeastZeros m.sites (move_value m move f) (choice_at known)
     → AreLeastZeros m.sites (move_value m move f) (λ p. choice_of (value_of known bits p))
