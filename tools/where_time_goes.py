@@ -27,7 +27,13 @@ PARTS = [
     ("pairs", ("label_field", "grouping")),
     ("costs", ("cost_store", "vision", "run_options", "labellings", "rayon")),
     ("deciding", ("move_rises", "deciding", "stages", "closing_in")),
-    ("building", ("move_energy", "strips", "pseudo_bool", "regular", "compile_cut", "sums")),
+    (
+        "building",
+        (
+            "move_energy", "label_terms", "strips", "pseudo_bool", "regular", "compile_cut",
+            "sums",
+        ),
+    ),
     ("cutting", ("plain_cut", "solvers", "sink_distances", "flow_network", "side_tests")),
     (
         "cutting by workers",

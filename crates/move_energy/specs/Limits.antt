@@ -2,12 +2,6 @@
 use Rattle.std.specs.Prelude.{ℕ, ◌*◌, ◌^◌}
 use Rattle.cost_store.specs.Limits.{pair_cost_limit}
 
--- the most terms that one label's cost comes to: the greatest cost at 2^20 nodes and once more is
--- at most 10,486 times the greatest number of a term, and those of 256 labels leave room for the
--- terms of 2^20 sites and 2^22 pairs
-abbrev pub label_terms : ℕ
-label_terms = 10486
-
 -- the greatest surplus of a pair, 2 * 10^7: what two of its costs are together
 abbrev pub surplus_limit : ℕ
 surplus_limit = 2 * pair_cost_limit

@@ -1,23 +1,19 @@
 -- The names that the clauses of this crate cite, passed on from one place. Declares nothing.
 pub use Rattle.compile_cut.specs.Quadratics.{IsQuadraticBounded, IsConstant}
 pub use Rattle.compile_cut.specs.Weights.{weights_size}
-pub use Rattle.cost_store.specs.Limits.{pair_cost_limit, label_cost_limit}
+pub use Rattle.cost_store.specs.Limits.{pair_cost_limit}
 pub use Rattle.cost_store.specs.Posed.{IsPosed, IsAsked, WhereMeant}
 pub use Rattle.cost_store.specs.Promises.{IsCost}
-pub use Rattle.label_field.specs.Limits.{site_limit, pair_limit, weight_limit, label_limit}
+pub use Rattle.label_field.specs.Limits.{site_limit, pair_limit, weight_limit}
 pub use Rattle.label_field.specs.PairLists.{IsPair}
 pub use Rattle.labellings.specs.Energies.{labelling}
 pub use Rattle.labellings.specs.Moves.{IsMoveOf, label_after, IsRegularPair, IsAllowed}
-pub use Rattle.labellings.specs.declared.change.Move.TheVariants.{Expand}
 pub use Rattle.move_energy.specs.Added.{added_by_pair, open_met, IsRightFor}
 pub use Rattle.move_energy.specs.Built.{label_given, AddsCost, IsLonger, IsBuilt, AddsEnds}
 pub use Rattle.move_energy.specs.BySite.{AreBySite, is_counted, met_at}
 pub use Rattle.move_energy.specs.Choices.{open_count, AreAllOpen, IsNumbering, choice_at, open_at}
 pub use Rattle.move_energy.specs.Choices.{made_by}
-pub use Rattle.move_energy.specs.Expansions.{has_label, takes_label, IsOpenExpansion}
-pub use Rattle.move_energy.specs.Expansions.{HasRoomForLabel}
-pub use Rattle.move_energy.specs.LabelCosts.{costs_below, AddsHidden, GrowsBy, nodes_of}
-pub use Rattle.move_energy.specs.Limits.{surplus_limit, label_terms, form_weights_limit}
+pub use Rattle.move_energy.specs.Limits.{surplus_limit, form_weights_limit}
 pub use Rattle.move_energy.specs.OpenMoves.{IsValuedMove, IsNumberedMove, WhereNumbered}
 pub use Rattle.move_energy.specs.OpenMoves.{HasFormOfOpen, IsFormOfOpen, HasOpenNodes}
 pub use Rattle.move_energy.specs.OpenMoves.{AreSitesListed, IsAllowedFrom, AreWeightsOf}

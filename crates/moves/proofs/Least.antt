@@ -17,7 +17,7 @@ use Rattle.compile_cut.specs.declared.quadratic.Quadratic.{Quadratic}
 use Rattle.compile_cut.specs.Quadratics.{quadratic_value}
 use Rattle.compile_cut.specs.Shown.{Hides}
 use Rattle.cost_store.specs.LabelCosts.{cost_at}
-use Rattle.move_energy.specs.LabelCosts.{AreCostsOf, costs_below, AddsHidden}
+use Rattle.label_terms.specs.LabelCosts.{AreCostsOf, costs_below, AddsHidden}
 use Rattle.deciding.proofs.Hiding.{hidden_least}
 use Rattle.move_energy.specs.declared.choice.Choice.{Choice}
 use Rattle.move_energy.specs.declared.choice.Choice.TheVariants.{Open, Zero as DecidedZero, One as DecidedOne}

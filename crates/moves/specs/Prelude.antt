@@ -21,7 +21,7 @@ pub use Rattle.labellings.specs.declared.change.Move.TheVariants.{Expand, Swap}
 pub use Rattle.labellings.specs.declared.cycles.Moves.TheVariants.{Expansion}
 pub use Rattle.move_energy.specs.BySite.{AreBySite, is_counted, met_at}
 pub use Rattle.move_energy.specs.Choices.{choice_at, value_of, open_count, IsNumbering}
-pub use Rattle.move_energy.specs.LabelCosts.{AreCostsOf}
+pub use Rattle.label_terms.specs.LabelCosts.{AreCostsOf}
 pub use Rattle.move_energy.specs.OpenMoves.{IsValuedMove, IsAllowedFrom, AreSitesListed}
 pub use Rattle.move_energy.specs.Problems.{IsPrepareRefusal}
 pub use Rattle.move_energy.specs.declared.choice.Choice.TheVariants.{Zero}

@@ -1,7 +1,7 @@
 use Rattle.std.proofs.Common.{ℕ, List, ℤ, sym, subst}
 use Rattle.labellings.specs.declared.change.Move.{Move}
 use Rattle.labellings.specs.declared.change.Move.TheVariants.{Expand}
-use Rattle.move_energy.specs.LabelCosts.{AreCostsOf}
+use Rattle.label_terms.specs.LabelCosts.{AreCostsOf}
 use Rattle.cost_store.specs.LabelCosts.{costs_of, AreCosts, AreCostly, AreFree}
 use Rattle.moves.specs.LabelCosts.{IsFreeFor}
 use Rattle.moves.specs.Building.{IsBuiltMove}

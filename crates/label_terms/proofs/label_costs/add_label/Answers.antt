@@ -1,9 +1,9 @@
 use Rattle.std.proofs.Common.{ℕ, sym, subst}
 use Rattle.std.proofs.lemmas.Result.{on_ok_weaker}
 use Rattle.sums.specs.Sums.{count_if}
-use Rattle.move_energy.specs.LabelCosts.{uses, AddsHidden}
-use Rattle.move_energy.proofs.Costing.{adds_fixed, none_paid}
-use Rattle.move_energy.proofs.label_costs.add_label.Goals as goal
+use Rattle.label_terms.specs.LabelCosts.{uses, AddsHidden}
+use Rattle.label_terms.proofs.Costing.{adds_fixed, none_paid}
+use Rattle.label_terms.proofs.label_costs.add_label.Goals as goal
 
 pub returns-then-cost-eq0-clause-adds : goal.returns-then-cost-eq0-clause-adds
 returns-then-cost-eq0-clause-adds c =

@@ -5,9 +5,9 @@ use Rattle.labellings.specs.declared.change.Move.TheVariants.{Expand}
 use Rattle.labellings.specs.Energies.{labelling, is_used}
 use Rattle.compile_cut.specs.declared.quadratic.Quadratic.{Quadratic}
 use Rattle.compile_cut.specs.Quadratics.{HasRoomForTerm}
-use Rattle.move_energy.specs.declared.label_costs.Expansion.{Expansion}
+use Rattle.label_terms.specs.declared.label_costs.Expansion.{Expansion}
 use Rattle.move_energy.specs.Choices.{open_count, AreAllOpen, IsNumbering}
-use Rattle.move_energy.specs.LabelCosts.{uses}
+use Rattle.label_terms.specs.LabelCosts.{uses}
 
 -- of few sites exactly those that the expansion can change are open, and they are numbered
 pub record IsOpenExpansion (e : Expansion) : Type 0 where

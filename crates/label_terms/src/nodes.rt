@@ -1,8 +1,8 @@
 //! The nodes of sites.
 ghost use Rattle.std.specs.Prelude.{◌≡◌, ◌==◌, ◌<◌, ℕ, true, length, OnOk};
-ghost use Rattle.move_energy.specs.Prelude.{labelling, Open, choice_at, IsNumbering, nodes_of};
+ghost use Rattle.label_terms.specs.Prelude.{labelling, Open, choice_at, IsNumbering, nodes_of};
 
-use crate::Variables;
+use move_energy::Variables;
 use std::alloc::AllocError;
 
 /// The nodes of the sites that have the label, each of which is open.

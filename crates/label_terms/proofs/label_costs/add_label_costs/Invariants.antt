@@ -1,7 +1,7 @@
 use Rattle.std.proofs.Common.{◌*◌}
-use Rattle.move_energy.specs.Limits.{label_terms}
-use Rattle.move_energy.specs.LabelCosts.{costs_below, AddsHidden, GrowsBy}
-use Rattle.move_energy.proofs.label_costs.add_label_costs.Given as goal
+use Rattle.label_terms.specs.Limits.{label_terms}
+use Rattle.label_terms.specs.LabelCosts.{costs_below, AddsHidden, GrowsBy}
+use Rattle.label_terms.proofs.label_costs.add_label_costs.Given as goal
 
 abbrev pub invariant-loop-label : goal.invariant-loop-label
 invariant-loop-label l = record {

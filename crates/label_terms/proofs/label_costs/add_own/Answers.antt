@@ -8,10 +8,10 @@ use Rattle.compile_cut.specs.Quadratics.{AddsLeast, IsTied}
 use Rattle.move_energy.specs.declared.choice.Choice.TheVariants.{Open}
 use Rattle.move_energy.specs.Choices.{choice_at, open_count}
 use Rattle.move_energy.proofs.Adding.{on_ok_both}
-use Rattle.move_energy.specs.LabelCosts.{nodes_of, uses, AddsHidden}
-use Rattle.move_energy.proofs.Uses.{own_used, used_already, used_nowhere, nodes_below, nodes_most, open_where, made_at}
-use Rattle.move_energy.proofs.Costing.{adds_fixed, adds_tied, wider_tied}
-use Rattle.move_energy.proofs.label_costs.add_own.Goals as goal
+use Rattle.label_terms.specs.LabelCosts.{nodes_of, uses, AddsHidden}
+use Rattle.label_terms.proofs.Uses.{own_used, used_already, used_nowhere, nodes_below, nodes_most, open_where, made_at}
+use Rattle.label_terms.proofs.Costing.{adds_fixed, adds_tied, wider_tied}
+use Rattle.label_terms.proofs.label_costs.add_own.Goals as goal
 
 pub returns-then-used-clause-adds : goal.returns-then-used-clause-adds
 returns-then-used-clause-adds c =

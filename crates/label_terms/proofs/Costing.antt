@@ -9,7 +9,7 @@ use Rattle.compile_cut.specs.Quadratics.{quadratic_value, IsQuadraticBounded, Ad
 use Rattle.compile_cut.proofs.TermLemmas.{bounded-weaker}
 use Rattle.move_energy.specs.declared.choice.Choice.{Choice}
 use Rattle.cost_store.specs.LabelCosts.{cost_at}
-use Rattle.move_energy.specs.LabelCosts.{uses, costs_below, AddsHidden, GrowsBy}
+use Rattle.label_terms.specs.LabelCosts.{uses, costs_below, AddsHidden, GrowsBy}
 
 -- nothing is added, and the cost is fixed
 fixed_lower : (v : ℤ) (c fixed : ℕ) → c ≡ fixed → (v +ℤ pos c) ≤ℤ (v +ℤ pos fixed)

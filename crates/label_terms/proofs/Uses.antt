@@ -14,7 +14,7 @@ use Rattle.move_energy.specs.declared.choice.Choice.TheVariants.{Open}
 use Rattle.move_energy.proofs.Values.{bit_same}
 use Rattle.move_energy.specs.Choices.{bit_of, choice_at, open_rank, open_count, made_by, AreAllOpen}
 use Rattle.move_energy.proofs.Numbers.{rank_below}
-use Rattle.move_energy.specs.LabelCosts.{nodes_of, uses}
+use Rattle.label_terms.specs.LabelCosts.{nodes_of, uses}
 
 -- the label that a site gets
 abbrev pub made_at : ℕ → (ℕ → ℕ) → List Choice → (ℕ → Bool) → ℕ → ℕ

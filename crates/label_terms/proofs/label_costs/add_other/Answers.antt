@@ -7,11 +7,11 @@ use Rattle.labellings.specs.Energies.{labelling, is_used as is_used_in}
 use Rattle.compile_cut.specs.Quadratics.{AddsLeast, IsTied}
 use Rattle.move_energy.specs.Choices.{open_count}
 use Rattle.move_energy.proofs.Adding.{on_ok_both}
-use Rattle.move_energy.specs.LabelCosts.{nodes_of, uses, AddsHidden}
-use Rattle.move_energy.proofs.Uses.{other_used, used_nowhere, never_used, nodes_below, nodes_most, open_where}
-use Rattle.move_energy.proofs.Costing.{adds_fixed, adds_tied, wider_tied}
+use Rattle.label_terms.specs.LabelCosts.{nodes_of, uses, AddsHidden}
+use Rattle.label_terms.proofs.Uses.{other_used, used_nowhere, never_used, nodes_below, nodes_most, open_where}
+use Rattle.label_terms.proofs.Costing.{adds_fixed, adds_tied, wider_tied}
 use Rattle.labellings.proofs.Energy.{is_equal}
-use Rattle.move_energy.proofs.label_costs.add_other.Goals as goal
+use Rattle.label_terms.proofs.label_costs.add_other.Goals as goal
 
 pub returns-then-not-used-clause-adds : goal.returns-then-not-used-clause-adds
 returns-then-not-used-clause-adds c =

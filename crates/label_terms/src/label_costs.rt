@@ -1,16 +1,16 @@
 //! What labels cost by themselves, added to the form of an expansion.
 ghost use Rattle.std.specs.Prelude.{◌≡◌, ◌≢◌, ◌+◌, ◌≤◌, pos, All, length, vec_len};
 ghost use Rattle.std.specs.Prelude.{OnOk};
-ghost use Rattle.move_energy.specs.Prelude.{count_if, site_limit, pair_limit, label_limit, Expand};
-ghost use Rattle.move_energy.specs.Prelude.{term_limit, IsQuadraticBounded, IsCost, open_count};
-ghost use Rattle.move_energy.specs.Prelude.{AreAllOpen, IsNumbering, label_cost_limit, label_terms};
-ghost use Rattle.move_energy.specs.Prelude.{costs_below, AddsHidden, GrowsBy, has_label};
-ghost use Rattle.move_energy.specs.Prelude.{takes_label, IsOpenExpansion, HasRoomForLabel};
+ghost use Rattle.label_terms.specs.Prelude.{count_if, site_limit, pair_limit, label_limit, Expand};
+ghost use Rattle.label_terms.specs.Prelude.{term_limit, IsQuadraticBounded, IsCost, open_count};
+ghost use Rattle.label_terms.specs.Prelude.{AreAllOpen, IsNumbering, label_cost_limit, label_terms};
+ghost use Rattle.label_terms.specs.Prelude.{costs_below, AddsHidden, GrowsBy, has_label};
+ghost use Rattle.label_terms.specs.Prelude.{takes_label, IsOpenExpansion, HasRoomForLabel};
 
-use crate::Variables;
 use crate::nodes::{list_each, list_having};
 use compile_cut::Quadratic;
 use cost_store::mark_used;
+use move_energy::Variables;
 use std::alloc::{AllocError, Global};
 
 /// An expansion of which nothing is decided: the variables of its sites, the labels that it begins

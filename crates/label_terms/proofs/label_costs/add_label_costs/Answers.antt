@@ -5,10 +5,10 @@ use Rattle.compile_cut.specs.Shown.{Shows}
 use Rattle.compile_cut.proofs.TermLemmas.{bounded-weaker}
 use Rattle.move_energy.proofs.Numbers.{rank_most}
 use Rattle.cost_store.specs.LabelCosts.{cost_at}
-use Rattle.move_energy.specs.LabelCosts.{uses, costs_below}
-use Rattle.move_energy.proofs.Uses.{uses_same}
-use Rattle.move_energy.proofs.Costing.{adds_fixed, adds_both, adds_along, wider_none, wider_more, more_costs}
-use Rattle.move_energy.proofs.label_costs.add_label_costs.Goals as goal
+use Rattle.label_terms.specs.LabelCosts.{uses, costs_below}
+use Rattle.label_terms.proofs.Uses.{uses_same}
+use Rattle.label_terms.proofs.Costing.{adds_fixed, adds_both, adds_along, wider_none, wider_more, more_costs}
+use Rattle.label_terms.proofs.label_costs.add_label_costs.Goals as goal
 
 pub loop-label-init : goal.loop-label-init
 loop-label-init c = record {

@@ -1,0 +1,4 @@
+pub mod Limits
+pub mod LabelCosts
+pub mod Expansions
+pub mod Prelude
