@@ -6,7 +6,7 @@ use Rattle.compile_cut.specs.Quadratics.{quadratic_value}
 use Rattle.move_energy.specs.Choices.{choice_at, open_rank, StandsFor}
 use Rattle.cost_store.proofs.Meaning.{pairs_meant}
 use Rattle.deciding.specs.Decisions.{IsSmallestLeast}
-use Rattle.moves.specs.Stages.{IsStageLeast}
+use Rattle.strips.specs.Looking.{IsStageLeast}
 use Rattle.moves.proofs.Stages.{stage_least, if_ok_map}
 use Rattle.moves.proofs.stage_cut.cut_stage.Goals as goal
 
