@@ -4,9 +4,14 @@
     python3 tools/edit_times.py [CRATE ..]
 
 To be run at the top of the repository, where the crates below those that are asked for are proved; with no
-name it takes each crate that has edits. It runs `rt must-fail --anew CRATE` with one lane (RT_JOBS=1), which
-proves the crate as it stands, tries its edits over that one after the other, by name, and at the end the crate
-without an edit once more. A crate's one edit is tried from nothing, and its seconds hold a proof of the whole.
+name it takes each crate that has edits. It runs `rt must-fail` with one lane (RT_JOBS=1), which tries the edits
+of a crate one after the other, by name, each over what the checks before it proved, and at the end the crate
+without an edit.
+
+Kits from rattle-kit-13f on keep what passed, and prove the crate as it stands before its edits. They are asked
+to use nothing that was kept (--anew). An older kit knows no such flag, and begins with the first edit: that one
+proves the whole crate as well. So its row says `with the crate`, and neither the sum, the mean nor `dear` counts
+it. Under each kit a crate's one edit is tried from nothing, and its seconds hold a proof of the whole.
 
 The seconds of one check are those by which the finished children of that command grew. They are read from
 /proc while it runs, so this works on Linux alone. `dear` stands behind an edit that takes more than 30 seconds,
@@ -16,6 +21,7 @@ or where a refusal says little (a proof file names what the edit took away).
 
 import os
 import re
+import resource
 import subprocess
 import sys
 import tempfile
@@ -23,10 +29,19 @@ import time
 
 PAUSE = 0.05
 LEAST = 1.0
+# The first kit that keeps what passed, which it leaves unused under --anew.
+KEEPS_WHAT_PASSED = (13, "f")
 # The most processor seconds of an edit, of a crate's edits together, and of all edits.
 EDIT_SECONDS = 30
 CRATE_SECONDS = 5 * 60
 ALL_SECONDS = 75 * 60
+
+
+def keeps_what_passed():
+    """Whether the kit keeps what passed. Such a kit proves a crate before it tries the crate's edits."""
+    said = subprocess.run(["rt", "version"], stdout=subprocess.PIPE, encoding="utf-8", check=True).stdout
+    named = re.search(r"\brattle-kit-(\d+)([a-z]*)", said)
+    return not named or (int(named.group(1)), named.group(2)) >= KEEPS_WHAT_PASSED
 
 
 def edits_of(crate):
@@ -36,28 +51,39 @@ def edits_of(crate):
     return sorted(name for name in found if name.endswith(".edit"))
 
 
-def seconds_of_children(process):
-    """The processor seconds of all children of a process that have ended."""
+def seconds_of(process):
+    """The processor seconds of a process itself, and of all its children that have ended."""
     try:
         with open(f"/proc/{process}/stat", encoding="ascii", errors="replace") as stat:
             fields = stat.read().rpartition(")")[2].split()
     except OSError:
         return None
-    return (int(fields[13]) + int(fields[14])) / os.sysconf("SC_CLK_TCK")
+    ticks = os.sysconf("SC_CLK_TCK")
+    return (int(fields[11]) + int(fields[12])) / ticks, (int(fields[13]) + int(fields[14])) / ticks
+
+
+def seconds_of_ended():
+    """The processor seconds of all commands that have ended here, and of their children."""
+    usage = resource.getrusage(resource.RUSAGE_CHILDREN)
+    return usage.ru_utime + usage.ru_stime
 
 
 def watched(command):
     """Runs a command. Gives what it wrote, and the processor seconds of each child that took a while."""
-    spent, before = [], 0.0
+    spent, itself, before, start = [], 0.0, 0.0, seconds_of_ended()
     with tempfile.TemporaryFile("w+", encoding="utf-8", errors="replace") as out:
         how = {"stdout": out, "stderr": subprocess.STDOUT, "stdin": subprocess.DEVNULL}
         with subprocess.Popen(command, env={**os.environ, "RT_JOBS": "1"}, **how) as run:
             while run.poll() is None:
-                now = seconds_of_children(run.pid)
-                if now is not None and now - before >= LEAST:
+                itself, now = seconds_of(run.pid) or (itself, before)
+                if now - before >= LEAST:
                     spent.append(now - before)
                     before = now
                 time.sleep(PAUSE)
+        # a child that ended just before the command
+        last = seconds_of_ended() - start - itself - before
+        if last >= LEAST:
+            spent.append(last)
         out.seek(0)
         return out.read(), spent
 
@@ -79,26 +105,32 @@ def dear(seconds, most):
     return ", dear" if seconds > most else ""
 
 
-def table(crate, edits):
+def table(crate, edits, anew):
     """Prints the rows of a crate. Gives the processor seconds of its edits, and whether all is well."""
-    text, spent = watched(["rt", "must-fail", "--anew", crate])
+    text, spent = watched(["rt", "must-fail", *(["--anew"] if anew else []), crate])
     said = [outcome(text, crate, edit) for edit in edits]
-    around = 1 if len(edits) > 1 else 0
-    checks = len(edits) + 2 * around
+    after = 1 if len(edits) > 1 else 0
+    before = after if anew else 0
+    checks = before + len(edits) + after
     are_refused = all(it.startswith("refused") for it in said)
     if len(spent) < checks or not are_refused:
         print(text)
     # what is built below the crate comes before its checks; an edit that is not refused is tried a second time
     mine = spent[-checks:]
-    own = mine[around:len(mine) - around]
-    for edit, seconds, words in zip(edits, own, said):
-        print(f"{seconds:8.1f}  {crate}/{edit}: {words}{dear(seconds, EDIT_SECONDS)}", flush=True)
-    mean = sum(own) / len(own) if own else 0.0
-    most = max(own, default=0.0)
-    ground = f", the crate before and after them {mine[0]:.1f} and {mine[-1]:.1f}" if around and mine else ""
-    words = f"{len(edits)} edits, mean {mean:.1f}, most {most:.1f}{ground}"
-    print(f"{sum(own):8.1f}  {crate}: {words}{dear(sum(own), CRATE_SECONDS)}\n", flush=True)
-    return sum(own), are_refused
+    own = mine[before:len(mine) - after]
+    first = 0 if anew or not after else 1
+    for place, (edit, seconds, words) in enumerate(zip(edits, own, said)):
+        note = ", with the crate" if place < first else dear(seconds, EDIT_SECONDS)
+        print(f"{seconds:8.1f}  {crate}/{edit}: {words}{note}", flush=True)
+    counted = own[first:]
+    mean = sum(counted) / len(counted) if counted else 0.0
+    most = max(counted, default=0.0)
+    ends = mine[:before] + (mine[-after:] if after else [])
+    where = "before and after them" if before else "after them"
+    ground = f", the crate {where} {' and '.join(f'{it:.1f}' for it in ends)}" if ends else ""
+    words = f"{len(counted)} edits, mean {mean:.1f}, most {most:.1f}{ground}"
+    print(f"{sum(counted):8.1f}  {crate}: {words}{dear(sum(counted), CRATE_SECONDS)}\n", flush=True)
+    return sum(counted), are_refused
 
 
 def main():
@@ -107,7 +139,8 @@ def main():
         sys.exit(__doc__)
     found = [(crate, edits_of(crate)) for crate in asked]
     found = [(crate, edits) for crate, edits in found if edits]
-    ends = [table(crate, edits) for crate, edits in found]
+    anew = keeps_what_passed()
+    ends = [table(crate, edits, anew) for crate, edits in found]
     number, total = sum(len(edits) for _, edits in found), sum(seconds for seconds, _ in ends)
     print(f"{total:8.1f}  {number} edits of {len(found)} crates{dear(total, ALL_SECONDS)}")
     sys.exit(0 if all(well for _, well in ends) else 1)
