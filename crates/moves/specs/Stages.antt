@@ -6,17 +6,15 @@ use Rattle.label_field.specs.LabelFields.{LabelField}
 use Rattle.label_field.specs.PairLists.{PairList}
 use Rattle.cost_store.specs.declared.problem.Problem.{Problem}
 use Rattle.cost_store.specs.Posed.{Closure, IsPosed, FitsProblem, WhereMeant}
-use Rattle.labellings.specs.declared.change.Move.{Move}
 use Rattle.labellings.specs.declared.change.Move.TheVariants.{Expand}
 use Rattle.labellings.specs.Energies.{Instance, labelling}
 use Rattle.move_energy.specs.BySite.{AreBySite}
-use Rattle.move_energy.specs.declared.choice.Choice.{Choice}
-use Rattle.move_energy.specs.Choices.{choice_at, value_of, AreOpenSites}
+use Rattle.move_energy.specs.Choices.{choice_at, AreOpenSites}
 use Rattle.deciding.specs.Decisions.{IsSmallestLeast}
 use Rattle.move_rises.specs.MoveValues.{move_value}
 use Rattle.stages.specs.declared.changes.Changes.{Changes}
 use Rattle.stages.specs.Changes.{AreStamped, changed_after}
-use Rattle.closing_in.specs.Fixing.{with_choices, fixed_value, AreLeastZeros}
+use Rattle.closing_in.specs.Fixing.{AreLeastZeros}
 use Rattle.stages.specs.Fresh.{WasExpanded, AreFresh}
 use Rattle.stages.specs.Looking.{is_marked}
 use Rattle.single_moves.specs.declared.error.MoveError.{MoveError}

@@ -1,9 +1,8 @@
-use Rattle.std.proofs.Common.{rules, ◌≡◌, ◌==◌, ◌∙◌, List, refl, ap, sym, length, ℕ, ◌<◌, arith}
+use Rattle.std.proofs.Common.{◌∙◌, List, refl, sym, arith}
 use Rattle.cost_store.proofs.Meaning.{pairs_meant}
 use Rattle.labellings.specs.declared.change.Move.TheVariants.{Expand}
 use Rattle.labellings.specs.Energies.{labelling}
 use Rattle.move_energy.specs.declared.choice.Choice.{Choice}
-use Rattle.move_energy.specs.declared.choice.Choice.TheVariants.{Zero}
 use Rattle.move_energy.specs.Choices.{choice_at}
 use Rattle.stage_parts.specs.Parts.{AreZerosOf}
 use Rattle.moves.proofs.Stages.{first_zeros, label_shown}
