@@ -42,7 +42,7 @@ PARTS = [
             "rtrb",
         ),
     ),
-    ("moves", ("moves", "minimum")),
+    ("moves", ("single_moves", "moves", "minimum")),
     ("writing", ("program_texts", "program_tasks", "gco_cli", "itoa", "arrayvec")),
 ]
 SYSTEM = "the system, and what has no name of a crate"

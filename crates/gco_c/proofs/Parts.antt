@@ -9,7 +9,7 @@ use Rattle.labellings.specs.declared.change.Move.{Move}
 use Rattle.moves.specs.declared.tables.Run.{Run}
 use Rattle.moves.specs.Instances.{instance_of}
 use Rattle.moves.specs.Runs.{AnswersRun}
-use Rattle.moves.specs.declared.error.MoveError.{MoveError}
+use Rattle.single_moves.specs.declared.error.MoveError.{MoveError}
 use Rattle.cost_store.specs.LabelCosts.{AreLabelCosts, costs_of}
 use Rattle.labellings.specs.declared.cycles.Moves.{Moves}
 use Rattle.gco_c.specs.Calls.{CallArrays, AreCostsInRange, AreLong, ArePartsOf, instance_given, list_given}

@@ -11,7 +11,7 @@ use Rattle.labellings.specs.Energies.{Instance}
 use Rattle.labellings.specs.Chains.{IsChain, moves_of}
 use Rattle.moves.specs.declared.bound.Bound.{Bound}
 use Rattle.cost_store.specs.LabelCosts.{AreLabelCosts, costs_of}
-use Rattle.moves.specs.Problems.{IsMoved}
+use Rattle.single_moves.specs.Moved.{IsMoved}
 use Rattle.moves.specs.Instances.{instance_of}
 use Rattle.moves.specs.Runs.{MayMake, TellsBound}
 use Rattle.labellings.specs.declared.cycles.Moves.{Moves}

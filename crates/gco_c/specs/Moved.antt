@@ -2,8 +2,8 @@
 use Rattle.std.specs.Prelude.{◌≡◌, ℕ, List, pos, Result, Ok, Err}
 use Rattle.labellings.specs.declared.change.Move.{Move}
 use Rattle.labellings.specs.Energies.{Instance, labelling, data_energy, smooth_energy, label_energy}
-use Rattle.moves.specs.Problems.{IsMoved, IsCauseOfRefusal}
-use Rattle.moves.specs.declared.error.MoveError.{MoveError}
+use Rattle.single_moves.specs.Moved.{IsMoved, IsCauseOfRefusal}
+use Rattle.single_moves.specs.declared.error.MoveError.{MoveError}
 use Rattle.gco_c.specs.declared.moving.Moved.{Moved}
 
 -- where one move from a labelling ended, and the three parts of the energy there; or its refusal

@@ -13,10 +13,11 @@ use Rattle.cost_store.specs.Promises.{IsCost, IsFirstOutside}
 use Rattle.cost_store.specs.declared.error.CostError.TheVariants.{CostRange}
 use Rattle.labellings.specs.declared.change.Move.{Move}
 use Rattle.moves.specs.Runs.{AnswersRun}
-use Rattle.moves.specs.Problems.{IsCauseOfRefusal, IsRunRefusal}
+use Rattle.moves.specs.Problems.{IsRunRefusal}
+use Rattle.single_moves.specs.Moved.{IsCauseOfRefusal}
 use Rattle.solvers.specs.declared.solve_error.SolveError.TheVariants.{OutOfMemory as NoMemory}
-use Rattle.moves.specs.declared.error.MoveError.{MoveError}
-use Rattle.moves.specs.declared.error.MoveError.TheVariants as move_why
+use Rattle.single_moves.specs.declared.error.MoveError.{MoveError}
+use Rattle.single_moves.specs.declared.error.MoveError.TheVariants as move_why
 use Rattle.labellings.specs.declared.cycles.Moves.{Moves}
 use Rattle.gco_c.specs.Calls.{CallArrays, AreLong, AreTables, IsGiven}
 use Rattle.gco_c.specs.Calls.{instance_given, list_given, moves_number}

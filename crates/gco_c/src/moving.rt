@@ -8,7 +8,7 @@ ghost use Rattle.labellings.specs.declared.change.Move.TheVariants.{Expand, Swap
 ghost use Rattle.moves.specs.Instances.{instance_of};
 ghost use Rattle.cost_store.specs.Posed.{IsPosed, WhereMeant, FitsProblem, AreOfOneSize};
 ghost use Rattle.cost_store.specs.LabelCosts.{AreLabelCosts, costs_of};
-ghost use Rattle.moves.specs.Problems.{IsMoved};
+ghost use Rattle.single_moves.specs.Moved.{IsMoved};
 ghost use Rattle.gco_c.specs.Calls.{IsGiven, IsMoveTold, arrays_with, call_arrays, instance_given};
 ghost use Rattle.gco_c.specs.Moved.{IsMovedTo};
 ghost use Rattle.gco_c.specs.Outcomes.{move_told, outcome_of_parts};

@@ -22,6 +22,8 @@ pub use Rattle.cost_store.specs.Limits as CostLimits
 pub use Rattle.cost_store.specs.Metrics
 pub use Rattle.cost_store.specs.Posed
 pub use Rattle.cost_store.specs.Promises
+pub use Rattle.single_moves.specs.Moved
+pub use Rattle.single_moves.specs.Refusals as MoveRefusals
 pub use Rattle.moves.specs.Bounds
 pub use Rattle.moves.specs.Instances
 pub use Rattle.moves.specs.Laws

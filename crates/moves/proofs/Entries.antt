@@ -10,8 +10,8 @@ use Rattle.labellings.specs.declared.change.Move.{Move}
 use Rattle.labellings.specs.Energies.{Instance, IsInstance, IsMetric}
 use Rattle.moves.specs.Instances.{data_entry}
 use Rattle.moves.specs.Problems.{IsRunOfCycles, TellsPairNotRegular}
-use Rattle.moves.specs.declared.error.MoveError.{MoveError}
-use Rattle.moves.proofs.Answers.{metric_refusal}
+use Rattle.single_moves.specs.declared.error.MoveError.{MoveError}
+use Rattle.moves.proofs.Refused.{metric_refusal}
 
 pub place_in : (a b k n len : ℕ) → a < n → b < k → len ≡ n * k → a * k + b < len
 place_in a b k n len la lb size = omega (arith, mul-add-lt a k b n la lb, mul_comm n k, size)

@@ -11,14 +11,15 @@ use Rattle.labellings.proofs.Chains.{settled_is_local}
 use Rattle.labellings.proofs.Ratio.{expansion_bound}
 use Rattle.solvers.specs.declared.solve_error.SolveError.{SolveError}
 use Rattle.solvers.specs.declared.solve_error.SolveError.TheVariants.{Workers as NoWorkers, BadOptions as NoOptions}
-use Rattle.moves.specs.declared.error.MoveError.{MoveError}
-use Rattle.moves.specs.declared.error.MoveError.TheVariants.{NoSuchLabel, LabelCostInSwap, PairNotRegular, Workers, BadOptions, NoBound, OutOfMemory}
+use Rattle.single_moves.specs.declared.error.MoveError.{MoveError}
+use Rattle.single_moves.specs.declared.error.MoveError.TheVariants.{NoSuchLabel, LabelCostInSwap, PairNotRegular, Workers, BadOptions, NoBound, OutOfMemory}
 use Rattle.moves.specs.declared.runs.Ended.{Ended}
 use Rattle.moves.specs.Bounds.{IsWithinBound}
-use Rattle.moves.specs.Problems.{IsMoved, IsCauseOfRefusal, IsMoveRefusal, IsRunOfCycles, IsRunRefusal}
+use Rattle.moves.specs.Problems.{IsRunOfCycles, IsRunRefusal}
+use Rattle.single_moves.specs.Moved.{IsMoved, IsCauseOfRefusal, IsMoveRefusal}
 use Rattle.moves.specs.Refusals.{IsMemoryOrCut, IsRefusalOver}
 use Rattle.moves.specs.Runs.{MayMake}
-use Rattle.moves.proofs.Answers.{metric_refusal}
+use Rattle.moves.proofs.Refused.{metric_refusal}
 use Rattle.moves.proofs.Entries.{metric_run}
 
 -- a move between the labels of a metric is refused for memory or a cut alone

@@ -28,8 +28,9 @@ use Rattle.closing_in.specs.Forms.{bits_by_site}
 use Rattle.closing_in.proofs.Fixing.{ones_bound}
 use Rattle.closing_in.proofs.Forms.{open_bit, form_smallest}
 use Rattle.stages.proofs.Ending.{stage_ends}
-use Rattle.moves.specs.Stages.{IsStageLeast, HasTaken}
-use Rattle.moves.proofs.Least.{expanded_best, free_least}
+use Rattle.moves.specs.Stages.{IsStageLeast}
+use Rattle.single_moves.specs.Building.{HasTaken}
+use Rattle.single_moves.proofs.Least.{expanded_best, free_least}
 
 -- ---- the cut of a stage
 

@@ -11,12 +11,13 @@ use Rattle.labellings.specs.declared.change.Move.{Move}
 use Rattle.labellings.proofs.Chains.{settled_is_local}
 use Rattle.labellings.proofs.Ratio.{expansion_bound}
 use Rattle.moves.specs.Bounds.{IsBoundOf}
-use Rattle.moves.specs.Problems.{IsCauseOfRefusal, IsRunOfCycles}
+use Rattle.moves.specs.Problems.{IsRunOfCycles}
+use Rattle.single_moves.specs.Moved.{IsCauseOfRefusal}
 use Rattle.moves.specs.declared.bound.Bound.{Bound}
-use Rattle.moves.specs.declared.error.MoveError.{MoveError}
-use Rattle.moves.specs.declared.error.MoveError.TheVariants.{LabelCostInSwap}
+use Rattle.single_moves.specs.declared.error.MoveError.{MoveError}
+use Rattle.single_moves.specs.declared.error.MoveError.TheVariants.{LabelCostInSwap}
 use Rattle.moves.specs.declared.runs.Ended.{Ended}
-use Rattle.moves.proofs.Answers.{costs_costly, costs_free}
+use Rattle.single_moves.proofs.Answers.{costs_costly, costs_free}
 use Rattle.labellings.specs.declared.cycles.Moves.{Moves}
 use Rattle.labellings.specs.declared.cycles.Moves.TheVariants.{Expansion, Swap}
 use Rattle.moves.specs.Runs.{AnswersRun, HasBound, IsNearLeast, MayMake, TellsBound}

@@ -9,11 +9,12 @@ use Rattle.label_field.specs.LabelFields.{LabelField}
 use Rattle.cost_store.specs.Metrics.{potts}
 use Rattle.solvers.specs.declared.solve_error.SolveError.TheVariants.{OutOfMemory as NoMemory}
 use Rattle.moves.specs.declared.bound.Bound.{Bound}
-use Rattle.moves.specs.declared.error.MoveError.{MoveError}
-use Rattle.moves.specs.declared.error.MoveError.TheVariants.{OutOfMemory}
+use Rattle.single_moves.specs.declared.error.MoveError.{MoveError}
+use Rattle.single_moves.specs.declared.error.MoveError.TheVariants.{OutOfMemory}
 use Rattle.moves.specs.declared.runs.Ended.{Ended}
 use Rattle.moves.specs.Bounds.{IsBoundOf, IsWithinBound}
-use Rattle.moves.specs.Problems.{IsMoved, IsRunOfCycles, IsLabelledBy, TellsPairNotRegular}
+use Rattle.moves.specs.Problems.{IsRunOfCycles, IsLabelledBy, TellsPairNotRegular}
+use Rattle.single_moves.specs.Moved.{IsMoved}
 use Rattle.moves.specs.Refusals.{IsMemoryOrCut}
 
 -- a run of expansions that ended settled is within twice its bound of every labelling (Boykov,

@@ -1,18 +1,10 @@
--- What a move tells of a refused cut, and what may be refused over a metric.
+-- What may be refused over a metric.
 use Rattle.std.specs.Prelude.{◌≡◌, ◌⊎◌}
 use Rattle.labellings.specs.Energies.{Instance, IsMetric}
 use Rattle.solvers.specs.declared.solve_error.SolveError.{SolveError}
-use Rattle.solvers.specs.declared.solve_error.SolveError.TheVariants.{OutOfMemory as NoMemory}
-use Rattle.solvers.specs.declared.solve_error.SolveError.TheVariants.{Workers as NoWorkers}
-use Rattle.solvers.specs.declared.solve_error.SolveError.TheVariants.{BadOptions as NoOptions}
-use Rattle.moves.specs.declared.error.MoveError.{MoveError}
-use Rattle.moves.specs.declared.error.MoveError.TheVariants.{OutOfMemory, Workers, BadOptions}
-
--- the refusal of a move whose cut was refused so
-abbrev pub cut_told : SolveError → MoveError
-cut_told NoMemory = OutOfMemory
-cut_told NoWorkers = Workers
-cut_told NoOptions = BadOptions
+use Rattle.single_moves.specs.Refusals.{cut_told}
+use Rattle.single_moves.specs.declared.error.MoveError.{MoveError}
+use Rattle.single_moves.specs.declared.error.MoveError.TheVariants.{OutOfMemory}
 
 -- memory; or what was refused of a cut, as a move tells it
 abbrev pub IsMemoryOrCut : (SolveError → Type 0) → MoveError → Type 0

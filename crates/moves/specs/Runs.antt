@@ -10,8 +10,8 @@ use Rattle.labellings.specs.Energies.{Instance, AreLabelsFree, IsLabelled, IsMet
 use Rattle.labellings.specs.Energies.{labelling, energy, data_energy, smooth_energy, label_energy}
 use Rattle.moves.specs.Problems.{IsRunOfCycles}
 use Rattle.moves.specs.declared.bound.Bound.{Bound}
-use Rattle.moves.specs.declared.error.MoveError.{MoveError}
-use Rattle.moves.specs.declared.error.MoveError.TheVariants.{LabelCostInSwap}
+use Rattle.single_moves.specs.declared.error.MoveError.{MoveError}
+use Rattle.single_moves.specs.declared.error.MoveError.TheVariants.{LabelCostInSwap}
 use Rattle.moves.specs.declared.tables.Run.{Run}
 
 -- expansions may always be made, swaps where no label costs anything by itself

@@ -9,7 +9,6 @@ use Rattle.cost_store.specs.Posed.{Closure, IsPosed, FitsProblem, WhereMeant}
 use Rattle.labellings.specs.declared.change.Move.{Move}
 use Rattle.labellings.specs.declared.change.Move.TheVariants.{Expand}
 use Rattle.labellings.specs.Energies.{Instance, labelling}
-use Rattle.labellings.specs.Moves.{label_after}
 use Rattle.move_energy.specs.BySite.{AreBySite}
 use Rattle.move_energy.specs.declared.choice.Choice.{Choice}
 use Rattle.move_energy.specs.Choices.{choice_at, value_of, AreOpenSites}
@@ -20,10 +19,10 @@ use Rattle.stages.specs.Changes.{AreStamped, changed_after}
 use Rattle.closing_in.specs.Fixing.{with_choices, fixed_value, AreLeastZeros}
 use Rattle.stages.specs.Fresh.{WasExpanded, AreFresh}
 use Rattle.stages.specs.Looking.{is_marked}
-use Rattle.moves.specs.declared.error.MoveError.{MoveError}
-use Rattle.moves.specs.declared.workspace.Workspace.{Workspace}
-use Rattle.moves.specs.Building.{IsGroupedFor}
-use Rattle.moves.specs.Problems.{IsMoved}
+use Rattle.single_moves.specs.declared.error.MoveError.{MoveError}
+use Rattle.single_moves.specs.declared.workspace.Workspace.{Workspace}
+use Rattle.single_moves.specs.Building.{IsGroupedFor}
+use Rattle.single_moves.specs.Moved.{IsMoved}
 
 -- the bits of the open sites and what is fixed are the least values of a stage: of all sites, some
 -- of which are fixed, the least with the fewest ones
@@ -75,11 +74,6 @@ EndsMove m a f old new =
     (changed : ℕ → Bool) → WasExpanded m a changed (labelling f)
     → AreFresh m a (labelling f) changed (is_marked old.stage.fresh.items)
     → AreStageZeros m a f old → IsTakenLeast m a f new
-
--- each site has the label that its value makes in an expansion
-abbrev pub HasTaken : ℕ → (ℕ → Bool) → List ℕ → List ℕ → Type 0
-HasTaken a took f g = (p : ℕ) → p < length f
-    → labelling g p ≡ label_after (Expand a) (labelling f p) (took p)
 
 -- what an expansion that looks near the changes alone answers: what the whole one would; or
 -- nothing, the labels as they were

@@ -11,12 +11,11 @@ ghost use Rattle.moves.specs.Prelude.{HasTaken, IsLater, IsUnderWay, TellsChange
 
 use crate::opening_apart::open_apart;
 use crate::stage_cut::{Standing, make_stage};
-use crate::taking::relabel_site;
-use crate::workspace::Workspace;
 use crate::{How, MoveError};
 use cost_store::{Problem, costs_of, has_cost};
 use label_field::Labelling;
 use labellings::Move;
+use single_moves::{Workspace, relabel_site};
 use stages::Changes;
 use std::alloc::AllocError;
 

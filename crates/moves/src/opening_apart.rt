@@ -8,10 +8,10 @@ ghost use Rattle.moves.specs.Prelude.{Expand, IsPosed, WhereMeant, IsAsked, AreS
 ghost use Rattle.moves.specs.Prelude.{KeepsFreshSites};
 
 use crate::How;
-use crate::workspace::Workspace;
 use cost_store::Problem;
 use deciding::RiseNumbers;
 use labellings::Move;
+use single_moves::Workspace;
 use stage_parts::{PartSizes, find_zeros};
 use stages::{Window, choose_first};
 use std::alloc::{AllocError, Global};

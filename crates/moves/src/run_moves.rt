@@ -7,13 +7,12 @@ ghost use Rattle.moves.specs.Prelude.{site_values, IsMoved, IsMoveRefusal, HasTa
 ghost use Rattle.moves.specs.Prelude.{AreStampsOf};
 
 use crate::near_changes::make_later;
-use crate::one_move::make_move;
-use crate::workspace::Workspace;
 use crate::{How, MoveError};
 use cost_store::{Problem, costs_of, has_cost};
 use label_field::Labelling;
 use labellings::{Move, Moves};
 use move_energy::Choice;
+use single_moves::{Workspace, make_move};
 use stages::{Changes, Stage};
 use std::alloc::Global;
 

@@ -8,14 +8,13 @@ ghost use Rattle.moves.specs.Prelude.{IsClosedIn, AreTaking, IsAllowedFrom, IsVa
 ghost use Rattle.moves.specs.Prelude.{AreSitesListed, KeepsDecided, IsCutRefusal, IsStageLeast};
 ghost use Rattle.moves.specs.Prelude.{IsStageReady, AreStageZeros, EndsMove};
 
-use crate::one_move::{cut_small, least_nodes};
-use crate::workspace::Workspace;
 use crate::{How, MoveError};
 use compile_cut::Quadratic;
 use cost_store::Problem;
 use label_field::Pairs;
 use labellings::Move;
 use move_energy::{MoveEnergy, OpenSites};
+use single_moves::{Workspace, cut_small, least_nodes};
 use stages::Window;
 use std::alloc::{AllocError, Global};
 use std::mem::replace;

@@ -15,8 +15,8 @@ use Rattle.pgm_image.specs.declared.error.PgmError.TheVariants as image
 use Rattle.pseudo_bool.specs.Energies.{Energy as YesNoEnergy}
 use Rattle.solvers.specs.declared.solve_error.SolveError.{SolveError}
 use Rattle.solvers.specs.declared.solve_error.SolveError.TheVariants as solve
-use Rattle.moves.specs.declared.error.MoveError.{MoveError}
-use Rattle.moves.specs.declared.error.MoveError.TheVariants as move
+use Rattle.single_moves.specs.declared.error.MoveError.{MoveError}
+use Rattle.single_moves.specs.declared.error.MoveError.TheVariants as move
 use Rattle.run_options.specs.declared.options.RestoreOptions.{RestoreOptions}
 use Rattle.run_options.specs.declared.options.StereoOptions.{StereoOptions}
 use Rattle.run_options.specs.declared.options.SegmentOptions.{SegmentOptions}

@@ -10,7 +10,7 @@ use Rattle.problem_files.specs.declared.label_fault.LabelFault.{LabelFault}
 use Rattle.problem_files.specs.declared.label_fault.LabelFault.TheVariants.{OutOfMemory, BadToml, BadField, BadElement, CostRange, NoSuchSite, SamePair, TooManyPairs, WeightRange, NoSuchLabel}
 use Rattle.moves.specs.Runs.{AnswersRun}
 use Rattle.moves.specs.Problems.{IsRunRefusal}
-use Rattle.moves.specs.declared.error.MoveError.{MoveError}
+use Rattle.single_moves.specs.declared.error.MoveError.{MoveError}
 use Rattle.solvers.specs.declared.solve_error.SolveError.{SolveError}
 use Rattle.program_tasks.specs.Instances.{instance_named}
 use Rattle.program_tasks.proofs.InputLemmas.{IsWhole, of_read, of_refusal}

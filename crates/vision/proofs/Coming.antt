@@ -1,7 +1,7 @@
 -- What one way to cut may refuse some way may.
 use Rattle.moves.specs.Problems.{IsRunRefusal}
-use Rattle.moves.specs.declared.error.MoveError.{MoveError}
-use Rattle.moves.specs.declared.error.MoveError.TheVariants as move
+use Rattle.single_moves.specs.declared.error.MoveError.{MoveError}
+use Rattle.single_moves.specs.declared.error.MoveError.TheVariants as move
 use Rattle.solvers.specs.declared.solve_error.SolveError.{SolveError}
 use Rattle.vision.specs.Faults.{any_cut}
 

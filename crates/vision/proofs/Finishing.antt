@@ -5,7 +5,7 @@ use Rattle.labellings.specs.Energies.{Instance, labelling, data_energy, smooth_e
 use Rattle.moves.specs.Runs.{AnswersRun, TellsBound}
 use Rattle.moves.specs.declared.tables.Run.{Run}
 use Rattle.moves.specs.declared.bound.Bound.{Bound}
-use Rattle.moves.specs.declared.error.MoveError.{MoveError}
+use Rattle.single_moves.specs.declared.error.MoveError.{MoveError}
 use Rattle.solvers.specs.declared.solve_error.SolveError.{SolveError}
 use Rattle.moves.specs.Problems.{IsRunRefusal}
 use Rattle.pgm_image.specs.Picture.{Picture, picture, IsPicture}

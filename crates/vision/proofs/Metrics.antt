@@ -4,8 +4,8 @@ use Rattle.cost_store.specs.Promises.{IsMetricTable, IsTable}
 use Rattle.cost_store.proofs.Metrics.{linear_metric, potts_metric, table_of_metric}
 use Rattle.labellings.specs.Energies.{IsMetric}
 use Rattle.moves.specs.Problems.{TellsPairNotRegular}
-use Rattle.moves.specs.declared.error.MoveError.{MoveError}
-use Rattle.moves.specs.declared.error.MoveError.TheVariants as move
+use Rattle.single_moves.specs.declared.error.MoveError.{MoveError}
+use Rattle.single_moves.specs.declared.error.MoveError.TheVariants as move
 use Rattle.run_options.specs.Shapes.{shape_cost}
 use Rattle.run_options.specs.declared.shape.Shape.{Shape}
 use Rattle.run_options.specs.declared.shape.Shape.TheVariants.{Potts, Linear, Quadratic}

@@ -8,8 +8,8 @@ use Rattle.labellings.specs.Energies.{energy}
 use Rattle.labellings.specs.Chains.{IsChain, moves_of}
 use Rattle.moves.specs.Runs.{MayMake, TellsBound}
 use Rattle.moves.specs.Problems.{IsRunOfCycles}
-use Rattle.moves.specs.declared.error.MoveError.{MoveError}
-use Rattle.moves.specs.declared.error.MoveError.TheVariants.{LabelCostInSwap}
+use Rattle.single_moves.specs.declared.error.MoveError.{MoveError}
+use Rattle.single_moves.specs.declared.error.MoveError.TheVariants.{LabelCostInSwap}
 use Rattle.pgm_image.specs.Picture.{Picture, picture, IsPicture}
 use Rattle.pgm_image.specs.Written.{written_form}
 use Rattle.run_options.specs.Limits.{greatest_smooth_cost}

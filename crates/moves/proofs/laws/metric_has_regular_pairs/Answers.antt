@@ -1,4 +1,4 @@
-use Rattle.moves.proofs.Answers.{metric_refusal}
+use Rattle.moves.proofs.Refused.{metric_refusal}
 use Rattle.moves.proofs.Entries.{metric_run}
 use Rattle.moves.proofs.laws.metric_has_regular_pairs.Goals as goal
 

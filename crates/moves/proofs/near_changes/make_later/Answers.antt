@@ -9,8 +9,8 @@ use Rattle.move_rises.specs.MoveValues.{move_value}
 use Rattle.stages.specs.Changes.{changed_after}
 use Rattle.stages.specs.Fresh.{WasExpanded}
 use Rattle.stages.specs.Looking.{is_marked, AreTaking}
-use Rattle.moves.proofs.Answers.{costs_free, cut_refusal}
-use Rattle.moves.proofs.Relabelled.{values_reach}
+use Rattle.single_moves.proofs.Answers.{costs_free, cut_refusal}
+use Rattle.single_moves.proofs.Relabelled.{values_reach}
 use Rattle.moves.proofs.Stages.{metric_allowed, taken_best}
 use Rattle.moves.proofs.near_changes.make_later.Goals as goal
 

@@ -1,6 +1,6 @@
 use Rattle.std.proofs.Common.{◌∙◌, ◌<◌, length, get_or, slice_index, refl, ap, arith}
 use Rattle.label_field.specs.LabelFields.{LabelField}
-use Rattle.moves.proofs.Relabelled.{unchanged_at}
+use Rattle.single_moves.proofs.Relabelled.{unchanged_at}
 use Rattle.moves.proofs.Stages.{given_more, given_all}
 use Rattle.moves.proofs.near_changes.take.Goals.{then-relabel_site, else-relabel_site}
 use Rattle.moves.proofs.near_changes.take.Goals as goal

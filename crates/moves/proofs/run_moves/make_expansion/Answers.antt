@@ -3,8 +3,8 @@ use Rattle.label_field.specs.LabelFields.{LabelField}
 use Rattle.labellings.specs.Energies.{labelling}
 use Rattle.move_energy.specs.declared.choice.Choice.{Choice}
 use Rattle.stages.specs.Changes.{AreStamped}
-use Rattle.moves.specs.Building.{site_values}
-use Rattle.moves.specs.Stages.{HasTaken}
+use Rattle.single_moves.specs.Building.{site_values}
+use Rattle.single_moves.specs.Building.{HasTaken}
 use Rattle.moves.proofs.run_moves.make_expansion.Goals as goal
 
 pub returns-clause-stamped : goal.returns-clause-stamped

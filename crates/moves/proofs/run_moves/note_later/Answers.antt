@@ -2,7 +2,7 @@ use Rattle.std.proofs.Common.{◌≡◌, ◌↔◌, List, ℕ, true, sym, subst,
 use Rattle.std.specs.List.{Contains}
 use Rattle.stages.specs.Looking.{is_marked}
 use Rattle.stages.proofs.Noting.{move_stamped}
-use Rattle.moves.proofs.Answers.{costs_free}
+use Rattle.single_moves.proofs.Answers.{costs_free}
 use Rattle.moves.proofs.Stages.{not_taken}
 use Rattle.moves.proofs.run_moves.note_later.Goals as goal
 

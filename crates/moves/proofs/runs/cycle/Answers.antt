@@ -3,9 +3,9 @@ use Rattle.std.specs.Prelude.{slice_get}
 use Rattle.labellings.specs.Moves.{IsMoveOf}
 use Rattle.labellings.specs.Chains.{MovesLead}
 use Rattle.cost_store.proofs.Meaning.{pairs_meant}
-use Rattle.moves.specs.Problems.{IsCauseOfRefusal}
+use Rattle.single_moves.specs.Moved.{IsCauseOfRefusal}
 use Rattle.labellings.specs.Chains.{moves_of}
-use Rattle.moves.proofs.Answers.{run_may_come, costs_swap}
+use Rattle.moves.proofs.Refused.{run_may_come, costs_swap}
 use Rattle.moves.proofs.Running.{so_far_starts, so_far_more, moves_split, stopped_leads, ended_leads, ended_known}
 use Rattle.moves.proofs.runs.cycle.Goals.{then-turned, else-turned}
 use Rattle.moves.proofs.runs.cycle.Goals as goal

@@ -2,7 +2,7 @@ use Rattle.std.proofs.Common.{◌≡◌, length}
 use Rattle.labellings.specs.Energies.{Instance, labelling}
 use Rattle.cost_store.specs.Posed.{IsMeant}
 use Rattle.stages.specs.Changes.{AreStamped}
-use Rattle.moves.specs.Building.{IsGroupedFor}
+use Rattle.single_moves.specs.Building.{IsGroupedFor}
 use Rattle.labellings.specs.Chains.{moves_of}
 use Rattle.moves.proofs.Running.{IsSoFar}
 use Rattle.moves.proofs.runs.cycle.Given as goal

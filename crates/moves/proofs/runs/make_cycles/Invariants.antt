@@ -3,7 +3,7 @@ use Rattle.labellings.specs.Energies.{Instance, labelling}
 use Rattle.labellings.specs.Chains.{Cycles}
 use Rattle.cost_store.specs.Posed.{IsMeant}
 use Rattle.stages.specs.Changes.{AreStamped}
-use Rattle.moves.specs.Building.{IsGroupedFor}
+use Rattle.single_moves.specs.Building.{IsGroupedFor}
 use Rattle.labellings.specs.Chains.{moves_of}
 use Rattle.moves.specs.Cycles.{AreBestFrom}
 use Rattle.moves.proofs.runs.make_cycles.Given as goal

@@ -1,0 +1,46 @@
+-- What a run may refuse, and what no move over a metric refuses.
+use Rattle.std.proofs.Common.{◌≡◌, Bool, List, ℕ, Result, Ok, Err, IfErr, subst, length, ◌<◌, arith, All}
+use Rattle.labellings.specs.declared.change.Move.{Move}
+use Rattle.labellings.specs.Energies.{Instance, IsInstance, IsMetric, labelling}
+use Rattle.label_field.specs.LabelFields.{LabelField}
+use Rattle.labellings.specs.Moves.{IsMoveOf}
+use Rattle.labellings.proofs.Metric.{metric_never}
+use Rattle.solvers.specs.declared.solve_error.SolveError.{SolveError}
+use Rattle.single_moves.specs.declared.error.MoveError.{MoveError}
+use Rattle.single_moves.specs.declared.error.MoveError.TheVariants.{NoSuchLabel, LabelCostInSwap, PairNotRegular, Workers, BadOptions, NoBound, OutOfMemory}
+use Rattle.labellings.specs.Moves.{IsSwap}
+use Rattle.moves.specs.Problems.{IsRunRefusal, TellsPairNotRegular}
+use Rattle.single_moves.specs.Moved.{IsMoveRefusal, IsCauseOfRefusal, IsMoved}
+
+-- what a move between labels refuses, a run may refuse
+pub run_may_come : (refuses : SolveError → Type 0) (labels : ℕ) (move : Move) (e : MoveError) → IsMoveOf labels move → IsMoveRefusal refuses labels move e → IsRunRefusal refuses e
+run_may_come refuses labels move NoSuchLabel below refused = absurd (refused below)
+run_may_come refuses labels move LabelCostInSwap below refused = tt
+run_may_come refuses labels move NoBound below refused = absurd refused
+run_may_come refuses labels move (PairNotRegular place alpha beta) below refused = tt
+run_may_come refuses labels move Workers below refused = refused
+run_may_come refuses labels move BadOptions below refused = refused
+run_may_come refuses labels move OutOfMemory below refused = tt
+
+-- what a move refuses for label costs is a swap
+pub costs_swap : (refuses : SolveError → Type 0) (labels : ℕ) (move : Move) (e : MoveError) → e ≡ LabelCostInSwap → IsMoveRefusal refuses labels move e → IsSwap move
+costs_swap refuses labels move e is refused = (let P : MoveError → Type 0 = λ told. IsMoveRefusal refuses labels move told in subst P is refused)
+
+-- with a metric no pair's term fails to be regular
+pub metric_refusal : (m : Instance) (move : Move) (f : LabelField) (e : MoveError) → All (λ label. label < f.labels) f.at → IsInstance m → length f.at ≡ m.sites → f.labels ≡ m.labels → IsMetric m.labels m.smooth_cost
+    → IsCauseOfRefusal m move f.at e → ¬ TellsPairNotRegular e
+metric_refusal m move f NoSuchLabel field pairs sites labels metric refusal told = told
+metric_refusal m move f LabelCostInSwap field pairs sites labels metric refusal told = told
+metric_refusal m move f NoBound field pairs sites labels metric refusal told = told
+metric_refusal m move f (PairNotRegular place alpha beta) field pairs sites labels metric refusal told =
+    metric_never m move (labelling f.at) place pairs metric refusal.0
+    (λ p l. (let below = field p 0 (omega (arith, l, sites)) in omega (arith, below, labels))) refusal.1
+metric_refusal m move f Workers field pairs sites labels metric refusal told = told
+metric_refusal m move f BadOptions field pairs sites labels metric refusal told = told
+metric_refusal m move f OutOfMemory field pairs sites labels metric refusal told = told
+
+-- what a refused move told, taken from what the move answers
+pub metric_of_moved : (m : Instance) (move : Move) (f : LabelField) (g : List ℕ) (r : Result Bool MoveError) → All (λ label. label < f.labels) f.at → IsInstance m → length f.at ≡ m.sites → f.labels ≡ m.labels
+    → IsMetric m.labels m.smooth_cost → IsMoved m move f.at g r → IfErr r (λ e. ¬ TellsPairNotRegular e)
+metric_of_moved m move f g (Ok changed) field pairs sites labels metric moved = tt
+metric_of_moved m move f g (Err e) field pairs sites labels metric moved = metric_refusal m move f e field pairs sites labels metric moved.1

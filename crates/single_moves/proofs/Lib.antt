@@ -1,0 +1,5 @@
+pub mod Least
+pub mod Rising
+pub mod Answers
+pub mod Relabelled
+pub mod Changes
