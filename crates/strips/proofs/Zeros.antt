@@ -89,8 +89,8 @@ shown_least m move f known opened sides pairs size listed bounds =
       values = strip.lower;
       least = least_along m.sites (fixed_value E C) (lower_value E C strip.set) strip.lower same bounds.2.lower;
       shown = λ p. known_bit (C p) (strip.lower p) (assignment sides.lower.items (open_rank known p)) (λ is_so.
-      let l = open_listed known opened p listed (open_below known p is_so) is_so in
-      subst (λ (q : ℕ). strip.lower q ≡ assignment sides.lower.items (open_rank known p)) l.2 (bounds.1.lower (open_rank known p) l.1));
+          let l = open_listed known opened p listed (open_below known p is_so) is_so in
+          subst (λ (q : ℕ). strip.lower q ≡ assignment sides.lower.items (open_rank known p)) l.2 (bounds.1.lower (open_rank known p) l.1));
     }
 
 -- ---- what is 0 in the least values of what is open
