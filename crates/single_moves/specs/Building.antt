@@ -1,5 +1,5 @@
 -- The energy of a move, and what its least assignment says of the sites.
-use Rattle.std.specs.Prelude.{◌≡◌, ◌≢◌, ◌<◌, ◌≤◌, ◌==◌, ℕ, Bool, true, false, not}
+use Rattle.std.specs.Prelude.{◌≡◌, ◌≢◌, ◌^◌, ◌<◌, ◌≤◌, ◌==◌, ℕ, Bool, true, false, not}
 use Rattle.std.specs.Prelude.{List, length, vec_len, IsTrue, IsFalse, Result, Ok, Err, ℤ, pos, ◌-ℤ◌}
 use Rattle.std.specs.Prelude.{slice_index}
 use Rattle.label_field.specs.LabelFields.{LabelField}
@@ -31,6 +31,11 @@ use Rattle.deciding.specs.Decisions.{IsSmallestLeast}
 use Rattle.move_rises.specs.MoveValues.{move_value}
 use Rattle.move_rises.specs.Rising.{IsRiseTable, IsTableOf}
 use Rattle.single_moves.specs.declared.workspace.Workspace.{Workspace}
+
+-- the fewest nodes of a later net that a way with parts cuts: one thread cuts a smaller one in less
+-- time than several take to share it
+abbrev pub later_nodes : ℕ
+later_nodes = 2 ^ 16
 
 -- the pairs by their sites, once they were grouped
 abbrev pub IsGroupedFor : PairList → Workspace → Type 0

@@ -1,6 +1,7 @@
 //! One move.
 ghost use Rattle.std.specs.Prelude.{◌≡◌, ℕ, ◌+◌, ◌≤◌, length, IfOk, IfErr, OnErr, IsTrue, IsFalse};
-ghost use Rattle.std.specs.Prelude.{vec_len};
+ghost use Rattle.std.specs.Prelude.{vec_len, max, ◌<◌};
+ghost use Rattle.single_moves.specs.Building.{later_nodes};
 ghost use Rattle.single_moves.specs.Prelude.{site_limit, label_limit, IsQuadraticBounded};
 ghost use Rattle.single_moves.specs.Prelude.{quadratic_value};
 ghost use Rattle.single_moves.specs.Prelude.{assignment, term_limit, IsPosed, WhereMeant};
@@ -33,7 +34,11 @@ const LATER_NODES: usize = 1 << 16;
 /// was decided before: the first of a run, and later ones if they are large. What is left of others
 /// is cut on the thread of the caller. A way that has no parts gets all nets. The number says who
 /// cuts a net, never what its cut is.
-pub fn least_nodes(parts: usize, sites: usize, later: bool) -> usize {
+pub fn least_nodes(parts: usize, sites: usize, later: bool) -> usize
+    ensures all { parts < 2 → result ≡ 0 }
+    ensures first { 2 ≤ parts → IsFalse later → result ≡ sites }
+    ensures large { 2 ≤ parts → IsTrue later → result ≡ max sites later_nodes }
+{
     if parts < 2 {
         return 0;
     }
