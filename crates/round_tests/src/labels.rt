@@ -6,6 +6,7 @@ use crate::building::{
 use crate::gates::Open;
 use crate::overlap::TWO;
 use crate::picture::{large_net_of_move, net_of_move};
+use crate::rows::expect;
 use block_core::State;
 use flow_network::Net;
 use global_relabel::distances;
@@ -31,6 +32,33 @@ fn is_plain<R: Threads + Abort + AllocGlobal + Sync>(
     }
 }
 
+/// Whether they are in the state of the net at the opening.
+fn is_plain_at_opening<R: Threads + Abort + AllocGlobal + Sync>(
+    rt: &R,
+    net: &Net,
+    blocks: u32,
+    threads: usize,
+) -> Result<bool, AllocError> {
+    let state = state_raised(rt, net, blocks as usize)?;
+    is_plain(rt, &state, threads)
+}
+
+/// Whether they are in the state after a round.
+fn is_plain_after_round<R: Threads + Wait + Abort + AllocGlobal + Sync>(
+    rt: &R,
+    net: &Net,
+    blocks: u32,
+    threads: usize,
+) -> Result<bool, AllocError> {
+    let options = Options {
+        blocks,
+        turns: 16,
+        ..TWO
+    };
+    let state = round(rt, net, &options, &Open)?;
+    is_plain(rt, &state, threads)
+}
+
 const BLOCKS: &[u32] = &[1, 2, 3, 7, 16, 64];
 
 /// In states of the net at the opening and after a round, in few and many blocks, the labels that
@@ -39,30 +67,32 @@ fn expect_plain<R: Threads + Wait + Abort + AllocGlobal + Sync>(
     rt: &R,
     net: &Net,
 ) -> Result<(), AllocError> {
-    for (place, blocks) in BLOCKS.iter().enumerate() {
-        let state = state_raised(rt, net, *blocks as usize)?;
-        assert!(*rt; is_plain(rt, &state, 1 + place % 8)?, "{blocks}");
-        let options = Options {
-            blocks: *blocks,
-            turns: 16,
-            ..TWO
-        };
-        let state = round(rt, net, &options, &Open)?;
-        assert!(*rt;
-            is_plain(rt, &state, 8 - place % 8)?,
-            "{blocks} after a round"
-        );
+    for place in 0..BLOCKS.len() {
+        let blocks = BLOCKS[place];
+        let is_right = is_plain_at_opening(rt, net, blocks, 1 + place % 8)?;
+        expect(rt, "at the opening", place, is_right);
+        let is_right = is_plain_after_round(rt, net, blocks, 8 - place % 8)?;
+        expect(rt, "after a round", place, is_right);
     }
     Ok(())
 }
 
+/// The same of a net that was just made.
+fn expect_plain_of<R: Threads + Wait + Abort + AllocGlobal + Sync>(
+    rt: &R,
+    net: Result<Net, AllocError>,
+) -> Result<(), AllocError> {
+    let net = net?;
+    expect_plain(rt, &net)
+}
+
 #[test]
 fn blocks_find_exact_labels(rt: HostRuntime) -> Result<(), Fail> {
-    expect_plain(&rt, &two_nodes(&rt)?)?;
-    expect_plain(&rt, &idle_nodes(&rt)?)?;
-    expect_plain(&rt, &fan(&rt)?)?;
-    expect_plain(&rt, &between_two(&rt)?)?;
-    expect_plain(&rt, &two_ways(&rt)?)?;
+    expect_plain_of(&rt, two_nodes(&rt))?;
+    expect_plain_of(&rt, idle_nodes(&rt))?;
+    expect_plain_of(&rt, fan(&rt))?;
+    expect_plain_of(&rt, between_two(&rt))?;
+    expect_plain_of(&rt, two_ways(&rt))?;
     Ok(())
 }
 
@@ -73,21 +103,48 @@ fn blocks_of_moves_find_exact_labels(rt: HostRuntime) -> Result<(), Fail> {
     Ok(())
 }
 
-/// The labels of a way over 64 nodes that goes from block to block at each step: node i of the
-/// first half is 2 i steps from the first node, node 32 + i of the second half a step more, and the
-/// last node gives the sink. A way of 4,096 nodes is left to one thread.
+/// The labels that two blocks of a way find by two threads.
+fn labels_of_way<R: Threads + Abort + AllocGlobal + Sync>(
+    rt: &R,
+    net: &Net,
+) -> Result<Option<Vec<u32>>, AllocError> {
+    let state = state_raised(rt, net, 2)?;
+    distances_by_blocks(rt, rt.alloc(), &state, 2)
+}
+
+/// Whether the labels are those of a way over 64 nodes that goes from block to block at each step:
+/// node i of the first half is 2 i steps from the first node, node 32 + i of the second half a step
+/// more, and the last node gives the sink.
+fn are_of_short_way(labels: &[u32]) -> bool {
+    if labels.len() != 64 {
+        return false;
+    }
+    for i in 0..32usize {
+        let steps = 64 - 2 * i as u32;
+        if labels[i] != steps || labels[32 + i] != steps - 1 {
+            return false;
+        }
+    }
+    true
+}
+
+/// Whether blocks find the labels of a short way.
+fn finds_short_way<R: Threads + Abort + AllocGlobal + Sync>(rt: &R) -> Result<bool, AllocError> {
+    match labels_of_way(rt, &short_way(rt)?)? {
+        Some(labels) => Ok(are_of_short_way(&labels)),
+        None => Ok(false),
+    }
+}
+
+/// Whether a way of 4,096 nodes is left to one thread.
+fn leaves_long_way<R: Threads + Abort + AllocGlobal + Sync>(rt: &R) -> Result<bool, AllocError> {
+    let net = long_way(rt)?;
+    Ok(labels_of_way(rt, &net)?.is_none())
+}
+
 #[test]
 fn ways_over_the_border(rt: HostRuntime) -> Result<(), Fail> {
-    let net = short_way(&rt)?;
-    let state = state_raised(&rt, &net, 2)?;
-    let found = distances_by_blocks(&rt, rt.alloc(), &state, 2)?;
-    let labels = found.expect(&rt, "labels");
-    for i in 0..32 {
-        assert!(rt; labels.get(i) == Some(&(64 - 2 * i as u32)));
-        assert!(rt; labels.get(32 + i) == Some(&(63 - 2 * i as u32)));
-    }
-    let net = long_way(&rt)?;
-    let state = state_raised(&rt, &net, 2)?;
-    assert!(rt; distances_by_blocks(&rt, rt.alloc(), &state, 2)?.is_none());
+    assert!(rt; finds_short_way(&rt)?);
+    assert!(rt; leaves_long_way(&rt)?);
     Ok(())
 }

@@ -5,8 +5,11 @@ use crate::building::{idle_nodes, long_way, two_nodes};
 use crate::gates::{Alternate, Closed, Held, Overlap};
 use block_core::State;
 use std::alloc::{AllocError, Global};
+use std::process::Abort;
+use std::sync::Wait;
 use std::test::Fail;
-use worker_options::Options;
+use std::thread::Threads;
+use worker_options::{Gate, Options};
 
 /// Two threads over two blocks, with the other options as the program has them where none is told.
 pub const TWO: Options = Options {
@@ -54,15 +57,23 @@ pub const LONG: Options = Options {
     ..TWO
 };
 
+/// Whether the state after a round over the long way is finished, and the sink has its unit.
+fn is_drained<R: Threads + Wait + Abort + AllocGlobal + Sync, G: Gate>(
+    rt: &R,
+    gate: &G,
+) -> Result<bool, AllocError> {
+    let net = long_way(rt)?;
+    let state = round(rt, &net, &LONG, gate)?;
+    Ok(is_finished(rt.alloc(), &state)? && state.got() == 1)
+}
+
 /// A unit of flow crosses the border of two blocks 4,095 times, once a turn at most: the round goes
 /// on until the sink has it, and does not leave it to what comes after the round.
 #[test]
 fn round_drains(rt: HostRuntime) -> Result<(), Fail> {
-    let net = long_way(&rt)?;
     let gate = Alternate::new();
-    let state = round(&rt, &net, &LONG, &gate)?;
+    assert!(rt; is_drained(&rt, &gate)?);
     assert!(rt; gate.went_far());
-    assert!(rt; is_finished(rt.alloc(), &state)? && state.got() == 1);
     Ok(())
 }
 

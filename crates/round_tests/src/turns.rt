@@ -12,7 +12,7 @@ use std::process::Abort;
 use std::sync::Wait;
 use std::test::Fail;
 use std::thread::Threads;
-use worker_options::Options;
+use worker_options::{Gate, Options};
 
 /// What a diary of two blocks at one worker has in it that says no to the blocks below a number.
 fn diary_of<R: Threads + Wait + Abort + AllocGlobal + Sync>(
@@ -69,17 +69,26 @@ fn are_alike(first: &State, second: &State) -> bool {
 /// One thread over two blocks, with no turn to draw.
 const NO_TURNS: Options = Options { turns: 0, ..ONE };
 
+/// The state of the net of a move after a round by one thread over two blocks.
+fn round_of_move<R: Threads + Wait + Abort + AllocGlobal + Sync, G: Gate>(
+    rt: &R,
+    options: &Options,
+    gate: &G,
+) -> Result<State, Fail> {
+    let net = net_of_move(rt)?;
+    Ok(round(rt, &net, options, gate)?)
+}
+
 /// A block does nothing in a turn to which the gate says no: it is left as where there is no turn
 /// to draw.
 #[test]
 fn noes_do_nothing(rt: HostRuntime) -> Result<(), Fail> {
-    let net = net_of_move(&rt)?;
-    let first = round(&rt, &net, &NO_TURNS, &Open)?;
+    let first = round_of_move(&rt, &NO_TURNS, &Open)?;
     let no = Only {
         first: true,
         later: false,
     };
-    let none = round(&rt, &net, &ONE, &no)?;
+    let none = round_of_move(&rt, &ONE, &no)?;
     assert!(rt; are_alike(&first, &none));
     Ok(())
 }
@@ -87,15 +96,14 @@ fn noes_do_nothing(rt: HostRuntime) -> Result<(), Fail> {
 /// What the gate says to turn 0 changes nothing, and what it says to later turns does.
 #[test]
 fn first_turns_are_not_asked_for(rt: HostRuntime) -> Result<(), Fail> {
-    let net = net_of_move(&rt)?;
-    let all = round(&rt, &net, &ONE, &Open)?;
+    let all = round_of_move(&rt, &ONE, &Open)?;
     let later = Only {
         first: false,
         later: true,
     };
-    let same = round(&rt, &net, &ONE, &later)?;
+    let same = round_of_move(&rt, &ONE, &later)?;
     assert!(rt; are_alike(&all, &same));
-    let first = round(&rt, &net, &NO_TURNS, &Open)?;
+    let first = round_of_move(&rt, &NO_TURNS, &Open)?;
     assert!(rt; !are_alike(&first, &all));
     Ok(())
 }
