@@ -12,10 +12,13 @@ one. A function of that name stands in the crate. Nothing is compiled and nothin
 
 import re
 import sys
+from collections import Counter
 from pathlib import Path
 
 TOP = Path(__file__).resolve().parent.parent
+TABLE = TOP / "tools/edit_crates.txt"
 NAMED = re.compile(r"([a-z0-9_]+)-[a-z0-9_]+\.edit")
+MOST_OF_A_FUNCTION = 2
 
 
 class Fault(Exception):
@@ -88,12 +91,35 @@ def fault_of(path):
     return None
 
 
+def listed():
+    """The crates of the table, each with who relies on it."""
+    lines = TABLE.read_text(encoding="utf-8").splitlines()
+    rows = [line.partition(":") for line in lines if line.strip() and not line.startswith("#")]
+    return {crate.strip(): reason.strip() for crate, _, reason in rows}
+
+
+def table_faults(edits):
+    """What is wrong with the table, and with how many edits a function has."""
+    table, having = listed(), {path.parent.parent.name for path in edits}
+    for crate in sorted(having - table.keys()):
+        yield f"{crate} has edits and no line in {TABLE.name}: who outside relies on it?"
+    for crate in sorted(table.keys() - having):
+        yield f"{TABLE.name} lists {crate}, which has no edit"
+    for crate in sorted(crate for crate, reason in table.items() if not reason):
+        yield f"{TABLE.name}: {crate} has no reason"
+    counts = Counter((path.parent.parent.name, path.name.partition("-")[0]) for path in edits)
+    for (crate, function), count in sorted(counts.items()):
+        if count > MOST_OF_A_FUNCTION:
+            yield f"{crate}: {function} has {count} edits, in place of at most {MOST_OF_A_FUNCTION}"
+
+
 def main():
     if sys.argv[1:]:
         sys.exit(__doc__)
     edits = sorted((TOP / "crates").glob("*/must-fail/*"))
     faults = [(path.relative_to(TOP), fault_of(path)) for path in edits]
     faults = [f"{path}: {fault}" for path, fault in faults if fault]
+    faults += table_faults(edits)
     for fault in faults:
         print(fault)
     sys.exit(1 if faults else 0)

@@ -34,7 +34,7 @@ PARTS = [
             "sums",
         ),
     ),
-    ("cutting", ("plain_cut", "solvers", "sink_distances", "flow_network", "side_tests")),
+    ("cutting", ("plain_cut", "solvers", "sink_distances", "flow_network")),
     (
         "cutting by workers",
         (

@@ -5,7 +5,7 @@ use Rattle.flow_network.specs.Preflow.{arc_at}
 use Rattle.block_events.specs.declared.direction.Direction.{Direction}
 use Rattle.block_events.specs.declared.message.Message.{Message}
 use Rattle.block_events.specs.declared.message.Message.TheVariants.{Parcel, Accepted, Refused}
-use Rattle.block_events.specs.declared.event.Event.TheVariants.{Accept, Refuse, EndFlight}
+use Rattle.block_events.specs.declared.event.Event.TheVariants.{Accept, Refuse, Settle}
 use Rattle.block_events.specs.Directions.{far, opposite}
 use Rattle.block_events.specs.States as core
 use Rattle.block_events.specs.Events as events
@@ -106,16 +106,16 @@ refuse_is v ways ways1 ways2 got b c x a d rest front took put =
 
 -- ---- the answer in front ends its flight
 
-pub may_end_flight : (s : core.State) (b c : ℕ) (m : Message) (rest : List Message) → core.IsWay s b c → core.way_at s.ways b c ≡ m ∷ rest
-    → events.MayEndFlight (m ∷ rest) → events.IsEnabled s (EndFlight b c)
-may_end_flight s b c m rest way front may = (way, subst events.MayEndFlight (sym front) may)
+pub may_settle : (s : core.State) (b c : ℕ) (m : Message) (rest : List Message) → core.IsWay s b c → core.way_at s.ways b c ≡ m ∷ rest
+    → events.MaySettle (m ∷ rest) → events.IsEnabled s (Settle b c)
+may_settle s b c m rest way front may = (way, subst events.MaySettle (sym front) may)
 
 pub delivery_is : (v v' : BlocksView) (ways ways1 : List (List (List Message))) (got b c : ℕ) (x : Direction) (a : ℕ) (rest : List Message)
     → core.way_at ways b c ≡ Accepted x a ∷ rest → v' ≡ blocks_after_delivery v x → ways1 ≡ core.put_way ways b c rest
-    → state_of v' ways1 got ≡ events.effect (state_of v ways got) (EndFlight b c)
-delivery_is v v' ways ways1 got b c x a rest front made took = rw (made, took) (sym (ap (events.after_end_flight (state_of v ways got) b c) front))
+    → state_of v' ways1 got ≡ events.effect (state_of v ways got) (Settle b c)
+delivery_is v v' ways ways1 got b c x a rest front made took = rw (made, took) (sym (ap (events.after_settle (state_of v ways got) b c) front))
 
 pub return_is : (v v' : BlocksView) (ways ways1 : List (List (List Message))) (got b c : ℕ) (x : Direction) (a d told : ℕ) (rest : List Message)
     → core.way_at ways b c ≡ Refused x a d told ∷ rest → v' ≡ blocks_after_return v x a told → ways1 ≡ core.put_way ways b c rest
-    → state_of v' ways1 got ≡ events.effect (state_of v ways got) (EndFlight b c)
-return_is v v' ways ways1 got b c x a d told rest front made took = rw (made, took) (sym (ap (events.after_end_flight (state_of v ways got) b c) front))
+    → state_of v' ways1 got ≡ events.effect (state_of v ways got) (Settle b c)
+return_is v v' ways ways1 got b c x a d told rest front made took = rw (made, took) (sym (ap (events.after_settle (state_of v ways got) b c) front))

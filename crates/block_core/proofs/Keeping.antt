@@ -3,9 +3,9 @@ use Rattle.std.proofs.Common.{◌≡◌, ◌≤◌, ℕ, List, length, [], ◌�
 use Rattle.block_events.specs.declared.message.Message.{Message}
 use Rattle.block_events.specs.declared.message.Message.TheVariants.{Parcel, Accepted, Refused}
 use Rattle.block_events.specs.declared.event.Event.{Event}
-use Rattle.block_events.specs.declared.event.Event.TheVariants.{PushInner, PushSink, Relabel, Send, Accept, Refuse, EndFlight, RaiseAll}
+use Rattle.block_events.specs.declared.event.Event.TheVariants.{PushInner, PushSink, Relabel, Send, Accept, Refuse, Settle, RaiseAll}
 use Rattle.block_events.specs.States.{State, way_at}
-use Rattle.block_events.specs.Events.{IsEnabled, effect, after_accept, after_refuse, after_end_flight}
+use Rattle.block_events.specs.Events.{IsEnabled, effect, after_accept, after_refuse, after_settle}
 use Rattle.block_events.proofs.Kept.{effect_kept}
 use Rattle.block_net.specs.Limits.{arc_limit}
 use Rattle.block_core.specs.AllWays.{HasRooms, IsHeld}
@@ -27,7 +27,7 @@ refused_net s b c (Parcel x a d ∷ rest) = record { net = refl; blocks = refl }
 refused_net s b c (Accepted x a ∷ rest) = record { net = refl; blocks = refl }
 refused_net s b c (Refused x a d told ∷ rest) = record { net = refl; blocks = refl }
 
-ended_net : (s : State) (b c : ℕ) (way : List Message) → IsOfNet s (after_end_flight s b c way)
+ended_net : (s : State) (b c : ℕ) (way : List Message) → IsOfNet s (after_settle s b c way)
 ended_net s b c [] = record { net = refl; blocks = refl }
 ended_net s b c (Parcel x a d ∷ rest) = record { net = refl; blocks = refl }
 ended_net s b c (Accepted x a ∷ rest) = record { net = refl; blocks = refl }
@@ -40,7 +40,7 @@ effect_net s (Relabel v) = record { net = refl; blocks = refl }
 effect_net s (Send x) = record { net = refl; blocks = refl }
 effect_net s (Accept b c) = accepted_net s b c (way_at s.ways b c)
 effect_net s (Refuse b c) = refused_net s b c (way_at s.ways b c)
-effect_net s (EndFlight b c) = ended_net s b c (way_at s.ways b c)
+effect_net s (Settle b c) = ended_net s b c (way_at s.ways b c)
 effect_net s RaiseAll = record { net = refl; blocks = refl }
 
 pub held_after : {rooms : List (List ℕ)} {s : State} (e : Event) → IsHeld rooms s → IsEnabled s e → IsHeld rooms (effect s e)

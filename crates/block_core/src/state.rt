@@ -250,7 +250,7 @@ impl State {
     ghost use Rattle.block_events.specs.declared.event.Event.TheVariants.{PushInner, PushSink};
     ghost use Rattle.block_events.specs.declared.event.Event.TheVariants.{Relabel};
     ghost use Rattle.block_events.specs.declared.event.Event.TheVariants.{Send, Accept, Refuse};
-    ghost use Rattle.block_events.specs.declared.event.Event.TheVariants.{EndFlight};
+    ghost use Rattle.block_events.specs.declared.event.Event.TheVariants.{Settle};
     ghost use Rattle.block_events.specs.declared.event.Event.TheVariants.{RaiseAll};
 
     /// Whether a node has excess and is not cut off.
@@ -410,7 +410,7 @@ impl State {
         requires way { IsWay self.old from to }
         requires front { way_at self.old.ways from to
             ≡ Accepted direction amount ∷ drop 1 (way_at self.old.ways from to) }
-        ensures { self.new ≡ effect self.old (EndFlight from to) }
+        ensures { self.new ≡ effect self.old (Settle from to) }
     {
         self.blocks.deliver_parcel(direction);
         self.ways.take(from, to);
@@ -429,7 +429,7 @@ impl State {
         requires way { IsWay self.old from to }
         requires front { way_at self.old.ways from to
             ≡ Refused direction amount label told ∷ drop 1 (way_at self.old.ways from to) }
-        ensures { self.new ≡ effect self.old (EndFlight from to) }
+        ensures { self.new ≡ effect self.old (Settle from to) }
     {
         self.blocks.return_parcel(direction, amount, told);
         self.ways.take(from, to);
@@ -511,8 +511,8 @@ impl State {
 
     /// The answer in front of a way ends its flight; no where that is not enabled, and nothing
     /// changes.
-    fn end_flight(&mut self, from: usize, to: usize) -> bool
-        ensures { HappensIfEnabled self.old (EndFlight from to) self.new result }
+    fn settle(&mut self, from: usize, to: usize) -> bool
+        ensures { HappensIfEnabled self.old (Settle from to) self.new result }
     {
         match self.front(from, to) {
             Some(Message::Accepted { direction, amount }) => {
@@ -548,7 +548,7 @@ impl State {
             Event::Send { direction } => self.send(direction),
             Event::Accept { from, to } => self.accept(from as usize, to as usize),
             Event::Refuse { from, to } => self.refuse(from as usize, to as usize),
-            Event::EndFlight { from, to } => self.end_flight(from as usize, to as usize),
+            Event::Settle { from, to } => self.settle(from as usize, to as usize),
             Event::RaiseAll => self.raise_all(),
         }
     }

@@ -1,12 +1,12 @@
 -- Steps, one after another, are a history.
 use Rattle.std.proofs.Common.{ℕ, List, [], ◌∷◌, length, refl, sym, ap, subst, arith}
 use Rattle.block_net.specs.Whole.{Whole}
-use Rattle.block_turns.specs.Steps.{Step, Push, Give, Relabel, Send, Accept, Refuse, EndFlight, TurnView, IsStepEnabled, turn_after, IsRunOfSteps, DoesMany}
+use Rattle.block_turns.specs.Steps.{Step, Push, Give, Relabel, Send, Accept, Refuse, Settle, TurnView, IsStepEnabled, turn_after, IsRunOfSteps, DoesMany}
 use Rattle.block_cut.specs.Seats.{IsSeated, shown_by}
 use Rattle.block_cut.specs.TurnEvents.{IsLed}
 use Rattle.block_cut.proofs.Seated.{Goes}
 use Rattle.block_cut.proofs.Acts.{push_goes, give_goes, rise_goes, send_goes}
-use Rattle.block_cut.proofs.TakeSteps.{accept_goes, refuse_goes, end_flight_goes}
+use Rattle.block_cut.proofs.TakeSteps.{accept_goes, refuse_goes, settle_goes}
 
 step_goes : (w : Whole) (b : ℕ) (h : TurnView) (got : ℕ) (e : Step) → IsSeated w b h.block → IsStepEnabled h.block e → Goes w b h (turn_after h e) got
 step_goes w b h got (Push p j) seat on = push_goes w b h p j got seat on
@@ -15,7 +15,7 @@ step_goes w b h got (Relabel p) seat on = rise_goes w b h p got seat on
 step_goes w b h got (Send p j) seat on = send_goes w b h p j got seat on
 step_goes w b h got (Accept c l) seat on = accept_goes w b h c l.place got l.message seat on
 step_goes w b h got (Refuse c l) seat on = refuse_goes w b h c l.place got l.message seat on
-step_goes w b h got (EndFlight c l) seat on = end_flight_goes w b h c l.place got l.message seat on
+step_goes w b h got (Settle c l) seat on = settle_goes w b h c l.place got l.message seat on
 
 run_led : (w : Whole) (b got : ℕ) (es : List Step) (h g : TurnView) → IsSeated w b h.block → IsRunOfSteps h es g → IsLed w b got (length es) h g
 run_led w b got [] h g seat run = record {

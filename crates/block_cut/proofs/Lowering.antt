@@ -3,9 +3,9 @@ use Rattle.std.proofs.Common.{◌≡◌, ℕ, ◌<◌, ◌≤◌, Bool, true, fa
 use Rattle.std.proofs.lemmas.Bool.{false≢true, true≢false}
 use Rattle.block_events.specs.declared.message.Message.{Message}
 use Rattle.block_events.specs.declared.event.Event.{Event}
-use Rattle.block_events.specs.declared.event.Event.TheVariants.{PushInner, PushSink, Relabel, Send, Accept, Refuse, EndFlight, RaiseAll}
+use Rattle.block_events.specs.declared.event.Event.TheVariants.{PushInner, PushSink, Relabel, Send, Accept, Refuse, Settle, RaiseAll}
 use Rattle.block_events.specs.States.{State, way_at, block_of, near_block}
-use Rattle.block_events.specs.Events.{IsQuiet, IsEnabled, Happens, MayAccept, MayRefuse, MayEndFlight}
+use Rattle.block_events.specs.Events.{IsQuiet, IsEnabled, Happens, MayAccept, MayRefuse, MaySettle}
 use Rattle.block_events.specs.Soundness.{IsSound, IsFinished, potential}
 use Rattle.block_events.proofs.Lists.{lowers, never_raises}
 use Rattle.block_events.proofs.Ends.{block_in, near_block_in}
@@ -24,7 +24,7 @@ happens_net s t (Relabel v) h = ap (λ (q : State). q.net) h.effect ∙ (effect_
 happens_net s t (Send x) h = ap (λ (q : State). q.net) h.effect ∙ (effect_net s (Send x)).net
 happens_net s t (Accept b c) h = ap (λ (q : State). q.net) h.effect ∙ (effect_net s (Accept b c)).net
 happens_net s t (Refuse b c) h = ap (λ (q : State). q.net) h.effect ∙ (effect_net s (Refuse b c)).net
-happens_net s t (EndFlight b c) h = ap (λ (q : State). q.net) h.effect ∙ (effect_net s (EndFlight b c)).net
+happens_net s t (Settle b c) h = ap (λ (q : State). q.net) h.effect ∙ (effect_net s (Settle b c)).net
 happens_net s t RaiseAll h = ap (λ (q : State). q.net) h.effect.2
 
 pub lowers_one : (s t : State) (e : Event) → IsSound s → (e ≡ RaiseAll → ⊥) → Happens s e t → Lowers s t true
@@ -67,9 +67,9 @@ lowers_or s t u false false h k = lowers_still s t u false h k
 
 -- ---- nothing left to do
 
-no_take : (s : State) (way : List Message) → way ≡ [] → (MayAccept s way → ⊥) × (MayRefuse s way → ⊥) × (MayEndFlight way → ⊥)
+no_take : (s : State) (way : List Message) → way ≡ [] → (MayAccept s way → ⊥) × (MayRefuse s way → ⊥) × (MaySettle way → ⊥)
 no_take s way e =
-    let P : List Message → Type 0 = λ w. (MayAccept s w → ⊥) × (MayRefuse s w → ⊥) × (MayEndFlight w → ⊥) in
+    let P : List Message → Type 0 = λ w. (MayAccept s w → ⊥) × (MayRefuse s w → ⊥) × (MaySettle w → ⊥) in
     subst P (sym e) ((λ h. h), (λ h. h), (λ h. h))
 
 -- an enabled event takes a message that is there, or the block of its node may start it
@@ -80,7 +80,7 @@ not_enabled s (Relabel v) sound quiet none other on = none (block_of s.net s.blo
 not_enabled s (Send x) sound quiet none other on = none (near_block s.net s.blocks x) (near_block_in s x sound.sized on.0) (Send x) (refl, on)
 not_enabled s (Accept b c) sound quiet none other on = (no_take s (way_at s.ways b c) (quiet b c on.0.0 on.0.1)).0 on.1
 not_enabled s (Refuse b c) sound quiet none other on = (no_take s (way_at s.ways b c) (quiet b c on.0.0 on.0.1)).1 on.1
-not_enabled s (EndFlight b c) sound quiet none other on = (no_take s (way_at s.ways b c) (quiet b c on.0.0 on.0.1)).2 on.1
+not_enabled s (Settle b c) sound quiet none other on = (no_take s (way_at s.ways b c) (quiet b c on.0.0 on.0.1)).2 on.1
 not_enabled s RaiseAll sound quiet none other on = other refl
 
 -- a quiet state in which no block may start an event is finished

@@ -4,7 +4,7 @@ use Rattle.std.proofs.lemmas.Bool.{cases_eq, cases_lt, ne_eqb}
 use Rattle.std.proofs.lemmas.List.{length-set, length-replicate, get_or-replicate, get_or_past, append_cancel_left, ext_get_or}
 use Rattle.block_events.specs.declared.message.Message.{Message}
 use Rattle.block_events.specs.declared.event.Event.{Event}
-use Rattle.block_events.specs.declared.event.Event.TheVariants.{PushInner, PushSink, Relabel, Send, Accept, Refuse, EndFlight, RaiseAll}
+use Rattle.block_events.specs.declared.event.Event.TheVariants.{PushInner, PushSink, Relabel, Send, Accept, Refuse, Settle, RaiseAll}
 use Rattle.block_events.specs.States.{State, way_at}
 use Rattle.block_events.specs.Events.{steps}
 use Rattle.block_events.specs.Soundness.{IsSound, IsSquare}
@@ -64,7 +64,7 @@ one_step b s t (Relabel v) es does = refl
 one_step b s t (Send x) es does = refl
 one_step b s t (Accept c to) es does = refl
 one_step b s t (Refuse c to) es does = refl
-one_step b s t (EndFlight c to) es does = refl
+one_step b s t (Settle c to) es does = refl
 one_step b s t RaiseAll es does = absurd does.0
 
 each_step : (b : ℕ) (es : List Event) (s t : State) → IsHistory b s es t → steps es ≡ length es

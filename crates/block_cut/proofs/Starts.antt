@@ -5,7 +5,7 @@ use Rattle.block_events.specs.declared.lane.Lane.{Lane}
 use Rattle.block_events.specs.declared.direction.Direction.{Direction}
 use Rattle.block_events.specs.declared.message.Message.{Message}
 use Rattle.block_events.specs.declared.event.Event.{Event}
-use Rattle.block_events.specs.declared.event.Event.TheVariants.{PushInner, PushSink, Relabel, Send, Accept, Refuse, EndFlight, RaiseAll}
+use Rattle.block_events.specs.declared.event.Event.TheVariants.{PushInner, PushSink, Relabel, Send, Accept, Refuse, Settle, RaiseAll}
 use Rattle.block_events.specs.Directions.{near, far}
 use Rattle.block_events.specs.States as core
 use Rattle.block_events.specs.Events as events
@@ -140,5 +140,5 @@ start_is_step w b got h s (Relabel u) seat room may = let found = start_rise w b
 start_is_step w b got h s (Send x) seat room may = start_send w b got h x s seat room may
 start_is_step w b got h s (Accept c to) seat room may = absurd may
 start_is_step w b got h s (Refuse c to) seat room may = absurd may
-start_is_step w b got h s (EndFlight c to) seat room may = absurd may
+start_is_step w b got h s (Settle c to) seat room may = absurd may
 start_is_step w b got h s RaiseAll seat room may = absurd may.0

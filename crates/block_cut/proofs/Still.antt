@@ -7,7 +7,7 @@ use Rattle.sums.proofs.SumLemmas.{term-le-sum_below, counted-true}
 use Rattle.flow_network.specs.Cut.{Network}
 use Rattle.block_events.specs.declared.direction.Direction.{Direction}
 use Rattle.block_events.specs.declared.event.Event.{Event}
-use Rattle.block_events.specs.declared.event.Event.TheVariants.{PushInner, PushSink, Relabel, Send, Accept, Refuse, EndFlight, RaiseAll}
+use Rattle.block_events.specs.declared.event.Event.TheVariants.{PushInner, PushSink, Relabel, Send, Accept, Refuse, Settle, RaiseAll}
 use Rattle.block_events.specs.declared.message.Message.{Message}
 use Rattle.block_events.specs.Directions.{IsDirection, forward, backward, far, over_directions}
 use Rattle.block_events.specs.States.{State, way_at, near_block, far_block}
@@ -90,7 +90,7 @@ may_with v b ways ways' got got' (Relabel u) may = (may.0, (active_with v ways w
 may_with v b ways ways' got got' (Send x) may = (may.0, (may.1.0, may.1.1, active_with v ways ways' got got' _ may.1.2, may.1.3, may.1.4, may.1.5))
 may_with v b ways ways' got got' (Accept c to) may = absurd may
 may_with v b ways ways' got got' (Refuse c to) may = absurd may
-may_with v b ways ways' got got' (EndFlight c to) may = absurd may
+may_with v b ways ways' got got' (Settle c to) may = absurd may
 may_with v b ways ways' got got' RaiseAll may = absurd may.0
 
 -- no events change nothing

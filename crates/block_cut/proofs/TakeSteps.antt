@@ -7,7 +7,7 @@ use Rattle.block_events.specs.declared.lane.Lane.{Lane}
 use Rattle.block_events.specs.declared.direction.Direction.{Direction}
 use Rattle.block_events.specs.declared.message.Message.{Message}
 use Rattle.block_events.specs.declared.message.Message.TheVariants.{Parcel, Accepted, Refused}
-use Rattle.block_events.specs.declared.event.Event.TheVariants.{Accept, Refuse, EndFlight}
+use Rattle.block_events.specs.declared.event.Event.TheVariants.{Accept, Refuse, Settle}
 use Rattle.block_events.specs.Directions.{far, opposite}
 use Rattle.block_events.specs.States as core
 use Rattle.block_events.specs.Soundness.{amount_out}
@@ -24,7 +24,7 @@ use Rattle.block_core.proofs.Effects.{border_apart}
 use Rattle.laid_blocks.proofs.Steps.{label_read, top_read, border_read, border_capacity, border_spot, back_spot, out_same, accepted_at, delivered_at, returned_at}
 use Rattle.block_turns.specs.Seen.{add_to}
 use Rattle.block_turns.specs.Steps as steps
-use Rattle.block_turns.specs.Steps.{TurnView, turn_after_accept, turn_after_refuse, turn_after_end_flight}
+use Rattle.block_turns.specs.Steps.{TurnView, turn_after_accept, turn_after_refuse, turn_after_settle}
 use Rattle.block_cut.specs.Seats.{IsSeated, logs_of}
 use Rattle.block_cut.proofs.Logs.{sent_log, taken_log}
 use Rattle.block_cut.proofs.Seated.{view_with, at_seat, border_seat, Goes, view_after, seat_after}
@@ -145,9 +145,9 @@ refuse_goes w b h c j got (Parcel x a d) seat may =
 refuse_goes w b h c j got (Accepted x a) seat may = absurd may
 refuse_goes w b h c j got (Refused x a d told) seat may = absurd may
 
-pub end_flight_goes : (w : Whole) (b : ℕ) (h : TurnView) (c j got : ℕ) (m : Message) → IsSeated w b h.block → steps.MayEndFlightAt h.block c j m → Goes w b h (turn_after_end_flight h c j m) got
-end_flight_goes w b h c j got (Parcel x a d) seat may = absurd may
-end_flight_goes w b h c j got (Accepted x a) seat may =
+pub settle_goes : (w : Whole) (b : ℕ) (h : TurnView) (c j got : ℕ) (m : Message) → IsSeated w b h.block → steps.MaySettleAt h.block c j m → Goes w b h (turn_after_settle h c j m) got
+settle_goes w b h c j got (Parcel x a d) seat may = absurd may
+settle_goes w b h c j got (Accepted x a) seat may =
     let B = h.block in
     let w1 = put_block w b B in
     let v = view_with w b B in
@@ -159,7 +159,7 @@ end_flight_goes w b h c j got (Accepted x a) seat may =
     let flight = ap (λ (q : Lane). q.flight) (border_read w1 v b B x j at is.row) in
     let taken = taken_log n b c h.sent h.taken (Accepted x a) seat.block is.other is.apart in
     record {
-      event = EndFlight c b;
+      event = Settle c b;
       got' = got;
       does = (
         refl,
@@ -170,7 +170,7 @@ end_flight_goes w b h c j got (Accepted x a) seat may =
       );
       seated = seat_after w b B new (blocks_after_delivery v x) seat then' refl refl (length-set B.borders j _);
     }
-end_flight_goes w b h c j got (Refused x a d told) seat may =
+settle_goes w b h c j got (Refused x a d told) seat may =
     let B = h.block in
     let w1 = put_block w b B in
     let v = view_with w b B in
@@ -185,7 +185,7 @@ end_flight_goes w b h c j got (Refused x a d told) seat may =
     let within : told ≤ top v.net = omega (arith, may.4, high) in
     let taken = taken_log n b c h.sent h.taken (Refused x a d told) seat.block is.other is.apart in
     record {
-      event = EndFlight c b;
+      event = Settle c b;
       got' = got;
       does = (
         refl,

@@ -5,10 +5,10 @@ use Rattle.std.proofs.lemmas.List.Elements.{All-append, All-cons, All-nil}
 use Rattle.block_events.specs.declared.message.Message.{Message}
 use Rattle.block_events.specs.declared.message.Message.TheVariants.{Parcel, Accepted, Refused}
 use Rattle.block_events.specs.declared.event.Event.{Event}
-use Rattle.block_events.specs.declared.event.Event.TheVariants.{Accept, Refuse, EndFlight, RaiseAll}
+use Rattle.block_events.specs.declared.event.Event.TheVariants.{Accept, Refuse, Settle, RaiseAll}
 use Rattle.block_events.specs.Directions.{far}
 use Rattle.block_events.specs.States.{State, way_at, label_of, IsWay}
-use Rattle.block_events.specs.Events.{IsEnabled, Happens, IsRunOfEvents, MayAccept, MayRefuse, after_accept, after_refuse, after_end_flight, effect}
+use Rattle.block_events.specs.Events.{IsEnabled, Happens, IsRunOfEvents, MayAccept, MayRefuse, after_accept, after_refuse, after_settle, effect}
 use Rattle.block_events.specs.Soundness.{IsSound}
 use Rattle.block_events.proofs.Kept.{kept}
 use Rattle.block_events.proofs.Replies.{front_out}
@@ -31,7 +31,7 @@ refused_labels s b c (Parcel x a d ∷ rest) = refl
 refused_labels s b c (Accepted x a ∷ rest) = refl
 refused_labels s b c (Refused x a d told ∷ rest) = refl
 
-ended_labels : (s : State) (b c : ℕ) (way : List Message) → (after_end_flight s b c way).labels ≡ s.labels
+ended_labels : (s : State) (b c : ℕ) (way : List Message) → (after_settle s b c way).labels ≡ s.labels
 ended_labels s b c [] = refl
 ended_labels s b c (Parcel x a d ∷ rest) = refl
 ended_labels s b c (Accepted x a ∷ rest) = refl
@@ -52,8 +52,8 @@ accept_taken s t b c sound h = taken_by s t (Accept b c) sound (λ e. absurd (cc
 pub refuse_taken : (s t : State) (b c : ℕ) → IsSound s → Happens s (Refuse b c) t → IsTakenIn s t true
 refuse_taken s t b c sound h = taken_by s t (Refuse b c) sound (λ e. absurd (cc)) tt h h.effect (refused_labels s b c (way_at s.ways b c))
 
-pub end_flight_taken : (s t : State) (b c : ℕ) → IsSound s → Happens s (EndFlight b c) t → IsTakenIn s t true
-end_flight_taken s t b c sound h = taken_by s t (EndFlight b c) sound (λ e. absurd (cc)) tt h h.effect (ended_labels s b c (way_at s.ways b c))
+pub settle_taken : (s t : State) (b c : ℕ) → IsSound s → Happens s (Settle b c) t → IsTakenIn s t true
+settle_taken s t b c sound h = taken_by s t (Settle b c) sound (λ e. absurd (cc)) tt h h.effect (ended_labels s b c (way_at s.ways b c))
 
 pub taken_same : (s t : State) → t ≡ s → IsTakenIn s t false
 taken_same s t e = record {
@@ -66,8 +66,8 @@ taken_same s t e = record {
 
 -- a message in front can be taken
 front_taken : (s : State) (b c : ℕ) (m : Message) (rest : List Message) → IsSound s → IsWay s b c → way_at s.ways b c ≡ m ∷ rest
-    → (IsEnabled s (Accept b c) → ⊥) → (IsEnabled s (Refuse b c) → ⊥) → (IsEnabled s (EndFlight b c) → ⊥) → ⊥
-front_taken s b c (Parcel x a d) rest sound way e accept refuse end_flight =
+    → (IsEnabled s (Accept b c) → ⊥) → (IsEnabled s (Refuse b c) → ⊥) → (IsEnabled s (Settle b c) → ⊥) → ⊥
+front_taken s b c (Parcel x a d) rest sound way e accept refuse settle =
     let o = front_out s b c (Parcel x a d) rest sound e in
     let at_x = sound.flights x o.direction (record { amount = a; label = d }) o.flight in
     let known = sound.labels.known x o.direction o.border in
@@ -79,16 +79,16 @@ front_taken s b c (Parcel x a d) rest sound way e accept refuse end_flight =
           let may : MayRefuse s (Parcel x a d ∷ rest) = high in
           refuse (way, rw e may)
     ]
-front_taken s b c (Accepted x a) rest sound way e accept refuse end_flight = end_flight (way, rw e tt)
-front_taken s b c (Refused x a d told) rest sound way e accept refuse end_flight = end_flight (way, rw e tt)
+front_taken s b c (Accepted x a) rest sound way e accept refuse settle = settle (way, rw e tt)
+front_taken s b c (Refused x a d told) rest sound way e accept refuse settle = settle (way, rw e tt)
 
 none_in_front : (s : State) (b c : ℕ) (way : List Message) → IsSound s → IsWay s b c → way_at s.ways b c ≡ way
-    → (IsEnabled s (Accept b c) → ⊥) → (IsEnabled s (Refuse b c) → ⊥) → (IsEnabled s (EndFlight b c) → ⊥) → way ≡ []
-none_in_front s b c [] sound at e accept refuse end_flight = refl
-none_in_front s b c (m ∷ rest) sound at e accept refuse end_flight = absurd (front_taken s b c m rest sound at e accept refuse end_flight)
+    → (IsEnabled s (Accept b c) → ⊥) → (IsEnabled s (Refuse b c) → ⊥) → (IsEnabled s (Settle b c) → ⊥) → way ≡ []
+none_in_front s b c [] sound at e accept refuse settle = refl
+none_in_front s b c (m ∷ rest) sound at e accept refuse settle = absurd (front_taken s b c m rest sound at e accept refuse settle)
 
-pub way_empty : (s : State) (b c : ℕ) → IsSound s → (IsEnabled s (Accept b c) → ⊥) → (IsEnabled s (Refuse b c) → ⊥) → (IsEnabled s (EndFlight b c) → ⊥) → IsWay s b c → way_at s.ways b c ≡ []
-way_empty s b c sound accept refuse end_flight way = none_in_front s b c (way_at s.ways b c) sound way refl accept refuse end_flight
+pub way_empty : (s : State) (b c : ℕ) → IsSound s → (IsEnabled s (Accept b c) → ⊥) → (IsEnabled s (Refuse b c) → ⊥) → (IsEnabled s (Settle b c) → ⊥) → IsWay s b c → way_at s.ways b c ≡ []
+way_empty s b c sound accept refuse settle way = none_in_front s b c (way_at s.ways b c) sound way refl accept refuse settle
 
 -- ---- one after another
 
@@ -120,20 +120,20 @@ taken_still s t u p h k = let P : State → Type 0 = λ q. IsTakenIn s q p in su
 pub from_same : (s s1 t : State) (r : Bool) → s1 ≡ s → IsTakenIn s1 t r → IsTakenIn s t r
 from_same s s1 t r e h = let P : State → Type 0 = λ q. IsTakenIn q t r in subst P e h
 
-pub end_flight_by : (s t : State) (b c : ℕ) (r : Bool) → IsSound s → HappensIfEnabled s (EndFlight b c) t r → IsTakenIn s t r
-end_flight_by s t b c true sound h = end_flight_taken s t b c sound h
-end_flight_by s t b c false sound h = taken_same s t h.1
+pub settle_by : (s t : State) (b c : ℕ) (r : Bool) → IsSound s → HappensIfEnabled s (Settle b c) t r → IsTakenIn s t r
+settle_by s t b c true sound h = settle_taken s t b c sound h
+settle_by s t b c false sound h = taken_same s t h.1
 
-not_ended : (s t : State) (b c : ℕ) (r : Bool) → HappensIfEnabled s (EndFlight b c) t r → IsFalse r → IsEnabled s (EndFlight b c) → ⊥
+not_ended : (s t : State) (b c : ℕ) (r : Bool) → HappensIfEnabled s (Settle b c) t r → IsFalse r → IsEnabled s (Settle b c) → ⊥
 not_ended s t b c true h off = absurd (true≢false off)
 not_ended s t b c false h off = h.0
 
 pub none_taken : (s s1 s2 t : State) (b c : ℕ) (r : Bool) → IsSound s → (¬ IsEnabled s (Accept b c)) × (s1 ≡ s) → (¬ IsEnabled s1 (Refuse b c)) × (s2 ≡ s1)
-    → HappensIfEnabled s2 (EndFlight b c) t r → IsFalse r → IsWay s b c → way_at s.ways b c ≡ []
-none_taken s s1 s2 t b c r sound accept refuse end_flight off =
+    → HappensIfEnabled s2 (Settle b c) t r → IsFalse r → IsWay s b c → way_at s.ways b c ≡ []
+none_taken s s1 s2 t b c r sound accept refuse settle off =
     let P : State → Type 0 = λ q. ¬ IsEnabled q (Refuse b c) in
-    let Q : State → Type 0 = λ q. ¬ IsEnabled q (EndFlight b c) in
-    way_empty s b c sound accept.0 (subst P accept.1 refuse.0) (subst Q (refuse.1 ∙ accept.1) (not_ended s2 t b c r end_flight off))
+    let Q : State → Type 0 = λ q. ¬ IsEnabled q (Settle b c) in
+    way_empty s b c sound accept.0 (subst P accept.1 refuse.0) (subst Q (refuse.1 ∙ accept.1) (not_ended s2 t b c r settle off))
 
 -- ---- loops
 

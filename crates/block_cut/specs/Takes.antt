@@ -2,7 +2,7 @@
 use Rattle.std.specs.Prelude.{◌≡◌, ℕ, ◌<◌, Bool, List, [], All}
 use Rattle.block_events.specs.declared.event.Event.{Event}
 use Rattle.block_events.specs.declared.event.Event.TheVariants.{PushInner, PushSink, Relabel, Send}
-use Rattle.block_events.specs.declared.event.Event.TheVariants.{Accept, Refuse, EndFlight, RaiseAll}
+use Rattle.block_events.specs.declared.event.Event.TheVariants.{Accept, Refuse, Settle, RaiseAll}
 use Rattle.block_events.specs.States.{State, way_at}
 use Rattle.block_events.specs.Events.{IsRunOfEvents}
 use Rattle.block_events.specs.Soundness.{IsSound}
@@ -16,7 +16,7 @@ IsTaking (Relabel v) = ⊥
 IsTaking (Send x) = ⊥
 IsTaking (Accept b c) = Unit {0}
 IsTaking (Refuse b c) = Unit {0}
-IsTaking (EndFlight b c) = Unit {0}
+IsTaking (Settle b c) = Unit {0}
 IsTaking RaiseAll = ⊥
 
 -- events that take messages lead from the one state to the other

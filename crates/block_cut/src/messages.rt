@@ -20,7 +20,7 @@ fn take_front(state: &mut State, from: u32, to: u32) -> bool
     if state.perform(Event::Refuse { from, to }) {
         return true;
     }
-    state.perform(Event::EndFlight { from, to })
+    state.perform(Event::Settle { from, to })
 }
 
 /// All messages of a way are taken; no where none is there, and nothing changes.

@@ -23,7 +23,7 @@ use Rattle.std.proofs.Common.{get_or-set_same, get_or-set_other}
 use Rattle.sums.specs.Sums.{sum_below}
 use Rattle.sums.proofs.SumLemmas.{sum_below-change}
 use Rattle.block_events.specs.Effects.{lane_after_accept}
-use Rattle.block_events.specs.Events.{after_push, after_sink_push, after_relabel, after_send, after_accept, after_refuse, after_end_flight}
+use Rattle.block_events.specs.Events.{after_push, after_sink_push, after_relabel, after_send, after_accept, after_refuse, after_settle}
 use Rattle.block_events.specs.Soundness.{labels_to_rise, weight, height, unit, potential}
 use Rattle.block_events.proofs.Lanes.{directions_changed}
 use Rattle.block_events.proofs.Replies.{messages_answered}
@@ -205,17 +205,17 @@ refused_lowers s b c x a d rest sound way e =
     by_height (labels_to_rise s) (labels_to_rise t) (height s) (height t) (unit s) (omega arith) (omega (arith, messages, pos))
 
 pub taken_lowers : (s : State) (b c : ℕ) (x : Direction) (a : ℕ) (rest : List Message) → IsSound s → IsWay s b c
-    → way_at s.ways b c ≡ Accepted x a ∷ rest → potential (after_end_flight s b c (Accepted x a ∷ rest)) < potential s
+    → way_at s.ways b c ≡ Accepted x a ∷ rest → potential (after_settle s b c (Accepted x a ∷ rest)) < potential s
 taken_lowers s b c x a rest sound way e =
     let front = front_out s b c (Accepted x a) rest sound e in
     let less = messages_less s.blocks weight s.ways b c (Accepted x a) rest sound.sized.ways way.0 way.1 e in
     let lane : Lane = record (lane_at s.lanes x) { flight = None } in
     let known = known_put s s.lanes x lane (long s sound.sized) front.1.direction (omega arith) in
-    let t = after_end_flight s b c (Accepted x a ∷ rest) in
+    let t = after_settle s b c (Accepted x a ∷ rest) in
     by_height (labels_to_rise s) (labels_to_rise t) (height s) (height t) (unit s) (omega (arith, known)) (omega (arith, less))
 
 pub returned_lowers : (s : State) (b c : ℕ) (x : Direction) (a d told : ℕ) (rest : List Message) → IsSound s → IsWay s b c
-    → way_at s.ways b c ≡ Refused x a d told ∷ rest → potential (after_end_flight s b c (Refused x a d told ∷ rest)) < potential s
+    → way_at s.ways b c ≡ Refused x a d told ∷ rest → potential (after_settle s b c (Refused x a d told ∷ rest)) < potential s
 returned_lowers s b c x a d told rest sound way e =
     let m : Message = Refused x a d told in
     let front = front_out s b c m rest sound e in
@@ -234,7 +234,7 @@ returned_lowers s b c x a d told rest sound way e =
     let pos = some_times a d o.some (omega (arith, at_x.1, at_x.2)) in
     let some : 1 ≤ sum s.net.sources = omega (arith, carried, sound.flow.total, o.some) in
     let many = mul-le 1 1 (top s.net) (sum s.net.sources) (omega arith) some in
-    let t = after_end_flight s b c (Refused x a d told ∷ rest) in
+    let t = after_settle s b c (Refused x a d told ∷ rest) in
     by_rise (labels_to_rise s) (labels_to_rise t) (height s) (height t) (unit s) 1
     (omega (arith, change, c1, c2, low, front.1, front.2, at_x.1, at_x.2))
     (let one : 1 * unit s ≡ unit s = grind arith in omega (arith, less, h, same, pos, many, one))

@@ -13,7 +13,7 @@ use Rattle.block_events.specs.declared.message.Message.TheVariants.{Parcel, Acce
 use Rattle.block_events.specs.Directions.{opposite, forward, backward, IsDirection, near, far, sum_leaving}
 use Rattle.block_events.specs.States.{State, Lane, lane_at, put_lane, way_at, over_messages, excess_of, label_of, room_of, flight_of, residual_of, known_of, near_block, far_block, is_border, seen_label}
 use Rattle.block_events.specs.Effects.{lane_after_accept}
-use Rattle.block_events.specs.Events.{after_push, after_sink_push, after_relabel, after_send, after_accept, after_refuse, after_end_flight, highest_label}
+use Rattle.block_events.specs.Events.{after_push, after_sink_push, after_relabel, after_send, after_accept, after_refuse, after_settle, highest_label}
 use Rattle.block_events.specs.Soundness.{IsSized, IsSound, HasMessages, carries, carries_on, first_residual}
 use Rattle.block_events.proofs.Lanes.{long_put, near_opposite, far_opposite, border_opposite}
 use Rattle.block_events.proofs.Ways.{square_put, square_answered}
@@ -324,7 +324,7 @@ refused_fit s c b x a d rest fit = record {
   flights = fit.flights;
 }
 
-pub taken_fit : (s : State) (c b : ℕ) (x : Direction) (a : ℕ) (rest : List Message) → IsFit s → IsDirection s.net x → IsFit (after_end_flight s c b (Accepted x a ∷ rest))
+pub taken_fit : (s : State) (c b : ℕ) (x : Direction) (a : ℕ) (rest : List Message) → IsFit s → IsDirection s.net x → IsFit (after_settle s c b (Accepted x a ∷ rest))
 taken_fit s c b x a rest fit lx =
     let arcs = length s.net.arcs in
     let lane : Lane = record (lane_at s.lanes x) { flight = None } in
@@ -351,7 +351,7 @@ taken_fit s c b x a rest fit lx =
     }
 
 pub returned_fit : (s : State) (c b : ℕ) (x : Direction) (a d told : ℕ) (rest : List Message) → IsFit s → IsDirection s.net x
-    → flight_of s x ≡ Some (record { amount = a; label = d }) → d ≤ told → IsFit (after_end_flight s c b (Refused x a d told ∷ rest))
+    → flight_of s x ≡ Some (record { amount = a; label = d }) → d ≤ told → IsFit (after_settle s c b (Refused x a d told ∷ rest))
 returned_fit s c b x a d told rest fit lx out high =
     let arcs = length s.net.arcs in
     let v = near s.net x in

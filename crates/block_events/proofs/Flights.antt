@@ -13,7 +13,7 @@ use Rattle.block_events.proofs.Local.{counted_none, sum_less, sum_more, each_lan
 use Rattle.block_events.proofs.Ends.{near_in, near_block_in, far_block_in}
 use Rattle.block_events.proofs.Fit.{Known, sound_fit, fit_sound, taken_fit, returned_fit, sent_fit}
 use Rattle.block_events.proofs.Replies.{IsGoodWay, good_ways, good_rest, good_more, front_out}
-use Rattle.block_events.specs.Events.{after_end_flight, after_send}
+use Rattle.block_events.specs.Events.{after_settle, after_send}
 
 -- where no message names a direction, its lane may change
 good_without : (net : Network) (blocks : ℕ) (lanes : Lanes) (labels : List ℕ) (ways : List (List (List Message))) (x : Direction) (lane : Lane)
@@ -28,7 +28,7 @@ good_without net blocks lanes labels ways x lane good off b c = record {
 -- ---- a flight ends whose parcel was taken
 
 pub taken_kept : (s : State) (b c : ℕ) (x : Direction) (a : ℕ) (rest : List Message) → IsSound s → IsWay s b c
-    → way_at s.ways b c ≡ Accepted x a ∷ rest → IsSound (after_end_flight s b c (Accepted x a ∷ rest))
+    → way_at s.ways b c ≡ Accepted x a ∷ rest → IsSound (after_settle s b c (Accepted x a ∷ rest))
 taken_kept s b c x a rest sound way e =
     let m : Message = Accepted x a in
     let n = s.blocks in
@@ -49,7 +49,7 @@ taken_kept s b c x a rest sound way e =
     (each_put n (IsGoodWay s.net s.blocks s.lanes s.labels) s.ways b c rest sq way.0 way.1 (good_ways s s.lanes sound (λ y h. refl))
     (good_rest s.net s.blocks s.lanes s.labels b c m rest (way_at s.ways b c) e (good_ways s s.lanes sound (λ y h. refl) b c)))
     (names_other n ways x none) in
-    fit_sound (after_end_flight s b c (Accepted x a ∷ rest)) (taken_fit s b c x a rest (sound_fit s sound) lx) (record {
+    fit_sound (after_settle s b c (Accepted x a ∷ rest)) (taken_fit s b c x a rest (sound_fit s sound) lx) (record {
       arcs = λ k lk. omega (arith, sound.flow.arcs k lk, less (carries_on k), arc_changed arcs s.lanes x lane 0 0 k lng lx (omega arith), counted_none (eqb x.arc k));
       total = omega (arith, sound.flow.total, less carries);
       known = each_lane arcs s.lanes x lane (Known s) lng lx
@@ -65,7 +65,7 @@ taken_kept s b c x a rest sound way e =
 -- ---- a flight ends whose parcel was sent back
 
 pub returned_kept : (s : State) (b c : ℕ) (x : Direction) (a d told : ℕ) (rest : List Message) → IsSound s → IsWay s b c
-    → way_at s.ways b c ≡ Refused x a d told ∷ rest → IsSound (after_end_flight s b c (Refused x a d told ∷ rest))
+    → way_at s.ways b c ≡ Refused x a d told ∷ rest → IsSound (after_settle s b c (Refused x a d told ∷ rest))
 returned_kept s b c x a d told rest sound way e =
     let m : Message = Refused x a d told in
     let n = s.blocks in
@@ -87,7 +87,7 @@ returned_kept s b c x a d told rest sound way e =
     (each_put n (IsGoodWay s.net s.blocks s.lanes s.labels) s.ways b c rest sq way.0 way.1 (good_ways s s.lanes sound (λ y h. refl))
     (good_rest s.net s.blocks s.lanes s.labels b c m rest (way_at s.ways b c) e (good_ways s s.lanes sound (λ y h. refl) b c)))
     (names_other n ways x none) in
-    fit_sound (after_end_flight s b c (Refused x a d told ∷ rest)) (returned_fit s b c x a d told rest (sound_fit s sound) lx o.flight front.1) (record {
+    fit_sound (after_settle s b c (Refused x a d told ∷ rest)) (returned_fit s b c x a d told rest (sound_fit s sound) lx o.flight front.1) (record {
       arcs = λ k lk. omega (arith, sound.flow.arcs k lk, less (carries_on k), arc_changed arcs s.lanes x lane 0 a k lng lx (omega arith), counted_none (eqb x.arc k));
       total = omega (arith, sound.flow.total, less carries, sum_more s.excess v a lv);
       known = each_lane arcs s.lanes x lane (Known s) lng lx

@@ -3,9 +3,9 @@ use Rattle.std.proofs.Common.{◌≡◌, ℕ, List, [], ◌∷◌, ◌++◌, ref
 use Rattle.block_events.specs.declared.message.Message.{Message}
 use Rattle.block_events.specs.declared.message.Message.TheVariants.{Parcel, Accepted, Refused}
 use Rattle.block_events.specs.declared.event.Event.{Event}
-use Rattle.block_events.specs.declared.event.Event.TheVariants.{PushInner, PushSink, Relabel, Send, Accept, Refuse, EndFlight, RaiseAll}
+use Rattle.block_events.specs.declared.event.Event.TheVariants.{PushInner, PushSink, Relabel, Send, Accept, Refuse, Settle, RaiseAll}
 use Rattle.block_events.specs.States.{State, far_block}
-use Rattle.block_events.specs.Events.{MayAccept, MayRefuse, after_accept, after_refuse, after_end_flight, IsQuiet}
+use Rattle.block_events.specs.Events.{MayAccept, MayRefuse, after_accept, after_refuse, after_settle, IsQuiet}
 use Rattle.block_events.specs.Soundness.{IsSound}
 use Rattle.block_events.proofs.Raising.{quiet_ways}
 use Rattle.block_events.specs.Workers.{MayTake, FitsFlight, taken_with, DoesOwn, IsHistory}
@@ -39,15 +39,15 @@ refuse_own b c old s (Parcel x a d) own me may = record {
 refuse_own b c old s (Accepted x a) own me may = absurd may
 refuse_own b c old s (Refused x a d told) own me may = absurd may
 
-end_flight_own : (b c : ℕ) (old s : State) (m : Message) → IsOwn b old s → MayTake s b c m → FitsFlight s m → IsOwn b old (after_end_flight s c b (taken_with s b c m))
-end_flight_own b c old s (Parcel x a d) own me fits = absurd fits
-end_flight_own b c old s (Accepted x a) own me fits = record {
+settle_own : (b c : ℕ) (old s : State) (m : Message) → IsOwn b old s → MayTake s b c m → FitsFlight s m → IsOwn b old (after_settle s c b (taken_with s b c m))
+settle_own b c old s (Parcel x a d) own me fits = absurd fits
+settle_own b c old s (Accepted x a) own me fits = record {
   net = own.net;
   blocks = own.blocks;
   fit = taken_fit s c b x a _ own.fit me.addressed.direction;
   log = taken_logged b c old s x a fits.0 own.fit own.log me.addressed me.fair fits.1;
 }
-end_flight_own b c old s (Refused x a d told) own me fits = record {
+settle_own b c old s (Refused x a d told) own me fits = record {
   net = own.net;
   blocks = own.blocks;
   fit = returned_fit s c b x a d told _ own.fit me.addressed.direction fits.0 me.fair.2;
@@ -89,7 +89,7 @@ effect_own b old s (Send x) t own does =
     })
 effect_own b old s (Accept c to) t own does = subst (λ (u : State). IsOwn b old u) (sym does.5) (accept_own b c old s does.1 own does.2 does.3)
 effect_own b old s (Refuse c to) t own does = subst (λ (u : State). IsOwn b old u) (sym does.4) (refuse_own b c old s does.1 own does.2 does.3)
-effect_own b old s (EndFlight c to) t own does = subst (λ (u : State). IsOwn b old u) (sym does.4) (end_flight_own b c old s does.1 own does.2 does.3)
+effect_own b old s (Settle c to) t own does = subst (λ (u : State). IsOwn b old u) (sym does.4) (settle_own b c old s does.1 own does.2 does.3)
 effect_own b old s RaiseAll t own does = absurd does.0
 
 history_own : (b : ℕ) (old : State) (h : List Event) (s t : State) → IsOwn b old s → IsHistory b s h t → IsOwn b old t

@@ -6,8 +6,8 @@ use Rattle.block_events.specs.declared.message.Message.TheVariants.{Parcel, Acce
 use Rattle.block_events.specs.States.{State, way_at, label_of, IsWay}
 use Rattle.block_events.specs.Soundness.{IsSound}
 use Rattle.block_events.specs.declared.event.Event.{Event}
-use Rattle.block_events.specs.declared.event.Event.TheVariants.{PushInner, PushSink, Relabel, Send, Accept, Refuse, EndFlight, RaiseAll}
-use Rattle.block_events.specs.Events.{after_accept, after_refuse, after_end_flight, after_raise_all, highest_label, MayAccept, MayRefuse, MayEndFlight, IsEnabled, effect, Happens, IsRunOfEvents}
+use Rattle.block_events.specs.declared.event.Event.TheVariants.{PushInner, PushSink, Relabel, Send, Accept, Refuse, Settle, RaiseAll}
+use Rattle.block_events.specs.Events.{after_accept, after_refuse, after_settle, after_raise_all, highest_label, MayAccept, MayRefuse, MaySettle, IsEnabled, effect, Happens, IsRunOfEvents}
 use Rattle.block_events.proofs.Replies.{accepted_kept, refused_kept}
 use Rattle.block_events.proofs.Flights.{taken_kept, returned_kept, sent_kept}
 use Rattle.block_events.proofs.Inside.{pushed_kept, given_kept, relabelled_kept}
@@ -34,11 +34,11 @@ refuse_kept s b c (Accepted x a ∷ rest) sound in_range e may = absurd may
 refuse_kept s b c (Refused x a d told ∷ rest) sound in_range e may = absurd may
 refuse_kept s b c [] sound in_range e may = absurd may
 
-end_flight_kept : (s : State) (b c : ℕ) (way : List Message) → IsSound s → IsWay s b c → way_at s.ways b c ≡ way → MayEndFlight way → IsSound (after_end_flight s b c way)
-end_flight_kept s b c (Parcel x a d ∷ rest) sound in_range e may = absurd may
-end_flight_kept s b c (Accepted x a ∷ rest) sound in_range e may = taken_kept s b c x a rest sound in_range e
-end_flight_kept s b c (Refused x a d told ∷ rest) sound in_range e may = returned_kept s b c x a d told rest sound in_range e
-end_flight_kept s b c [] sound in_range e may = absurd may
+settle_kept : (s : State) (b c : ℕ) (way : List Message) → IsSound s → IsWay s b c → way_at s.ways b c ≡ way → MaySettle way → IsSound (after_settle s b c way)
+settle_kept s b c (Parcel x a d ∷ rest) sound in_range e may = absurd may
+settle_kept s b c (Accepted x a ∷ rest) sound in_range e may = taken_kept s b c x a rest sound in_range e
+settle_kept s b c (Refused x a d told ∷ rest) sound in_range e may = returned_kept s b c x a d told rest sound in_range e
+settle_kept s b c [] sound in_range e may = absurd may
 
 -- every event but `RaiseAll`
 pub effect_kept : (s : State) (e : Event) → IsSound s → IsEnabled s e → IsSound (effect s e)
@@ -48,7 +48,7 @@ effect_kept s (Relabel v) sound on = relabelled_kept s v _ sound (highest_allowe
 effect_kept s (Send x) sound on = sent_kept s x _ sound on.0 on.1 (omega (arith, on.2.excess, on.3)) (omega arith) (omega arith) on.4 on.5
 effect_kept s (Accept b c) sound on = accept_kept s b c (way_at s.ways b c) sound on.0 refl on.1
 effect_kept s (Refuse b c) sound on = refuse_kept s b c (way_at s.ways b c) sound on.0 refl on.1
-effect_kept s (EndFlight b c) sound on = end_flight_kept s b c (way_at s.ways b c) sound on.0 refl on.1
+effect_kept s (Settle b c) sound on = settle_kept s b c (way_at s.ways b c) sound on.0 refl on.1
 effect_kept s RaiseAll sound on = sound
 
 by_effect : (s t : State) (e : Event) → IsSound s → IsEnabled s e → t ≡ effect s e → IsSound t
@@ -62,7 +62,7 @@ kept s t (Relabel v) sound h = by_effect s t (Relabel v) sound h.enabled h.effec
 kept s t (Send x) sound h = by_effect s t (Send x) sound h.enabled h.effect
 kept s t (Accept b c) sound h = by_effect s t (Accept b c) sound h.enabled h.effect
 kept s t (Refuse b c) sound h = by_effect s t (Refuse b c) sound h.enabled h.effect
-kept s t (EndFlight b c) sound h = by_effect s t (EndFlight b c) sound h.enabled h.effect
+kept s t (Settle b c) sound h = by_effect s t (Settle b c) sound h.enabled h.effect
 kept s t RaiseAll sound h =
     let P : State → Type 0 = λ x. IsSound x in
     let effect = h.effect in
@@ -76,7 +76,7 @@ one_effect s t u (Relabel v) h k = h.effect ∙ sym k.effect
 one_effect s t u (Send x) h k = h.effect ∙ sym k.effect
 one_effect s t u (Accept b c) h k = h.effect ∙ sym k.effect
 one_effect s t u (Refuse b c) h k = h.effect ∙ sym k.effect
-one_effect s t u (EndFlight b c) h k = h.effect ∙ sym k.effect
+one_effect s t u (Settle b c) h k = h.effect ∙ sym k.effect
 one_effect s t u RaiseAll h k =
     let a = h.effect in
     let b = k.effect in

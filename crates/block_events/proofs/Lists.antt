@@ -5,8 +5,8 @@ use Rattle.block_events.specs.declared.message.Message.TheVariants.{Parcel, Acce
 use Rattle.block_events.specs.States.{State, way_at, IsWay}
 use Rattle.block_events.specs.Soundness.{IsSound}
 use Rattle.block_events.specs.declared.event.Event.{Event}
-use Rattle.block_events.specs.declared.event.Event.TheVariants.{PushInner, PushSink, Relabel, Send, Accept, Refuse, EndFlight, RaiseAll}
-use Rattle.block_events.specs.Events.{MayAccept, MayRefuse, MayEndFlight, IsEnabled, effect, Happens, IsRunOfEvents, after_accept, after_refuse, after_end_flight, steps}
+use Rattle.block_events.specs.declared.event.Event.TheVariants.{PushInner, PushSink, Relabel, Send, Accept, Refuse, Settle, RaiseAll}
+use Rattle.block_events.specs.Events.{MayAccept, MayRefuse, MaySettle, IsEnabled, effect, Happens, IsRunOfEvents, after_accept, after_refuse, after_settle, steps}
 use Rattle.block_events.specs.Soundness.{potential}
 use Rattle.block_events.proofs.Kept.{kept, highest_allowed}
 use Rattle.block_events.proofs.Count.{pushed_lowers, given_lowers, relabelled_lowers, sent_lowers, accepted_lowers, refused_lowers, taken_lowers, returned_lowers}
@@ -24,11 +24,11 @@ refuse_lowers s b c (Accepted x a ∷ rest) sound in_range e may = absurd may
 refuse_lowers s b c (Refused x a d told ∷ rest) sound in_range e may = absurd may
 refuse_lowers s b c [] sound in_range e may = absurd may
 
-end_flight_lowers : (s : State) (b c : ℕ) (way : List Message) → IsSound s → IsWay s b c → way_at s.ways b c ≡ way → MayEndFlight way → potential (after_end_flight s b c way) < potential s
-end_flight_lowers s b c (Parcel x a d ∷ rest) sound in_range e may = absurd may
-end_flight_lowers s b c (Accepted x a ∷ rest) sound in_range e may = taken_lowers s b c x a rest sound in_range e
-end_flight_lowers s b c (Refused x a d told ∷ rest) sound in_range e may = returned_lowers s b c x a d told rest sound in_range e
-end_flight_lowers s b c [] sound in_range e may = absurd may
+settle_lowers : (s : State) (b c : ℕ) (way : List Message) → IsSound s → IsWay s b c → way_at s.ways b c ≡ way → MaySettle way → potential (after_settle s b c way) < potential s
+settle_lowers s b c (Parcel x a d ∷ rest) sound in_range e may = absurd may
+settle_lowers s b c (Accepted x a ∷ rest) sound in_range e may = taken_lowers s b c x a rest sound in_range e
+settle_lowers s b c (Refused x a d told ∷ rest) sound in_range e may = returned_lowers s b c x a d told rest sound in_range e
+settle_lowers s b c [] sound in_range e may = absurd may
 
 effect_lowers : (s : State) (e : Event) → IsSound s → IsEnabled s e → (e ≡ RaiseAll → ⊥) → potential (effect s e) < potential s
 effect_lowers s (PushInner x) sound on other = pushed_lowers s x _ sound on.0 (omega (arith, on.2.excess, on.3)) (omega arith) on.4
@@ -37,7 +37,7 @@ effect_lowers s (Relabel v) sound on other = relabelled_lowers s v _ sound (high
 effect_lowers s (Send x) sound on other = sent_lowers s x _ sound on.0 (omega (arith, on.2.excess, on.3)) (omega arith) on.4
 effect_lowers s (Accept b c) sound on other = accept_lowers s b c (way_at s.ways b c) sound on.0 refl on.1
 effect_lowers s (Refuse b c) sound on other = refuse_lowers s b c (way_at s.ways b c) sound on.0 refl on.1
-effect_lowers s (EndFlight b c) sound on other = end_flight_lowers s b c (way_at s.ways b c) sound on.0 refl on.1
+effect_lowers s (Settle b c) sound on other = settle_lowers s b c (way_at s.ways b c) sound on.0 refl on.1
 effect_lowers s RaiseAll sound on other = absurd (other refl)
 
 by_effect : (s t : State) (e : Event) → IsSound s → IsEnabled s e → (e ≡ RaiseAll → ⊥) → t ≡ effect s e → potential t < potential s
@@ -51,7 +51,7 @@ lowers s t (Relabel v) sound h other = by_effect s t (Relabel v) sound h.enabled
 lowers s t (Send x) sound h other = by_effect s t (Send x) sound h.enabled other h.effect
 lowers s t (Accept b c) sound h other = by_effect s t (Accept b c) sound h.enabled other h.effect
 lowers s t (Refuse b c) sound h other = by_effect s t (Refuse b c) sound h.enabled other h.effect
-lowers s t (EndFlight b c) sound h other = by_effect s t (EndFlight b c) sound h.enabled other h.effect
+lowers s t (Settle b c) sound h other = by_effect s t (Settle b c) sound h.enabled other h.effect
 lowers s t RaiseAll sound h other = absurd (other refl)
 
 -- and `RaiseAll` does not raise it
@@ -68,7 +68,7 @@ one_step s mid t (Relabel v) rest sound h le = omega (arith, lowers s mid (Relab
 one_step s mid t (Send x) rest sound h le = omega (arith, lowers s mid (Send x) sound h (λ e. absurd (cc)), le)
 one_step s mid t (Accept b c) rest sound h le = omega (arith, lowers s mid (Accept b c) sound h (λ e. absurd (cc)), le)
 one_step s mid t (Refuse b c) rest sound h le = omega (arith, lowers s mid (Refuse b c) sound h (λ e. absurd (cc)), le)
-one_step s mid t (EndFlight b c) rest sound h le = omega (arith, lowers s mid (EndFlight b c) sound h (λ e. absurd (cc)), le)
+one_step s mid t (Settle b c) rest sound h le = omega (arith, lowers s mid (Settle b c) sound h (λ e. absurd (cc)), le)
 one_step s mid t RaiseAll rest sound h le = omega (arith, never_raises s mid sound h, le)
 
 steps_front : (e : Event) (es : List Event) → steps (e ∷ es) ≡ steps (e ∷ []) + steps es
@@ -78,7 +78,7 @@ steps_front (Relabel v) es = omega arith
 steps_front (Send x) es = omega arith
 steps_front (Accept b c) es = omega arith
 steps_front (Refuse b c) es = omega arith
-steps_front (EndFlight b c) es = omega arith
+steps_front (Settle b c) es = omega arith
 steps_front RaiseAll es = omega arith
 
 -- over a list, the events other than `RaiseAll` are at most as many as the count falls

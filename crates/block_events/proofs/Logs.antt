@@ -11,7 +11,7 @@ use Rattle.block_events.specs.declared.message.Message.TheVariants.{Parcel, Acce
 use Rattle.block_events.specs.Directions.{forward, backward, opposite, is_same, IsDirection, near, far}
 use Rattle.block_events.specs.States.{State, Lane, Lanes, lane_at, put_lane, way_at, put_message, over_messages, label_of, room_of, flight_of, residual_of, known_of, near_block, far_block, block_of, is_border}
 use Rattle.block_events.specs.Effects.{lane_after_accept}
-use Rattle.block_events.specs.Events.{IsQuiet, after_push, after_sink_push, after_relabel, after_send, after_accept, after_refuse, after_end_flight}
+use Rattle.block_events.specs.Events.{IsQuiet, after_push, after_sink_push, after_relabel, after_send, after_accept, after_refuse, after_settle}
 use Rattle.block_events.specs.Soundness.{IsSound, IsSquare}
 use Rattle.block_events.proofs.Lanes.{same_itself as same_is, not_same as not_same_is, long_put, lane_other, cases_direction, near_opposite, far_opposite, border_opposite, opposite_twice}
 use Rattle.block_events.proofs.Ways.{EachWay, each_put, square_put, messages_more, all_more}
@@ -542,7 +542,7 @@ refused_logged b c' old s x a d fit log o some some_label high =
 -- ---- an answer that the block takes
 
 pub taken_logged : (b c' : ℕ) (old s : State) (x : Direction) (a d : ℕ) → IsFit s → IsLogged b old s → IsBetween s.net s.blocks x b c'
-    → 1 ≤ a → flight_of s x ≡ Some (record { amount = a; label = d }) → IsLogged b old (after_end_flight s c' b (taken_with s b c' (Accepted x a)))
+    → 1 ≤ a → flight_of s x ≡ Some (record { amount = a; label = d }) → IsLogged b old (after_settle s c' b (taken_with s b c' (Accepted x a)))
 taken_logged b c' old s x a d fit log o some fly =
     let n = s.blocks in
     let net = s.net in
@@ -589,7 +589,7 @@ taken_logged b c' old s x a d fit log o some fly =
     }
 
 pub returned_logged : (b c' : ℕ) (old s : State) (x : Direction) (a d told : ℕ) → IsFit s → IsLogged b old s → IsBetween s.net s.blocks x b c'
-    → 1 ≤ a → 1 ≤ d → d ≤ told → flight_of s x ≡ Some (record { amount = a; label = d }) → IsLogged b old (after_end_flight s c' b (taken_with s b c' (Refused x a d told)))
+    → 1 ≤ a → 1 ≤ d → d ≤ told → flight_of s x ≡ Some (record { amount = a; label = d }) → IsLogged b old (after_settle s c' b (taken_with s b c' (Refused x a d told)))
 returned_logged b c' old s x a d told fit log o some some_label high fly =
     let n = s.blocks in
     let net = s.net in

@@ -169,9 +169,9 @@ accept_fits s b c x a d rest sound front level =
     (omega (arith, at_x.2, low), omega (arith, split, add, one, mine, whole, sides, theirs))
 
 -- a refusal in front: the label told is within the labels, and the amount fits again
-pub end_flight_fits : (s : State) (b c : ℕ) (x : Direction) (a d told : ℕ) (rest : List Message) → IsSound s → way_at s.ways b c ≡ Refused x a d told ∷ rest
+pub settle_fits : (s : State) (b c : ℕ) (x : Direction) (a d told : ℕ) (rest : List Message) → IsSound s → way_at s.ways b c ≡ Refused x a d told ∷ rest
     → (told ≤ top s.net) × (flight_of s x ≡ Some (record { amount = a; label = d })) × (residual_of s x + a ≤ (arc_at s.net x.arc).capacity)
-end_flight_fits s b c x a d told rest sound front =
+settle_fits s b c x a d told rest sound front =
     let m : Message = Refused x a d told in
     let o = front_out s b c m rest sound front in
     let lf : 0 < length (way_at s.ways b c) = (let len = ap length front in omega (arith, len)) in

@@ -18,7 +18,7 @@ use Rattle.std.proofs.lemmas.Bool.{ltb-true, and_parts, or_cases}
 use Rattle.sums.specs.Sums.{sum_below}
 use Rattle.sums.proofs.SumLemmas.{sum_below-swap, sum_below-pick, sum_below-none, term-le-sum_below}
 use Rattle.block_events.specs.declared.event.Event.{Event}
-use Rattle.block_events.specs.declared.event.Event.TheVariants.{PushInner, PushSink, Relabel, Send, Accept, Refuse, EndFlight, RaiseAll}
+use Rattle.block_events.specs.declared.event.Event.TheVariants.{PushInner, PushSink, Relabel, Send, Accept, Refuse, Settle, RaiseAll}
 use Rattle.block_events.specs.Reach.{ReachesSinkIn, ReachesSink}
 use Rattle.block_events.specs.Events.{IsActive, IsQuiet, is_open_direction, allowed_label, MayAccept, MayRefuse, IsEnabled}
 use Rattle.block_events.specs.Soundness.{IsFinished}
@@ -63,8 +63,8 @@ front_event s b c (Parcel x a d) rest sound in_range e =
           let may : MayRefuse s (Parcel x a d ∷ rest) = high in
           (Refuse b c, (λ h. absurd (cc)), (in_range, rw e may))
     ]
-front_event s b c (Accepted x a) rest sound in_range e = (EndFlight b c, (λ h. absurd (cc)), (in_range, rw e tt))
-front_event s b c (Refused x a d told) rest sound in_range e = (EndFlight b c, (λ h. absurd (cc)), (in_range, rw e tt))
+front_event s b c (Accepted x a) rest sound in_range e = (Settle b c, (λ h. absurd (cc)), (in_range, rw e tt))
+front_event s b c (Refused x a d told) rest sound in_range e = (Settle b c, (λ h. absurd (cc)), (in_range, rw e tt))
 
 message_event : (s : State) → IsSound s → HasEvent s ⊎ IsQuiet s
 message_event s sound =

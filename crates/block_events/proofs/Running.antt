@@ -5,10 +5,10 @@ use Rattle.std.proofs.lemmas.List.{length-replicate, get_or-replicate, get_or_pa
 use Rattle.block_events.specs.declared.message.Message.{Message}
 use Rattle.block_events.specs.declared.message.Message.TheVariants.{Parcel, Accepted, Refused}
 use Rattle.block_events.specs.declared.event.Event.{Event}
-use Rattle.block_events.specs.declared.event.Event.TheVariants.{PushInner, PushSink, Relabel, Send, Accept, Refuse, EndFlight, RaiseAll}
+use Rattle.block_events.specs.declared.event.Event.TheVariants.{PushInner, PushSink, Relabel, Send, Accept, Refuse, Settle, RaiseAll}
 use Rattle.block_events.specs.Directions.{far}
 use Rattle.block_events.specs.States.{State, way_at, put_way, put_message, label_of, near_block, far_block}
-use Rattle.block_events.specs.Events.{effect, IsActive, after_accept, after_refuse, after_end_flight, MayAccept, MayRefuse, Happens, IsRunOfEvents}
+use Rattle.block_events.specs.Events.{effect, IsActive, after_accept, after_refuse, after_settle, MayAccept, MayRefuse, Happens, IsRunOfEvents}
 use Rattle.block_events.specs.Soundness.{IsSound, IsSquare}
 use Rattle.block_events.proofs.Ways.{square_put, way_same, way_other}
 use Rattle.block_events.proofs.Kept.{kept}
@@ -138,11 +138,11 @@ refuse_goes b c first l ways (Parcel x a d) sound sl by me may begins =
 refuse_goes b c first l ways (Accepted x a) sound sl by me may begins = absurd may
 refuse_goes b c first l ways (Refused x a d told) sound sl by me may begins = absurd may
 
-end_flight_goes : (b c : ℕ) (first : List (List (List Message))) (l : State) (ways : List (List (List Message))) (m : Message) → IsSound (with_ways l ways) → IsSquare l.blocks l.ways
-    → IsPassed b first l.ways ways → MayTake l b c m → FitsFlight l m → Begins b first (after_end_flight l c b (taken_with l b c m)).ways
-    → Goes b first l ways (EndFlight c b) (after_end_flight l c b (taken_with l b c m))
-end_flight_goes b c first l ways (Parcel x a d) sound sl by me fits begins = absurd fits
-end_flight_goes b c first l ways (Accepted x a) sound sl by me fits begins =
+settle_goes : (b c : ℕ) (first : List (List (List Message))) (l : State) (ways : List (List (List Message))) (m : Message) → IsSound (with_ways l ways) → IsSquare l.blocks l.ways
+    → IsPassed b first l.ways ways → MayTake l b c m → FitsFlight l m → Begins b first (after_settle l c b (taken_with l b c m)).ways
+    → Goes b first l ways (Settle c b) (after_settle l c b (taken_with l b c m))
+settle_goes b c first l ways (Parcel x a d) sound sl by me fits begins = absurd fits
+settle_goes b c first l ways (Accepted x a) sound sl by me fits begins =
     let n = l.blocks in
     let m : Message = Accepted x a in
     let o : IsBetween l.net n x b c = me.addressed in
@@ -152,11 +152,11 @@ end_flight_goes b c first l ways (Accepted x a) sound sl by me fits begins =
     let front = front_is b first l.ways ways c m begin.0 off by (begin.1 ∙ ap (λ (r : List Message). r ++ begin.0) (put_here n l.ways c b m sl range.1 range.0)) in
     record {
       ways' = put_way ways c b begin.0;
-      happens = record { enabled = ((range.1, range.0), rw front tt); effect = sym (ap (after_end_flight (with_ways l ways) c b) front) };
+      happens = record { enabled = ((range.1, range.0), rw front tt); effect = sym (ap (after_settle (with_ways l ways) c b) front) };
       log = square_put n l.ways c b (way_at l.ways c b ++ m ∷ []) sl;
       beside = beside_take b n first l.ways ways c m begin.0 sl sound.sized.ways range.0 range.1 off front by;
     }
-end_flight_goes b c first l ways (Refused x a d told) sound sl by me fits begins =
+settle_goes b c first l ways (Refused x a d told) sound sl by me fits begins =
     let n = l.blocks in
     let m : Message = Refused x a d told in
     let o : IsBetween l.net n x b c = me.addressed in
@@ -166,7 +166,7 @@ end_flight_goes b c first l ways (Refused x a d told) sound sl by me fits begins
     let front = front_is b first l.ways ways c m begin.0 off by (begin.1 ∙ ap (λ (r : List Message). r ++ begin.0) (put_here n l.ways c b m sl range.1 range.0)) in
     record {
       ways' = put_way ways c b begin.0;
-      happens = record { enabled = ((range.1, range.0), rw front tt); effect = sym (ap (after_end_flight (with_ways l ways) c b) front) };
+      happens = record { enabled = ((range.1, range.0), rw front tt); effect = sym (ap (after_settle (with_ways l ways) c b) front) };
       log = square_put n l.ways c b (way_at l.ways c b ++ m ∷ []) sl;
       beside = beside_take b n first l.ways ways c m begin.0 sl sound.sized.ways range.0 range.1 off front by;
     }
@@ -211,8 +211,8 @@ does_goes b first l ways (Accept c to) l' sound sl by does begins =
     named_goes b to (λ q. Accept c q) first l ways (after_accept l c b (taken_with l b c does.1)) l' does.0 does.5 begins (λ h. accept_goes b c first l ways does.1 sound sl by does.2 does.3 h)
 does_goes b first l ways (Refuse c to) l' sound sl by does begins =
     named_goes b to (λ q. Refuse c q) first l ways (after_refuse l c b (taken_with l b c does.1)) l' does.0 does.4 begins (λ h. refuse_goes b c first l ways does.1 sound sl by does.2 does.3 h)
-does_goes b first l ways (EndFlight c to) l' sound sl by does begins =
-    named_goes b to (λ q. EndFlight c q) first l ways (after_end_flight l c b (taken_with l b c does.1)) l' does.0 does.4 begins (λ h. end_flight_goes b c first l ways does.1 sound sl by does.2 does.3 h)
+does_goes b first l ways (Settle c to) l' sound sl by does begins =
+    named_goes b to (λ q. Settle c q) first l ways (after_settle l c b (taken_with l b c does.1)) l' does.0 does.4 begins (λ h. settle_goes b c first l ways does.1 sound sl by does.2 does.3 h)
 does_goes b first l ways RaiseAll l' sound sl by does begins = absurd does.0
 
 -- ---- a history
@@ -265,10 +265,10 @@ refuse_grows b c l (Parcel x a d) may = grown_two l.ways c b (Parcel x a d) b c 
 refuse_grows b c l (Accepted x a) may = absurd may
 refuse_grows b c l (Refused x a d told) may = absurd may
 
-end_flight_grows : (b c : ℕ) (l : State) (m : Message) → FitsFlight l m → Grown l.ways (after_end_flight l c b (taken_with l b c m)).ways
-end_flight_grows b c l (Parcel x a d) fits = absurd fits
-end_flight_grows b c l (Accepted x a) fits = grows_any l.ways c b (Accepted x a)
-end_flight_grows b c l (Refused x a d told) fits = grows_any l.ways c b (Refused x a d told)
+settle_grows : (b c : ℕ) (l : State) (m : Message) → FitsFlight l m → Grown l.ways (after_settle l c b (taken_with l b c m)).ways
+settle_grows b c l (Parcel x a d) fits = absurd fits
+settle_grows b c l (Accepted x a) fits = grows_any l.ways c b (Accepted x a)
+settle_grows b c l (Refused x a d told) fits = grows_any l.ways c b (Refused x a d told)
 
 does_grows : (b : ℕ) (l : State) (e : Event) (l' : State) → DoesOwn b l e l' → Grown l.ways l'.ways
 does_grows b l (PushInner x) l' does = subst (λ (q : State). Grown l.ways q.ways) (sym does.2) (grown_same l.ways)
@@ -277,7 +277,7 @@ does_grows b l (Relabel v) l' does = subst (λ (q : State). Grown l.ways q.ways)
 does_grows b l (Send x) l' does = subst (λ (q : State). Grown l.ways q.ways) (sym does.2) (grows_any l.ways (near_block l.net l.blocks x) (far_block l.net l.blocks x) _)
 does_grows b l (Accept c to) l' does = subst (λ (q : State). Grown l.ways q.ways) (sym does.5) (accept_grows b c l does.1 does.3)
 does_grows b l (Refuse c to) l' does = subst (λ (q : State). Grown l.ways q.ways) (sym does.4) (refuse_grows b c l does.1 does.3)
-does_grows b l (EndFlight c to) l' does = subst (λ (q : State). Grown l.ways q.ways) (sym does.4) (end_flight_grows b c l does.1 does.3)
+does_grows b l (Settle c to) l' does = subst (λ (q : State). Grown l.ways q.ways) (sym does.4) (settle_grows b c l does.1 does.3)
 does_grows b l RaiseAll l' does = absurd does.0
 
 history_grows : (b : ℕ) (h : List Event) (l t : State) → IsHistory b l h t → Grown l.ways t.ways

@@ -6,10 +6,10 @@ use Rattle.block_events.specs.declared.direction.Direction.{Direction}
 use Rattle.block_events.specs.declared.message.Message.{Message}
 use Rattle.block_events.specs.declared.message.Message.TheVariants.{Parcel, Accepted, Refused}
 use Rattle.block_events.specs.declared.event.Event.{Event}
-use Rattle.block_events.specs.declared.event.Event.TheVariants.{PushInner, PushSink, Relabel, Send, Accept, Refuse, EndFlight, RaiseAll}
+use Rattle.block_events.specs.declared.event.Event.TheVariants.{PushInner, PushSink, Relabel, Send, Accept, Refuse, Settle, RaiseAll}
 use Rattle.block_events.specs.Directions.{far}
 use Rattle.block_events.specs.States.{State, way_at, put_message, label_of, near_block, far_block, IsWay}
-use Rattle.block_events.specs.Events.{IsEnabled, MayAccept, MayRefuse, MayEndFlight, effect, after_accept, after_refuse, after_end_flight}
+use Rattle.block_events.specs.Events.{IsEnabled, MayAccept, MayRefuse, MaySettle, effect, after_accept, after_refuse, after_settle}
 use Rattle.block_events.specs.Soundness.{IsSound, IsOut}
 use Rattle.block_events.proofs.Ends.{far_in, near_block_in}
 use Rattle.block_events.proofs.Ways.{square_put}
@@ -81,26 +81,26 @@ refuse_terms b c s (Parcel x a d ∷ rest) sound l e may =
 refuse_terms b c s (Accepted x a ∷ rest) sound l e may = absurd may
 refuse_terms b c s (Refused x a d told ∷ rest) sound l e may = absurd may
 
-end_flight_terms : (b c : ℕ) (s : State) (way : List Message) → IsSound s → IsWay s c b → way_at s.ways c b ≡ way → MayEndFlight way
-    → (m : Message) × MayTake (without_messages s) b c m × FitsFlight (without_messages s) m × TookFronts b s (after_end_flight (without_messages s) c b (taken_with (without_messages s) b c m))
-end_flight_terms b c s [] sound l e may = absurd may
-end_flight_terms b c s (Parcel x a d ∷ rest) sound l e may = absurd may
-end_flight_terms b c s (Accepted x a ∷ rest) sound l e may =
+settle_terms : (b c : ℕ) (s : State) (way : List Message) → IsSound s → IsWay s c b → way_at s.ways c b ≡ way → MaySettle way
+    → (m : Message) × MayTake (without_messages s) b c m × FitsFlight (without_messages s) m × TookFronts b s (after_settle (without_messages s) c b (taken_with (without_messages s) b c m))
+settle_terms b c s [] sound l e may = absurd may
+settle_terms b c s (Parcel x a d ∷ rest) sound l e may = absurd may
+settle_terms b c s (Accepted x a ∷ rest) sound l e may =
     let h = front_out s c b (Accepted x a) rest sound e in
     let o = h.1 in (
       Accepted x a,
       record { addressed = record { direction = o.direction; border = o.border; near = o.near; far = o.far }; fair = o.some },
       (h.0, o.flight),
-      took_front b c s.blocks s (after_end_flight (without_messages s) c b (taken_with (without_messages s) b c (Accepted x a))) (Accepted x a) rest l.1 l.0 e (λ q off. refl),
+      took_front b c s.blocks s (after_settle (without_messages s) c b (taken_with (without_messages s) b c (Accepted x a))) (Accepted x a) rest l.1 l.0 e (λ q off. refl),
     )
-end_flight_terms b c s (Refused x a d told ∷ rest) sound l e may =
+settle_terms b c s (Refused x a d told ∷ rest) sound l e may =
     let h = front_out s c b (Refused x a d told) rest sound e in
     let o = h.0 in
     let high = sound.labels.top (far s.net x) (far_in s.net x sound.sized.net o.direction) in (
       Refused x a d told,
       record { addressed = record { direction = o.direction; border = o.border; near = o.near; far = o.far }; fair = (o.some, label_some s x a d b c sound o, h.1) },
       (o.flight, omega (arith, h.2, high)),
-      took_front b c s.blocks s (after_end_flight (without_messages s) c b (taken_with (without_messages s) b c (Refused x a d told))) (Refused x a d told) rest l.1 l.0 e (λ q off. refl),
+      took_front b c s.blocks s (after_settle (without_messages s) c b (taken_with (without_messages s) b c (Refused x a d told))) (Refused x a d told) rest l.1 l.0 e (λ q off. refl),
     )
 
 -- what the event does in its own terms
@@ -137,8 +137,8 @@ own_terms b s (Refuse c to) sound of on =
     let terms = refuse_terms to c s (way_at s.ways c to) sound on.0 refl on.1 in
     let all : Own to s (Refuse c to) = (after_refuse (without_messages s) c to (taken_with (without_messages s) to c terms.0), (refl, terms.0, terms.1, terms.2, refl), terms.3) in
     subst (λ (q : ℕ). Own q s (Refuse c to)) of all
-own_terms b s (EndFlight c to) sound of on =
-    let terms = end_flight_terms to c s (way_at s.ways c to) sound on.0 refl on.1 in
-    let all : Own to s (EndFlight c to) = (after_end_flight (without_messages s) c to (taken_with (without_messages s) to c terms.0), (refl, terms.0, terms.1, terms.2, refl), terms.3) in
-    subst (λ (q : ℕ). Own q s (EndFlight c to)) of all
+own_terms b s (Settle c to) sound of on =
+    let terms = settle_terms to c s (way_at s.ways c to) sound on.0 refl on.1 in
+    let all : Own to s (Settle c to) = (after_settle (without_messages s) c to (taken_with (without_messages s) to c terms.0), (refl, terms.0, terms.1, terms.2, refl), terms.3) in
+    subst (λ (q : ℕ). Own q s (Settle c to)) of all
 own_terms b s RaiseAll sound of on = absurd of

@@ -9,7 +9,7 @@ use Rattle.block_events.specs.declared.message.Message.{Message}
 use Rattle.block_events.specs.declared.message.Message.TheVariants.{Parcel, Accepted, Refused}
 use Rattle.block_events.specs.declared.event.Event.{Event}
 use Rattle.block_events.specs.declared.event.Event.TheVariants.{PushInner, PushSink, Relabel, Send}
-use Rattle.block_events.specs.declared.event.Event.TheVariants.{Accept, Refuse, EndFlight, RaiseAll}
+use Rattle.block_events.specs.declared.event.Event.TheVariants.{Accept, Refuse, Settle, RaiseAll}
 use Rattle.block_events.specs.Directions.{IsDirection, near, far, forward, backward}
 use Rattle.block_events.specs.States.{State, way_at, put_way, put_message, excess_of, label_of}
 use Rattle.block_events.specs.States.{room_of, residual_of, known_of, flight_of, near_block}
@@ -59,12 +59,12 @@ after_refuse s b c (Parcel x a d ∷ rest) = record s {
 after_refuse s b c way = s
 
 -- the answer in front ends the flight
-abbrev pub after_end_flight : State → ℕ → ℕ → List Message → State
-after_end_flight s b c (Accepted x a ∷ rest) =
+abbrev pub after_settle : State → ℕ → ℕ → List Message → State
+after_settle s b c (Accepted x a ∷ rest) =
     state_of (effects.blocks_after_delivery (view_of s) x) (put_way s.ways b c rest) s.got
-after_end_flight s b c (Refused x a d told ∷ rest) =
+after_settle s b c (Refused x a d told ∷ rest) =
     state_of (effects.blocks_after_return (view_of s) x a told) (put_way s.ways b c rest) s.got
-after_end_flight s b c way = s
+after_settle s b c way = s
 
 -- new labels for all nodes, which each border direction knows; inner directions know nothing
 abbrev pub after_raise_all : State → List ℕ → State
@@ -106,10 +106,10 @@ abbrev pub MayRefuse : State → List Message → Type 0
 MayRefuse s (Parcel x a d ∷ rest) = d ≤ label_of s (far s.net x)
 MayRefuse s way = ⊥
 
-abbrev pub MayEndFlight : List Message → Type 0
-MayEndFlight (Accepted x a ∷ rest) = Unit {0}
-MayEndFlight (Refused x a d told ∷ rest) = Unit {0}
-MayEndFlight way = ⊥
+abbrev pub MaySettle : List Message → Type 0
+MaySettle (Accepted x a ∷ rest) = Unit {0}
+MaySettle (Refused x a d told ∷ rest) = Unit {0}
+MaySettle way = ⊥
 
 -- no message is on the way
 abbrev pub IsQuiet : State → Type 0
@@ -127,7 +127,7 @@ IsEnabled s (Send x) =
     × (flight_of s x ≡ None)
 IsEnabled s (Accept b c) = IsWay s b c × MayAccept s (way_at s.ways b c)
 IsEnabled s (Refuse b c) = IsWay s b c × MayRefuse s (way_at s.ways b c)
-IsEnabled s (EndFlight b c) = IsWay s b c × MayEndFlight (way_at s.ways b c)
+IsEnabled s (Settle b c) = IsWay s b c × MaySettle (way_at s.ways b c)
 IsEnabled s RaiseAll = IsQuiet s
 
 -- what an event other than `RaiseAll` makes of the state
@@ -138,7 +138,7 @@ effect s (Relabel v) = after_relabel s v (highest_label s v)
 effect s (Send x) = after_send s x (min (excess_of s (near s.net x)) (residual_of s x))
 effect s (Accept b c) = after_accept s b c (way_at s.ways b c)
 effect s (Refuse b c) = after_refuse s b c (way_at s.ways b c)
-effect s (EndFlight b c) = after_end_flight s b c (way_at s.ways b c)
+effect s (Settle b c) = after_settle s b c (way_at s.ways b c)
 effect s RaiseAll = s
 
 -- t is what the event makes of s

@@ -94,8 +94,8 @@ AcceptFits =
     ≤ (arc_at s.net x.arc).capacity)
 
 -- a refusal in front fits in the sender's own terms
-abbrev pub EndFlightFits : Type 0
-EndFlightFits =
+abbrev pub SettleFits : Type 0
+SettleFits =
     (s : State) (b c : ℕ) (x : Direction) (a d told : ℕ) (rest : List Message) → IsSound s
     → way_at s.ways b c ≡ Refused x a d told ∷ rest
     → (told ≤ top s.net) × (flight_of s x ≡ Some (record { amount = a; label = d }))

@@ -12,12 +12,12 @@ use Rattle.block_events.specs.declared.message.Message.{Message}
 use Rattle.block_events.specs.declared.message.Message.TheVariants.{Parcel, Accepted, Refused}
 use Rattle.block_events.specs.declared.event.Event.{Event}
 use Rattle.block_events.specs.declared.event.Event.TheVariants.{PushInner, PushSink, Relabel, Send}
-use Rattle.block_events.specs.declared.event.Event.TheVariants.{Accept, Refuse, EndFlight, RaiseAll}
+use Rattle.block_events.specs.declared.event.Event.TheVariants.{Accept, Refuse, Settle, RaiseAll}
 use Rattle.block_events.specs.Directions.{IsDirection, opposite}
 use Rattle.block_events.specs.States.{State, way_at, residual_of, flight_of, block_of, near_block}
 use Rattle.block_events.specs.States.{far_block, is_border}
 use Rattle.block_events.specs.Events.{IsEnabled, MayAccept, MayRefuse, effect, after_accept}
-use Rattle.block_events.specs.Events.{after_refuse, after_end_flight}
+use Rattle.block_events.specs.Events.{after_refuse, after_settle}
 use Rattle.block_events.specs.Soundness.{amount_out}
 
 -- ---- messages
@@ -73,7 +73,7 @@ IsEventOf b s (Relabel v) = block_of s.net s.blocks v ≡ b
 IsEventOf b s (Send x) = near_block s.net s.blocks x ≡ b
 IsEventOf b s (Accept c to) = to ≡ b
 IsEventOf b s (Refuse c to) = to ≡ b
-IsEventOf b s (EndFlight c to) = to ≡ b
+IsEventOf b s (Settle c to) = to ≡ b
 IsEventOf b s RaiseAll = ⊥
 
 -- what b took from c so far, with one more message, which also stands in front, where an event
@@ -90,9 +90,9 @@ DoesOwn b s (Accept c to) t =
 DoesOwn b s (Refuse c to) t =
     (to ≡ b) × (m : Message) × MayTake s b c m × MayRefuse s (m ∷ [])
     × (t ≡ after_refuse s c b (taken_with s b c m))
-DoesOwn b s (EndFlight c to) t =
+DoesOwn b s (Settle c to) t =
     (to ≡ b) × (m : Message) × MayTake s b c m × FitsFlight s m
-    × (t ≡ after_end_flight s c b (taken_with s b c m))
+    × (t ≡ after_settle s c b (taken_with s b c m))
 DoesOwn b s e t = IsEventOf b s e × IsEnabled s e × (t ≡ effect s e)
 
 -- events of block b, one after another, lead from s to t
@@ -104,5 +104,5 @@ IsHistory b s (e ∷ es) t = (mid : State) × DoesOwn b s e mid × IsHistory b m
 abbrev pub MayStart : ℕ → State → Event → Type 0
 MayStart b s (Accept c to) = ⊥
 MayStart b s (Refuse c to) = ⊥
-MayStart b s (EndFlight c to) = ⊥
+MayStart b s (Settle c to) = ⊥
 MayStart b s e = IsEventOf b s e × IsEnabled s e

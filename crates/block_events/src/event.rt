@@ -20,7 +20,7 @@ pub enum Event {
     /// The parcel at the front of a way is sent back.
     Refuse { from: u32, to: u32 },
     /// The answer at the front of a way ends its direction's flight.
-    EndFlight { from: u32, to: u32 },
+    Settle { from: u32, to: u32 },
     /// Where no message is on the way, each label becomes the exact distance to the sink.
     RaiseAll,
 }

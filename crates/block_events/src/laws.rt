@@ -3,7 +3,7 @@
 ghost use Rattle.block_events.specs.Laws.{HasOneEffect, EventKeeps, EventLowers, RaiseNeverRaises};
 ghost use Rattle.block_events.specs.Laws.{OpeningIsSound, OpeningCount, EveryList, GoesOn};
 ghost use Rattle.block_events.specs.Laws.{FinishedIsSmallest, FinishedIsCertified, WayFits};
-ghost use Rattle.block_events.specs.Laws.{AcceptFits, EndFlightFits, ExcessFits};
+ghost use Rattle.block_events.specs.Laws.{AcceptFits, SettleFits, ExcessFits};
 ghost use Rattle.block_events.specs.Laws.{SinkGotAtMostEachCut};
 
 /// An event that happens in a state leads to one state.
@@ -76,8 +76,8 @@ pub fn accept_fits()
 /// In a sound state a refusal in front fits what its sender knows: the label told is at most N, the
 /// amount and the label are those of the flight, and the residual and the amount are within the
 /// arc's capacity.
-pub fn end_flight_fits()
-    ensures { EndFlightFits }
+pub fn settle_fits()
+    ensures { SettleFits }
 {}
 
 /// In a sound state an excess and what a message in front carries are within what the source sends.

@@ -1,7 +1,7 @@
 -- Two nodes in two blocks, and two runs over them, event by event.
 use Rattle.std.specs.Prelude.{ℕ, List, [], ◌∷◌}
 use Rattle.flow_network.specs.Cut.{Network}
-use Rattle.parcel.specs.Types.{Event, PushSink, Relabel, Send, Accept, Refuse, EndFlight}
+use Rattle.parcel.specs.Types.{Event, PushSink, Relabel, Send, Accept, Refuse, Settle}
 use Rattle.parcel.specs.Directions.{forward, backward}
 use Rattle.parcel.specs.States.{State}
 use Rattle.parcel.specs.Events.{effect, IsEnabled}
@@ -39,12 +39,12 @@ two_source_net =
 
 abbrev pub two_blocks_run : List Event
 two_blocks_run =
-    Relabel 0 ∷ Send (forward 0) ∷ Accept 0 1 ∷ EndFlight 1 0 ∷ Relabel 1 ∷ PushSink 1 ∷ Relabel 1
-    ∷ Send (backward 0) ∷ Accept 1 0 ∷ EndFlight 0 1
-    ∷ Relabel 0 ∷ Send (forward 0) ∷ Accept 0 1 ∷ EndFlight 1 0 ∷ Relabel 1 ∷ []
+    Relabel 0 ∷ Send (forward 0) ∷ Accept 0 1 ∷ Settle 1 0 ∷ Relabel 1 ∷ PushSink 1 ∷ Relabel 1
+    ∷ Send (backward 0) ∷ Accept 1 0 ∷ Settle 0 1
+    ∷ Relabel 0 ∷ Send (forward 0) ∷ Accept 0 1 ∷ Settle 1 0 ∷ Relabel 1 ∷ []
 
 abbrev pub refused_parcel_run : List Event
-refused_parcel_run = Relabel 0 ∷ Send (forward 0) ∷ Relabel 1 ∷ Refuse 0 1 ∷ EndFlight 1 0 ∷ []
+refused_parcel_run = Relabel 0 ∷ Send (forward 0) ∷ Relabel 1 ∷ Refuse 0 1 ∷ Settle 1 0 ∷ []
 
 abbrev pub sent_again_run : List Event
 sent_again_run = Relabel 0 ∷ Send (forward 0) ∷ Accept 0 1 ∷ []

@@ -5,7 +5,7 @@ use crate::ends::OneLetter;
 use crate::rows::expect;
 use block_net::{ARC_LIMIT, BLOCK_LIMIT, Cells};
 use block_opening::Parts;
-use discharge::{Block, end_flight, push_inner, push_sink, receive, relabel, send, turn};
+use discharge::{Block, push_inner, push_sink, receive, relabel, send, settle, turn};
 use parcel::{Direction, Flight, Letter, Message};
 use std::alloc::AllocError;
 use std::process::Abort;
@@ -375,9 +375,7 @@ fn expect_nothing(
 ) -> Result<Block, AllocError> {
     let mut block = block;
     let mut ways = OneLetter::with(None);
-    assert!(*rt;
-        !receive(&mut block, &mut ways, other) && !end_flight(&mut block, &mut ways, other)
-    );
+    assert!(*rt; !receive(&mut block, &mut ways, other) && !settle(&mut block, &mut ways, other));
     assert!(*rt; ways.put.is_none() && ways.taken.is_none());
     expect_edge(rt, block, wanted)
 }
@@ -392,7 +390,7 @@ fn answer_to(
 ) -> Result<Option<Letter>, AllocError> {
     let mut block = block;
     let mut ways = OneLetter::with(parcel);
-    assert!(*rt; !end_flight(&mut block, &mut ways, 0) && ways.taken.is_none());
+    assert!(*rt; !settle(&mut block, &mut ways, 0) && ways.taken.is_none());
     assert!(*rt; receive(&mut block, &mut ways, 0) && ways.taken.is_some());
     expect_edge(rt, block, wanted)?;
     Ok(put_for(&ways, 0))
@@ -409,7 +407,7 @@ fn expect_ended(
     let mut block = block;
     let mut ways = OneLetter::with(answer);
     assert!(*rt; !receive(&mut block, &mut ways, 1) && ways.taken.is_none());
-    assert!(*rt; end_flight(&mut block, &mut ways, 1) && ways.taken.is_some());
+    assert!(*rt; settle(&mut block, &mut ways, 1) && ways.taken.is_some());
     assert!(*rt; ways.put.is_none());
     expect_edge(rt, block, wanted)?;
     Ok(())

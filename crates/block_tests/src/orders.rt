@@ -117,7 +117,7 @@ fn push_blocks(events: &mut Vec<Event>, blocks: u32) -> Result<(), AllocError> {
         for to in 0..blocks {
             events.push(Event::Accept { from, to })?;
             events.push(Event::Refuse { from, to })?;
-            events.push(Event::EndFlight { from, to })?;
+            events.push(Event::Settle { from, to })?;
         }
     }
     Ok(())

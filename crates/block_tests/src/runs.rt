@@ -95,7 +95,7 @@ const REACHING: &[Step] = &[
     (Event::Relabel { node: 0 }, Some(1021)),
     (Event::Send { direction: FORWARD }, Some(1020)),
     (Event::Accept { from: 0, to: 1 }, Some(939)),
-    (Event::EndFlight { from: 1, to: 0 }, Some(938)),
+    (Event::Settle { from: 1, to: 0 }, Some(938)),
     (Event::Relabel { node: 1 }, Some(887)),
     (Event::PushSink { node: 1 }, Some(875)),
     (Event::Relabel { node: 1 }, Some(812)),
@@ -106,11 +106,11 @@ const REACHING: &[Step] = &[
         Some(811),
     ),
     (Event::Accept { from: 1, to: 0 }, Some(675)),
-    (Event::EndFlight { from: 0, to: 1 }, Some(674)),
+    (Event::Settle { from: 0, to: 1 }, Some(674)),
     (Event::Relabel { node: 0 }, Some(548)),
     (Event::Send { direction: FORWARD }, Some(547)),
     (Event::Accept { from: 0, to: 1 }, Some(411)),
-    (Event::EndFlight { from: 1, to: 0 }, Some(410)),
+    (Event::Settle { from: 1, to: 0 }, Some(410)),
     (Event::Relabel { node: 1 }, Some(284)),
 ];
 
@@ -137,7 +137,7 @@ const COMING_BACK: &[Step] = &[
     (Event::RaiseAll, None),
     (Event::Relabel { node: 1 }, Some(1181)),
     (Event::Refuse { from: 0, to: 1 }, Some(1180)),
-    (Event::EndFlight { from: 1, to: 0 }, Some(1099)),
+    (Event::Settle { from: 1, to: 0 }, Some(1099)),
 ];
 
 /// What follows, with no count.

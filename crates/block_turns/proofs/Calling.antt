@@ -8,8 +8,8 @@ use Rattle.block_events.specs.declared.message.Message.TheVariants.{Parcel, Acce
 use Rattle.block_net.specs.Views.{CellsView}
 use Rattle.block_turns.specs.declared.letter.Letter.{Letter}
 use Rattle.block_turns.specs.Seen.{WaysView, IsLook}
-use Rattle.block_turns.specs.Steps.{Step, TurnView, Accept, Refuse, EndFlight, MayAcceptAt, MayRefuseAt, MayEndFlightAt, IsSure, turn_after}
-use Rattle.block_turns.specs.Calls.{Performs, IsUnchanged, IsFront, TakesParcel, HasReceived, HasEndedFlight}
+use Rattle.block_turns.specs.Steps.{Step, TurnView, Accept, Refuse, Settle, MayAcceptAt, MayRefuseAt, MaySettleAt, IsSure, turn_after}
+use Rattle.block_turns.specs.Calls.{Performs, IsUnchanged, IsFront, TakesParcel, HasReceived, HasSettled}
 use Rattle.block_turns.specs.Turns.{IsKnown}
 use Rattle.block_turns.specs.Works.{IsAlike, IsIdleFrom}
 use Rattle.block_turns.proofs.Runs.{held_look, look_more, idle_from_look}
@@ -86,29 +86,29 @@ answer_received b s t c l look front is =
 
 -- ---- an answer
 
-pub has_ended_flight : (b b' : CellsView) (s t u : WaysView) (c : ℕ) (l : Letter) → IsLook s t → t.front c ≡ Some l → Performs b t (EndFlight c l) b' u → HasEndedFlight b s c b' u
-has_ended_flight b b' s t u c l look front done = (l, front_look s t c l look front, done_look b b' s t u (EndFlight c l) look done)
+pub has_settled : (b b' : CellsView) (s t u : WaysView) (c : ℕ) (l : Letter) → IsLook s t → t.front c ≡ Some l → Performs b t (Settle c l) b' u → HasSettled b s c b' u
+has_settled b b' s t u c l look front done = (l, front_look s t c l look front, done_look b b' s t u (Settle c l) look done)
 
-abbrev pub NoFlightEnds : CellsView → WaysView → ℕ → CellsView → WaysView → Type 0
-NoFlightEnds b s c b' u = ((l : Letter) → ¬ IsSure b s (EndFlight c l)) × IsUnchanged b s b' u
+abbrev pub NothingSettles : CellsView → WaysView → ℕ → CellsView → WaysView → Type 0
+NothingSettles b s c b' u = ((l : Letter) → ¬ IsSure b s (Settle c l)) × IsUnchanged b s b' u
 
-pub no_flight_ends : (b b' : CellsView) (s t u : WaysView) (c : ℕ) → IsLook s t → IsIdleFrom b t c → b' ≡ b → IsLook t u → NoFlightEnds b s c b' u
-no_flight_ends b b' s t u c look idle block then =
+pub nothing_settles : (b b' : CellsView) (s t u : WaysView) (c : ℕ) → IsLook s t → IsIdleFrom b t c → b' ≡ b → IsLook t u → NothingSettles b s c b' u
+nothing_settles b b' s t u c look idle block then =
     let before = idle_from_look b s t c look idle in
-    (before.ends_flight, record { block = block; look = look_more s t u look then })
+    (before.settles, record { block = block; look = look_more s t u look then })
 
 abbrev pub IsParcel : Message → Type 0
 IsParcel (Parcel x a d) = Unit {0}
 IsParcel (Accepted x a) = ⊥
 IsParcel (Refused x a d told) = ⊥
 
-ends_no_flight : (b : CellsView) (c j : ℕ) (m : Message) → IsParcel m → MayEndFlightAt b c j m → ⊥
-ends_no_flight b c j (Parcel x a d) is may = may
-ends_no_flight b c j (Accepted x a) is may = is
-ends_no_flight b c j (Refused x a d told) is may = is
+settles_nothing : (b : CellsView) (c j : ℕ) (m : Message) → IsParcel m → MaySettleAt b c j m → ⊥
+settles_nothing b c j (Parcel x a d) is may = may
+settles_nothing b c j (Accepted x a) is may = is
+settles_nothing b c j (Refused x a d told) is may = is
 
-pub parcel_ends_no_flight : (b : CellsView) (s t : WaysView) (c : ℕ) (l : Letter) → IsLook s t → t.front c ≡ Some l → IsParcel l.message → NoFlightEnds b s c b t
-parcel_ends_no_flight b s t c l look front is =
+pub parcel_settles_nothing : (b : CellsView) (s t : WaysView) (c : ℕ) (l : Letter) → IsLook s t → t.front c ≡ Some l → IsParcel l.message → NothingSettles b s c b t
+parcel_settles_nothing b s t c l look front is =
     let here : (k : Letter) → s.front c ≡ Some k → IsParcel k.message = λ k e.
     subst (λ (x : Letter). IsParcel x.message) (sym (front_look s t c l look front k e)) is in
-    (λ k on. ends_no_flight b c k.place k.message (here k on.1) on.0, record { block = refl; look = look })
+    (λ k on. settles_nothing b c k.place k.message (here k on.1) on.0, record { block = refl; look = look })

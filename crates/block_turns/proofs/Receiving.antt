@@ -11,7 +11,7 @@ use Rattle.block_net.specs.declared.lanes.Border.{Border}
 use Rattle.block_net.specs.Views.{CellsView, label_in, border_in, cells_after_accept, cells_after_delivery, cells_after_return}
 use Rattle.block_turns.specs.declared.letter.Letter.{Letter}
 use Rattle.block_turns.specs.Seen.{WaysView, IsLook, IsPut, IsTake, add_to}
-use Rattle.block_turns.specs.Steps.{Accept, Refuse, EndFlight, MayAcceptAt, MayRefuseAt, MayEndFlightAt}
+use Rattle.block_turns.specs.Steps.{Accept, Refuse, Settle, MayAcceptAt, MayRefuseAt, MaySettleAt}
 use Rattle.block_turns.specs.Calls.{Performs}
 use Rattle.block_turns.specs.Works.{IsAlike, DoesEvents}
 use Rattle.block_turns.proofs.Runs.{does_one, alike_same, look_sent, look_taken}
@@ -65,11 +65,11 @@ does_refuse b s t u w c x a d j m may is look put take =
 abbrev pub accepted_letter : Direction → ℕ → ℕ → Letter
 accepted_letter x a j = record { message = Accepted x a; place = j }
 
-pub done_delivery : (b b' : CellsView) (s w : WaysView) (c : ℕ) (x : Direction) (a j : ℕ) → MayEndFlightAt b c j (Accepted x a) → b' ≡ cells_after_delivery b j → IsTake c (Accepted x a) s w
-    → Performs b s (EndFlight c (accepted_letter x a j)) b' w
+pub done_delivery : (b b' : CellsView) (s w : WaysView) (c : ℕ) (x : Direction) (a j : ℕ) → MaySettleAt b c j (Accepted x a) → b' ≡ cells_after_delivery b j → IsTake c (Accepted x a) s w
+    → Performs b s (Settle c (accepted_letter x a j)) b' w
 done_delivery b b' s w c x a j may made take = record { enabled = may; effect = rw (made, fun_ext take.sent, fun_ext take.taken) refl }
 
-pub does_delivery : (b b' : CellsView) (s w : WaysView) (c : ℕ) (x : Direction) (a j : ℕ) → MayEndFlightAt b c j (Accepted x a) → b' ≡ cells_after_delivery b j → IsTake c (Accepted x a) s w → DoesEvents b s 1 b' w
+pub does_delivery : (b b' : CellsView) (s w : WaysView) (c : ℕ) (x : Direction) (a j : ℕ) → MaySettleAt b c j (Accepted x a) → b' ≡ cells_after_delivery b j → IsTake c (Accepted x a) s w → DoesEvents b s 1 b' w
 does_delivery b b' s w c x a j may made take =
     let row : Border = record (border_in b j) { flight = None } in
     let alike : IsAlike b (cells_after_delivery b j) = record {
@@ -82,16 +82,16 @@ does_delivery b b' s w c x a j may made take =
       tos = to_kept b.borders j row refl;
     } in
     let done = done_delivery b b' s w c x a j may made take in
-    does_one b b' s w (EndFlight c (accepted_letter x a j)) done.enabled done.effect (subst (IsAlike b) (sym made) alike)
+    does_one b b' s w (Settle c (accepted_letter x a j)) done.enabled done.effect (subst (IsAlike b) (sym made) alike)
 
 abbrev pub refused_letter : Direction → ℕ → ℕ → ℕ → ℕ → Letter
 refused_letter x a d told j = record { message = Refused x a d told; place = j }
 
-pub done_return : (b b' : CellsView) (s w : WaysView) (c : ℕ) (x : Direction) (a d told j : ℕ) → MayEndFlightAt b c j (Refused x a d told) → b' ≡ cells_after_return b j a told → IsTake c (Refused x a d told) s w
-    → Performs b s (EndFlight c (refused_letter x a d told j)) b' w
+pub done_return : (b b' : CellsView) (s w : WaysView) (c : ℕ) (x : Direction) (a d told j : ℕ) → MaySettleAt b c j (Refused x a d told) → b' ≡ cells_after_return b j a told → IsTake c (Refused x a d told) s w
+    → Performs b s (Settle c (refused_letter x a d told j)) b' w
 done_return b b' s w c x a d told j may made take = record { enabled = may; effect = rw (made, fun_ext take.sent, fun_ext take.taken) refl }
 
-pub does_return : (b b' : CellsView) (s w : WaysView) (c : ℕ) (x : Direction) (a d told j : ℕ) → MayEndFlightAt b c j (Refused x a d told) → b' ≡ cells_after_return b j a told → IsTake c (Refused x a d told) s w
+pub does_return : (b b' : CellsView) (s w : WaysView) (c : ℕ) (x : Direction) (a d told j : ℕ) → MaySettleAt b c j (Refused x a d told) → b' ≡ cells_after_return b j a told → IsTake c (Refused x a d told) s w
     → DoesEvents b s 1 b' w
 does_return b b' s w c x a d told j may made take =
     let y = border_in b j in
@@ -106,4 +106,4 @@ does_return b b' s w c x a d told j may made take =
       tos = to_kept b.borders j row refl;
     } in
     let done = done_return b b' s w c x a d told j may made take in
-    does_one b b' s w (EndFlight c (refused_letter x a d told j)) done.enabled done.effect (subst (IsAlike b) (sym made) alike)
+    does_one b b' s w (Settle c (refused_letter x a d told j)) done.enabled done.effect (subst (IsAlike b) (sym made) alike)

@@ -147,7 +147,7 @@ pub idle_from_look : (b : CellsView) (s t : WaysView) (c : ℕ) → IsLook s t �
 idle_from_look b s t c look idle = record {
   accepts = λ m on. idle.accepts m (on.0, look.front _ _ on.1, look.room _ on.2);
   refuses = λ m on. idle.refuses m (on.0, look.front _ _ on.1, look.room _ on.2);
-  ends_flight = λ m on. idle.ends_flight m (on.0, look.front _ _ on.1);
+  settles = λ m on. idle.settles m (on.0, look.front _ _ on.1);
 }
 
 some_none : (m : Letter) → ¬ (◌≡◌ {A = Option Letter} None (Some m))
@@ -157,5 +157,5 @@ pub idle_from_none : (b : CellsView) (s t : WaysView) (c : ℕ) → IsLook s t �
 idle_from_none b s t c look none = record {
   accepts = λ m on. some_none m (sym none ∙ look.front _ _ on.1);
   refuses = λ m on. some_none m (sym none ∙ look.front _ _ on.1);
-  ends_flight = λ m on. some_none m (sym none ∙ look.front _ _ on.1);
+  settles = λ m on. some_none m (sym none ∙ look.front _ _ on.1);
 }

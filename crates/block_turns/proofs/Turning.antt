@@ -5,7 +5,7 @@ use Rattle.block_events.specs.declared.message.Message.{Message}
 use Rattle.block_events.specs.declared.message.Message.TheVariants.{Parcel, Accepted, Refused}
 use Rattle.block_net.specs.Views.{CellsView, border_in}
 use Rattle.block_turns.specs.Seen.{WaysView}
-use Rattle.block_turns.specs.Steps.{Step, Push, Give, Relabel, Send, Accept, Refuse, EndFlight, IsFrom, MayAcceptAt, MayRefuseAt, MayEndFlightAt, IsSure}
+use Rattle.block_turns.specs.Steps.{Step, Push, Give, Relabel, Send, Accept, Refuse, Settle, IsFrom, MayAcceptAt, MayRefuseAt, MaySettleAt, IsSure}
 use Rattle.block_turns.specs.Works.{IsIdle, IsIdleFrom}
 use Rattle.block_turns.specs.Turns.{IsKnown}
 
@@ -26,10 +26,10 @@ refuse_from b c j (Parcel x a d) may = may.0
 refuse_from b c j (Accepted x a) may = absurd may
 refuse_from b c j (Refused x a d told) may = absurd may
 
-end_flight_from : (b : CellsView) (c j : ℕ) (m : Message) → MayEndFlightAt b c j m → IsFrom b c j
-end_flight_from b c j (Parcel x a d) may = absurd may
-end_flight_from b c j (Accepted x a) may = may.0
-end_flight_from b c j (Refused x a d told) may = may.0
+settle_from : (b : CellsView) (c j : ℕ) (m : Message) → MaySettleAt b c j m → IsFrom b c j
+settle_from b c j (Parcel x a d) may = absurd may
+settle_from b c j (Accepted x a) may = may.0
+settle_from b c j (Refused x a d told) may = may.0
 
 pub none_sure : (b : CellsView) (s : WaysView) (others : List ℕ) → IsKnown b others
     → ((k : ℕ) → k < length others → IsIdleFrom b s (slice_index others k)) → ((v : ℕ) → IsIdle b s v) → (e : Step) → ¬ IsSure b s e
@@ -39,4 +39,4 @@ none_sure b s others known each idle (Relabel v) on = (idle v).rise on
 none_sure b s others known each idle (Send v j) on = (idle v).sends j on
 none_sure b s others known each idle (Accept c l) on = (from_known b s others c l.place known each (accept_from b c l.place l.message on.0)).accepts l on
 none_sure b s others known each idle (Refuse c l) on = (from_known b s others c l.place known each (refuse_from b c l.place l.message on.0)).refuses l on
-none_sure b s others known each idle (EndFlight c l) on = (from_known b s others c l.place known each (end_flight_from b c l.place l.message on.0)).ends_flight l on
+none_sure b s others known each idle (Settle c l) on = (from_known b s others c l.place known each (settle_from b c l.place l.message on.0)).settles l on

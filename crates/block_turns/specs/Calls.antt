@@ -3,7 +3,7 @@ use Rattle.std.specs.Prelude.{◌≡◌, ◌⊎◌, ℕ, Some}
 use Rattle.block_net.specs.Views.{CellsView}
 use Rattle.block_turns.specs.declared.letter.Letter.{Letter}
 use Rattle.block_turns.specs.Seen.{WaysView, IsLook}
-use Rattle.block_turns.specs.Steps.{Step, Accept, Refuse, EndFlight, IsStepEnabled, turn_view}
+use Rattle.block_turns.specs.Steps.{Step, Accept, Refuse, Settle, IsStepEnabled, turn_view}
 use Rattle.block_turns.specs.Steps.{turn_after}
 
 -- the event was enabled, and led from what the block held with its ways to what it holds now
@@ -31,5 +31,5 @@ abbrev pub HasReceived : CellsView → WaysView → ℕ → CellsView → WaysVi
 HasReceived b s c b' s' = (l : Letter) × IsFront s c l × TakesParcel b s c l b' s'
 
 -- the answer in front from block c was taken
-abbrev pub HasEndedFlight : CellsView → WaysView → ℕ → CellsView → WaysView → Type 0
-HasEndedFlight b s c b' s' = (l : Letter) × IsFront s c l × Performs b s (EndFlight c l) b' s'
+abbrev pub HasSettled : CellsView → WaysView → ℕ → CellsView → WaysView → Type 0
+HasSettled b s c b' s' = (l : Letter) × IsFront s c l × Performs b s (Settle c l) b' s'

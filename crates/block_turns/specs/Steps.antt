@@ -23,7 +23,7 @@ pub data Step : Type 0 where
   Send : ℕ → ℕ → Step
   Accept : ℕ → Letter → Step
   Refuse : ℕ → Letter → Step
-  EndFlight : ℕ → Letter → Step
+  Settle : ℕ → Letter → Step
 
 -- ---- when each is enabled
 
@@ -60,12 +60,12 @@ MayRefuseAt b c j (Parcel x a d) =
 MayRefuseAt b c j m = ⊥
 
 -- an answer from block c is to the parcel that is out on the direction at the place
-abbrev pub MayEndFlightAt : CellsView → ℕ → ℕ → Message → Type 0
-MayEndFlightAt b c j (Parcel x a d) = ⊥
-MayEndFlightAt b c j (Accepted x a) =
+abbrev pub MaySettleAt : CellsView → ℕ → ℕ → Message → Type 0
+MaySettleAt b c j (Parcel x a d) = ⊥
+MaySettleAt b c j (Accepted x a) =
     IsFrom b c j × ((border_in b j).direction ≡ x) × IsFair (Accepted x a)
     × (d : ℕ) × ((border_in b j).flight ≡ Some (record { amount = a; label = d }))
-MayEndFlightAt b c j (Refused x a d told) =
+MaySettleAt b c j (Refused x a d told) =
     IsFrom b c j × ((border_in b j).direction ≡ x) × IsFair (Refused x a d told)
     × ((border_in b j).flight ≡ Some (record { amount = a; label = d })) × (told ≤ b.top)
 
@@ -77,7 +77,7 @@ IsStepEnabled b (Relabel v) = IsActiveInBlock b v × (label_in b v < highest b v
 IsStepEnabled b (Send v j) = IsActiveInBlock b v × IsBorderOfNode b v j × MaySend b v j
 IsStepEnabled b (Accept c l) = MayAcceptAt b c l.place l.message
 IsStepEnabled b (Refuse c l) = MayRefuseAt b c l.place l.message
-IsStepEnabled b (EndFlight c l) = MayEndFlightAt b c l.place l.message
+IsStepEnabled b (Settle c l) = MaySettleAt b c l.place l.message
 
 -- ---- what each does
 
@@ -105,11 +105,11 @@ turn_after_refuse h c j (Parcel x a d) = record h {
 }
 turn_after_refuse h c j m = h
 
-abbrev pub turn_after_end_flight : TurnView → ℕ → ℕ → Message → TurnView
-turn_after_end_flight h c j (Parcel x a d) = h
-turn_after_end_flight h c j (Accepted x a) =
+abbrev pub turn_after_settle : TurnView → ℕ → ℕ → Message → TurnView
+turn_after_settle h c j (Parcel x a d) = h
+turn_after_settle h c j (Accepted x a) =
     record h { block = cells_after_delivery h.block j; taken = add_to h.taken c (Accepted x a) }
-turn_after_end_flight h c j (Refused x a d told) =
+turn_after_settle h c j (Refused x a d told) =
     record h {
       block = cells_after_return h.block j a told;
       taken =
@@ -132,7 +132,7 @@ turn_after h (Send v j) = record h {
 }
 turn_after h (Accept c l) = turn_after_accept h c l.place l.message
 turn_after h (Refuse c l) = turn_after_refuse h c l.place l.message
-turn_after h (EndFlight c l) = turn_after_end_flight h c l.place l.message
+turn_after h (Settle c l) = turn_after_settle h c l.place l.message
 
 -- one enabled event after another
 abbrev pub IsRunOfSteps : TurnView → List Step → TurnView → Type 0
@@ -153,4 +153,4 @@ IsSure b s (Relabel v) = IsStepEnabled b (Relabel v)
 IsSure b s (Send v j) = IsStepEnabled b (Send v j) × (s.room (border_in b j).to ≡ true)
 IsSure b s (Accept c l) = IsStepEnabled b (Accept c l) × (s.front c ≡ Some l) × (s.room c ≡ true)
 IsSure b s (Refuse c l) = IsStepEnabled b (Refuse c l) × (s.front c ≡ Some l) × (s.room c ≡ true)
-IsSure b s (EndFlight c l) = IsStepEnabled b (EndFlight c l) × (s.front c ≡ Some l)
+IsSure b s (Settle c l) = IsStepEnabled b (Settle c l) × (s.front c ≡ Some l)

@@ -5,7 +5,7 @@ use Rattle.block_turns.specs.declared.letter.Letter.{Letter}
 use Rattle.block_turns.specs.Seen.{WaysView, IsLook}
 use Rattle.block_turns.specs.Standing.{BucketedView, IsAside}
 use Rattle.block_turns.specs.Steps.{turn_view, DoesMany, IsSure, Push, Give, Relabel, Send, Accept}
-use Rattle.block_turns.specs.Steps.{Refuse, EndFlight}
+use Rattle.block_turns.specs.Steps.{Refuse, Settle}
 
 -- what no event changes
 pub record IsAlike (a b : CellsView) : Type 0 where
@@ -47,4 +47,4 @@ pub record IsStuckInBlock (b : CellsView) (s : WaysView) (v : ℕ) : Type 0 wher
 pub record IsIdleFrom (b : CellsView) (s : WaysView) (c : ℕ) : Type 0 where
   pub accepts : (l : Letter) → ¬ IsSure b s (Accept c l)
   pub refuses : (l : Letter) → ¬ IsSure b s (Refuse c l)
-  pub ends_flight : (l : Letter) → ¬ IsSure b s (EndFlight c l)
+  pub settles : (l : Letter) → ¬ IsSure b s (Settle c l)

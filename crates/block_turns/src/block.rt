@@ -102,6 +102,13 @@ impl Block {
         })
     }
 
+    /// The block itself, whose readers tell its excess, labels, residuals and borders.
+    pub fn cells(&self) -> &Cells
+        ensures { result.now ≡ self.now }
+    {
+        self.cells.cells()
+    }
+
     /// The block alone. Takes no memory.
     pub fn into_cells(self) -> Cells
         ensures { result ≡ self }

@@ -4,8 +4,8 @@ ghost use Rattle.block_turns.specs.declared.letter.Letter.{Letter};
 ghost use Rattle.block_turns.specs.Seen.{WaysView};
 ghost use Rattle.block_turns.specs.Steps.{IsStepEnabled, IsSure, Push, Give, Relabel, Send, Accept};
 ghost use Rattle.block_turns.specs.Steps.{Refuse};
-ghost use Rattle.block_turns.specs.Steps.{EndFlight};
-ghost use Rattle.block_turns.specs.Calls.{Performs, IsUnchanged, HasReceived, HasEndedFlight};
+ghost use Rattle.block_turns.specs.Steps.{Settle};
+ghost use Rattle.block_turns.specs.Calls.{Performs, IsUnchanged, HasReceived, HasSettled};
 
 use crate::acts::{try_give, try_push, try_relabel, try_send};
 use crate::messages::{receive_accepted, receive_parcel, receive_refused};
@@ -109,11 +109,11 @@ pub fn receive<W: Ways>(block: &mut Block, ways: &mut W, from: u32) -> bool
 /// Takes the answer in front from another block. Its flight is over, and what a refused parcel had
 /// comes back. Answers yes if that is enabled. Else it answers no, and nothing changes. Takes no
 /// memory.
-pub fn end_flight<W: Ways>(block: &mut Block, ways: &mut W, from: u32) -> bool
+pub fn settle<W: Ways>(block: &mut Block, ways: &mut W, from: u32) -> bool
     ensures identity { W.identity ways.new ≡ W.identity ways.old }
     ensures ended { MatchBool result
-        (HasEndedFlight block.old (W.seen ways.old) from block.new (W.seen ways.new))
-        (((l : Letter) → ¬ IsSure block.old (W.seen ways.old) (EndFlight from l))
+        (HasSettled block.old (W.seen ways.old) from block.new (W.seen ways.new))
+        (((l : Letter) → ¬ IsSure block.old (W.seen ways.old) (Settle from l))
         × IsUnchanged block.old (W.seen ways.old) block.new (W.seen ways.new)) }
 {
     let Some(letter) = ways.front(from) else {

@@ -8,7 +8,7 @@
 //! one by one goes over `Cells`, and keeps no rows.
 //!
 //! A `Block` is such a block, and `Ways` are its ends of the ways to and from the other blocks.
-//! `push_inner`, `push_sink`, `relabel`, `send`, `receive` and `end_flight` are its events, one at
+//! `push_inner`, `push_sink`, `relabel`, `send`, `receive` and `settle` are its events, one at
 //! a time. `turn` does many of them. It takes the messages that came, and then discharges active
 //! nodes, those of the highest label first. A node that got a new label rests until each other
 //! active node was looked at, or until the next turn. Each step is an event of the block, and is
@@ -29,6 +29,6 @@ mod ways;
 pub use block::{Block, turn};
 pub use bucket_places::is_active;
 pub use bucketed::Bucketed;
-pub use calls::{end_flight, push_inner, push_sink, receive, relabel, send};
+pub use calls::{push_inner, push_sink, receive, relabel, send, settle};
 pub use letter::Letter;
 pub use ways::Ways;

@@ -3,8 +3,8 @@ ghost use Rattle.std.specs.Prelude.{◌≡◌, ◌↔◌, ◌<◌, ◌≤◌, �
 ghost use Rattle.block_events.specs.declared.message.Message.TheVariants.{Parcel, Accepted};
 ghost use Rattle.block_events.specs.declared.message.Message.TheVariants.{Refused};
 ghost use Rattle.block_events.specs.Directions.{opposite};
-ghost use Rattle.block_turns.specs.Steps.{IsFrom, MayAcceptAt, MayRefuseAt, MayEndFlightAt};
-ghost use Rattle.block_turns.specs.Steps.{EndFlight};
+ghost use Rattle.block_turns.specs.Steps.{IsFrom, MayAcceptAt, MayRefuseAt, MaySettleAt};
+ghost use Rattle.block_turns.specs.Steps.{Settle};
 ghost use Rattle.block_turns.specs.Calls.{Performs, TakesParcel};
 ghost use Rattle.block_turns.specs.Works.{DoesEvents, IsIdleFrom};
 
@@ -137,7 +137,7 @@ fn are_same(x: Direction, y: Direction) -> bool
 
 /// Whether the answer that a parcel was taken is to be taken.
 fn may_deliver(cells: &Cells, from: u32, place: u32, direction: Direction, amount: u64) -> bool
-    ensures { IsTrue result ↔ MayEndFlightAt cells.now from place (Accepted direction amount) }
+    ensures { IsTrue result ↔ MaySettleAt cells.now from place (Accepted direction amount) }
 {
     if amount == 0 || !is_from(cells, from, place) {
         return false;
@@ -162,7 +162,7 @@ fn may_return(
     told: u32,
 ) -> bool
     ensures { IsTrue result
-        ↔ MayEndFlightAt cells.now from place (Refused direction flight.amount flight.label told) }
+        ↔ MaySettleAt cells.now from place (Refused direction flight.amount flight.label told) }
 {
     if flight.amount == 0 || flight.label == 0 || told < flight.label {
         return false;
@@ -197,7 +197,7 @@ pub(crate) fn receive_accepted<W: Ways>(
     ensures does { DoesEvents cells.old.block (W.seen ways.old) result cells.new.block
         (W.seen ways.new) }
     ensures done { 0 < result → Performs cells.old.block (W.seen ways.old)
-        (EndFlight from (record { message = Accepted direction amount; place = place }))
+        (Settle from (record { message = Accepted direction amount; place = place }))
         cells.new.block (W.seen ways.new) }
     ensures idle { result ≡ 0 → IsIdleFrom cells.old.block (W.seen ways.old) from }
 {
@@ -230,7 +230,7 @@ pub(crate) fn receive_refused<W: Ways>(
     ensures does { DoesEvents cells.old.block (W.seen ways.old) result cells.new.block
         (W.seen ways.new) }
     ensures done { 0 < result → Performs cells.old.block (W.seen ways.old)
-        (EndFlight from
+        (Settle from
         (record { message = Refused direction flight.amount flight.label told; place = place }))
         cells.new.block (W.seen ways.new) }
     ensures idle { result ≡ 0 → IsIdleFrom cells.old.block (W.seen ways.old) from }

@@ -51,19 +51,26 @@ pub trait Source {
 pub struct WatchedReader<'a, R> {
     /// Where the bytes come from.
     pub reader: &'a mut R,
-    /// How many calls of the reader have answered a fault, counted in 64 bits.
-    pub failures: u64,
+    failures: u64,
 }
 
-impl<'a, R> WatchedReader<'a, R> {
+impl<'a, R: Read> WatchedReader<'a, R> {
     /// A reader to watch. None of its calls has failed yet.
     pub fn new(reader: &'a mut R) -> WatchedReader<'a, R>
-        ensures { result.failures ≡ 0 }
+        ensures { (⟦<WatchedReader<'a, R> as Source>⟧.stream result).failures ≡ 0 }
     {
         WatchedReader {
             reader,
             failures: 0,
         }
+    }
+
+    /// How many calls of the reader have answered a fault, counted in 64 bits. Only such a call
+    /// raises it.
+    pub fn failures(&self) -> u64
+        ensures { result ≡ (⟦<WatchedReader<'a, R> as Source>⟧.stream self.now).failures }
+    {
+        self.failures
     }
 }
 

@@ -5,8 +5,6 @@
 #![tactic(auto)]
 
 pub mod laws;
-mod room;
 mod telling;
 
-pub use room::{SiteRange, border};
 pub use telling::add_strip;

@@ -2,9 +2,9 @@
 //! of its own.
 //!
 //! `turn` does many events of a `Block`. `push_inner`, `push_sink`, `relabel`, `send`, `receive`
-//! and `end_flight` do one each. `take_in` takes what is on the way, `finish` goes on from any
+//! and `settle` do one each. `take_in` takes what is on the way, `finish` goes on from any
 //! state to the least cut, and `solve` begins with a net.
 #![tactic(auto)]
 
 pub use block_cut::{finish, solve, take_in};
-pub use block_turns::{Block, end_flight, push_inner, push_sink, receive, relabel, send, turn};
+pub use block_turns::{Block, push_inner, push_sink, receive, relabel, send, settle, turn};

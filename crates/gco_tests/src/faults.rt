@@ -254,9 +254,9 @@ fn is_remembered(rt: &(impl AllocGlobal + Threads + Wait + Sync), row: &Remember
     let words = ["gco", "energy"];
     let ended = gco_cli::run(rt, &words, &mut source, &mut sink, &mut fault_sink);
     ended == *status
-        && source.failures == u64::from(*is_broken)
-        && sink.failures == u64::from(*room < 24)
-        && fault_sink.failures == 0
+        && source.failures() == u64::from(*is_broken)
+        && sink.failures() == u64::from(*room < 24)
+        && fault_sink.failures() == 0
         && writer.held.as_slice() == *written
 }
 

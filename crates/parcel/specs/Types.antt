@@ -2,7 +2,7 @@
 pub use Rattle.block_events.specs.declared.direction.Direction.{Direction}
 pub use Rattle.block_events.specs.declared.event.Event.{Event}
 pub use Rattle.block_events.specs.declared.event.Event.TheVariants.{PushInner, PushSink, Relabel}
-pub use Rattle.block_events.specs.declared.event.Event.TheVariants.{Send, Accept, Refuse, EndFlight}
+pub use Rattle.block_events.specs.declared.event.Event.TheVariants.{Send, Accept, Refuse, Settle}
 pub use Rattle.block_events.specs.declared.event.Event.TheVariants.{RaiseAll}
 pub use Rattle.block_events.specs.declared.flight.Flight.{Flight}
 pub use Rattle.block_events.specs.declared.lane.Lane.{Lane}

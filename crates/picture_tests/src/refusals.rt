@@ -119,7 +119,7 @@ fn refuses_inputs(rt: HostRuntime) {
         };
         let mut sink = Watched::new(&mut writer);
         let refused = run(&rt, rt.alloc(), task, input, &mut sink).err();
-        assert!(rt; refused == Some(*wanted) && sink.failures == 0);
+        assert!(rt; refused == Some(*wanted) && sink.failures() == 0);
         assert!(rt; writer.held.is_empty());
     }
 }

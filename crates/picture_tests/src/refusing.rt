@@ -164,7 +164,7 @@ fn restore_with_cuts(
     let mut sink = Watched::new(&mut writer);
     assert!(*rt; RESTORE.fits());
     let report = run_restore(alloc, ROW, &RESTORE, &how, &mut sink);
-    assert!(*rt; sink.failures == 0);
+    assert!(*rt; sink.failures() == 0);
     let Kept { bytes } = writer;
     (report, bytes)
 }

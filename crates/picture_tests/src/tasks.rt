@@ -102,6 +102,6 @@ pub fn expect(
     };
     let mut sink = Watched::new(&mut writer);
     let report = run(rt, alloc, task, input, &mut sink);
-    assert!(*rt; sink.failures == 0);
+    assert!(*rt; sink.failures() == 0);
     assert!(*rt; report == Ok(wanted) && writer.held.as_slice() == written);
 }

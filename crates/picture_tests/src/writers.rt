@@ -41,7 +41,7 @@ fn writers_stop(rt: HostRuntime) {
                 let mut sink = Watched::new(&mut writer);
                 let stopped = run(&rt, rt.alloc(), task, input, &mut sink).err();
                 let wanted = VisionError::Write(WriteFailed { count });
-                assert!(rt; stopped == Some(wanted) && sink.failures == 1, "{count}");
+                assert!(rt; stopped == Some(wanted) && sink.failures() == 1, "{count}");
                 assert!(rt; writer.held.as_slice() == &written[..count], "{count}");
             }
         }

@@ -53,7 +53,7 @@ fn is_stopped(
     };
     let has_failed = count < whole.len();
     said == wanted
-        && sink.failures == u64::from(has_failed)
+        && sink.failures() == u64::from(has_failed)
         && writer.held.as_slice() == &whole[..count]
 }
 
@@ -114,7 +114,7 @@ fn is_put(alloc: Global, image: &Image, whole: &[u8]) -> bool {
     let mut held: Vec<u8> = Vec::new(alloc);
     let mut sink = Watched::new(&mut held);
     let is_done = put_image(image, &mut sink) == Ok(());
-    is_done && sink.failures == 0 && held.as_slice() == whole
+    is_done && sink.failures() == 0 && held.as_slice() == whole
 }
 
 /// Writes an image to each writer, and takes its samples out again.

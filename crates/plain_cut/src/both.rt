@@ -12,12 +12,10 @@ ghost use Rattle.plain_cut.specs.State.{work_flow, IsWork, HasNoActiveNode};
 use crate::solver::{finish, least_side, maximise};
 use crate::work::Work;
 use crate::workspace::Workspace;
-use flow_network::{Graph, Net};
-use sink_distances::{Laid, Outline, Rows, Spare, rows_of};
+use sink_distances::{Laid, Outline, Rows};
 use std::alloc::{AllocError, Global};
-use std::mem::replace;
 
-/// The sink sides of a net that is cut twice, as `both_sides_in` finds them: one bit for each node
+/// The sink sides of a net that is cut twice, as `both_sides_of` finds them: one bit for each node
 /// in both.
 #[derive(Drop)]
 pub struct BothSides {
@@ -37,18 +35,6 @@ fn add_each(numbers: &mut [u64], more: &[u64])
     'places: for v in 0..more.len() {
         numbers[v] += more[v];
     }
-}
-
-/// The graph of the net in which each node can send the sink so much more.
-fn widen(alloc: Global, graph: Graph, sinks: &[u64], more: &[u64]) -> Result<Graph, AllocError>
-    requires limits { IsNet graph }
-    requires sinks { sinks.now ≡ graph.sinks }
-    requires extras { AreExtras graph more.now }
-    ensures { IfOk result (λ wider. wider ≡ with_larger_sinks graph more.now) }
-{
-    let mut wide = Vec::from_slice(alloc, sinks)?;
-    add_each(wide.as_mut_slice(), more);
-    Ok(graph.with_sinks(&wide))
 }
 
 /// Whether the numbers are all 0.
@@ -159,40 +145,14 @@ fn cut_again(
     Ok(BothSides { lower, upper })
 }
 
-/// The sink sides of the smallest least cuts of the net, and of the net in which each node can send
-/// the sink so much more, `more` of which `Net::can_take` says yes. The second cut goes on from the
+/// The sink sides of the smallest least cuts of a net that stands in rows, and of the net in which
+/// each node can send the sink so much more, as `more` tells. The second cut goes on from the
 /// preflow of the first: what the sink has got stays, and only the excess that was left is pushed
 /// again. It looks only at nodes that did not reach the sink in the first: the others count as the
 /// sink itself.
 ///
 /// Where `more` is all 0 the second costs a copy, and where no node has excess that now reaches the
 /// sink one search. Refuses for the same reasons as `smallest_side_in`.
-pub fn both_sides_in(
-    alloc: Global,
-    net: Net,
-    more: &[u64],
-    space: &mut Workspace,
-) -> Result<BothSides, AllocError>
-    requires { AreExtras net more.now }
-    ensures lower_bits { IfOk result (λ sides. length sides.lower.items ≡ nodes net) }
-    ensures upper_bits { IfOk result (λ sides. length sides.upper.items ≡ nodes net) }
-    ensures lower { IfOk result (λ sides. IsSmallestLeastCut net (set_of sides.lower.items)) }
-    ensures upper { IfOk result
-        (λ sides. IsSmallestLeastCut (with_larger_sinks net more.now) (set_of sides.upper.items)) }
-    ensures within { IfOk result (λ sides.
-        LiesWithin (nodes net) (set_of sides.lower.items) (set_of sides.upper.items)) }
-{
-    let (graph, sources, sinks) = net.into_parts();
-    let outline = Outline::of(&graph);
-    let graph = widen(alloc, graph, sinks.as_slice(), more)?;
-    let wider = Outline::of(&graph);
-    let spare = replace(&mut space.rows, Spare::new(alloc));
-    let rows = rows_of(graph, spare)?;
-    let work = finish(alloc, &outline, rows, sources, sinks, space)?;
-    cut_again(alloc, &outline, &wider, work, more, space)
-}
-
-/// What `both_sides_in` answers, of a net that stands in rows.
 pub fn both_sides_of(
     alloc: Global,
     laid: Laid,

@@ -1,5 +1,5 @@
 -- What workers may refuse.
-use Rattle.std.specs.Prelude.{◌≤◌}
+use Rattle.std.specs.Prelude.{◌<◌, ◌≤◌}
 use Rattle.solvers.specs.declared.solve_error.SolveError.{SolveError}
 use Rattle.solvers.specs.declared.solve_error.SolveError.TheVariants.{OutOfMemory, Workers}
 use Rattle.solvers.specs.declared.solve_error.SolveError.TheVariants.{BadOptions}
@@ -15,8 +15,8 @@ of_parallel parallel.Workers = Workers
 of_parallel parallel.BadOptions = BadOptions
 
 -- the options exactly where a number is out of its range, and else memory; a worker only where a
--- round is allowed
+-- round is allowed by more than one thread
 abbrev pub MayFailToSolve : Options → SolveError → Type 0
 MayFailToSolve options OutOfMemory = AreInRange options
-MayFailToSolve options Workers = AreInRange options × (1 ≤ options.rounds)
+MayFailToSolve options Workers = AreInRange options × (1 ≤ options.rounds) × (1 < options.threads)
 MayFailToSolve options BadOptions = ¬ AreInRange options

@@ -1,6 +1,7 @@
 //! The blocks of a round: joined by rings, moved to workers, and taken back.
-ghost use Rattle.std.specs.Prelude.{◌≡◌, ◌<◌, ◌≤◌, ℕ, IfOk, OnOk, vec_len};
+ghost use Rattle.std.specs.Prelude.{◌≡◌, ◌<◌, ◌≤◌, ℕ, IfErr, IfOk, OnOk, vec_len};
 ghost use Rattle.block_net.specs.Limits.{block_limit};
+ghost use Rattle.block_workers.specs.declared.crew.RoundError.TheVariants.{Workers};
 ghost use Rattle.worker_options.specs.Ranges.{AreInRange};
 ghost use Rattle.block_rings.specs.Joined.{AreJoined};
 ghost use Rattle.block_rings.specs.Links.{ring_room};
@@ -70,6 +71,7 @@ pub(crate) fn run_blocks<J: Job + Sync, R: Threads + Wait + Sync, G: Gate>(
     ensures run { IfOk result
         (λ came. HaveRun options.now.turns blocks.items came.blocks.items came.rings) }
     ensures room { IfOk result (λ came. (b c : ℕ) → ring_room came.rings b c ≤ options.now.ring) }
+    ensures asked { IfErr result (λ e. e ≡ Workers → 1 < options.now.threads) }
 {
     let Blanks { budget, drawn } = blanks;
     let mut stock = stock;

@@ -1,10 +1,11 @@
 //! One round of running workers over the blocks of a state.
-ghost use Rattle.std.specs.Prelude.{◌≡◌, ◌<◌, IfOk};
+ghost use Rattle.std.specs.Prelude.{◌≡◌, ◌<◌, IfErr, IfOk};
 ghost use Rattle.block_events.specs.Events.{IsQuiet};
 ghost use Rattle.laid_blocks.specs.Views.{IsLaid};
 ghost use Rattle.block_core.specs.AllWays.{IsHeld};
 ghost use Rattle.block_opening.specs.Split.{whole_of};
 ghost use Rattle.block_core.specs.Pieces.{state_in};
+ghost use Rattle.block_workers.specs.declared.crew.RoundError.TheVariants.{Workers};
 ghost use Rattle.worker_options.specs.Ranges.{AreInRange};
 ghost use Rattle.rounds.specs.Short.{HasFewOnTheWay, IsShortRound};
 
@@ -44,6 +45,7 @@ fn round_of<J: Job + Sync, R: Threads + Wait + Sync, G: Gate>(
     ensures round { IfOk result
         (λ after. IsShortRound options.now.turns (state_in pieces) after.0) }
     ensures left { IfOk result (λ after. HasFewOnTheWay options.now.ring after.0) }
+    ensures asked { IfErr result (λ e. e ≡ Workers → 1 < options.now.threads) }
 {
     let Pieces {
         net,
@@ -92,6 +94,7 @@ fn round_with<B: Ledger + Send + Sync, D: Ledger + Send + Sync, R: Threads + Wai
     ensures round { IfOk result
         (λ after. IsShortRound options.now.turns (state_in pieces) after.0) }
     ensures left { IfOk result (λ after. HasFewOnTheWay options.now.ring after.0) }
+    ensures asked { IfErr result (λ e. e ≡ Workers → 1 < options.now.threads) }
 {
     round_of::<Ledgers<B, D>, R, G>(rt, alloc, pieces, options, gate, blanks, stock)
 }
@@ -105,8 +108,9 @@ fn round_with<B: Ledger + Send + Sync, D: Ledger + Send + Sync, R: Threads + Wai
 /// block to another. No clause says in how many threads the turns are done. `blocks` and `rounds`
 /// of the options are not looked at: the state is in blocks already, and this is one round.
 ///
-/// All growths come before the first worker starts. Where a round does not come about, the state is
-/// lost.
+/// All growths come before the first worker starts. A worker is refused only where more than one
+/// was asked for: one that is alone works in the calling thread. Where a round does not come about,
+/// the state is lost.
 pub fn run_round<R: Threads + Wait + Sync, G: Gate>(
     rt: &R,
     alloc: Global,
@@ -118,6 +122,7 @@ pub fn run_round<R: Threads + Wait + Sync, G: Gate>(
     requires options { AreInRange options.now }
     ensures round { IfOk result (λ new. IsShortRound options.now.turns state new) }
     ensures left { IfOk result (λ new. HasFewOnTheWay options.now.ring new) }
+    ensures asked { IfErr result (λ e. e ≡ Workers → 1 < options.now.threads) }
 {
     let (state, _stock) = run_by(rt, alloc, state, options, gate, Stock::none(alloc))?;
     Ok(state)
@@ -136,6 +141,7 @@ pub(crate) fn run_by<R: Threads + Wait + Sync, G: Gate>(
     requires options { AreInRange options.now }
     ensures round { IfOk result (λ after. IsShortRound options.now.turns state after.0) }
     ensures left { IfOk result (λ after. HasFewOnTheWay options.now.ring after.0) }
+    ensures asked { IfErr result (λ e. e ≡ Workers → 1 < options.now.threads) }
 {
     let blanks = Blanks {
         budget: Blank::new(1),

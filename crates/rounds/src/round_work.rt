@@ -1,6 +1,7 @@
 //! Blocks, dealt to workers, worked on, and collected.
-ghost use Rattle.std.specs.Prelude.{◌≡◌, ◌<◌, ◌≤◌, IfOk};
+ghost use Rattle.std.specs.Prelude.{◌≡◌, ◌<◌, ◌≤◌, IfErr, IfOk};
 ghost use Rattle.block_workers.specs.Workers.{AllWorked, AreNew, turns_of};
+ghost use Rattle.block_workers.specs.declared.crew.RoundError.TheVariants.{Workers};
 
 use crate::seat_work::work_seats;
 use block_rings::Deck;
@@ -39,6 +40,7 @@ pub(crate) fn work_on<J: Job + Sync, R: Threads + Wait + Sync, G: Gate>(
     requires none { shares.drawn.amount ≡ 0 }
     ensures worked { IfOk result (λ back. AllWorked deck.seats.items back.seats.items) }
     ensures few { IfOk result (λ back. turns_of back.seats.items ≤ shares.whole.amount) }
+    ensures asked { IfErr result (λ e. e ≡ Workers → 1 < threads) }
 {
     let Shares {
         mut whole,

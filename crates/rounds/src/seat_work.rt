@@ -13,9 +13,9 @@ use std::sync::{Mutex, Wait};
 use std::thread::Threads;
 use worker_options::Gate;
 
-/// The seats dealt to so many workers, each in a thread of its own, and collected again in their
-/// order. They did turn 0 and the turns that were drawn, which the share counts. All growths come
-/// before the first worker starts.
+/// The seats dealt to so many workers, each in a thread of its own but one that is alone, and
+/// collected again in their order. They did turn 0 and the turns that were drawn, which the share
+/// counts. All growths come before the first worker starts.
 ///
 /// After an error the seats are lost, and the share counts no turn. Where a worker was refused it
 /// lacks the parts that the workers got, and where memory ran out it lacks them or none.
@@ -40,6 +40,7 @@ pub(crate) fn work_seats<J: Job + Sync, R: Threads + Wait + Sync, G: Gate>(
         ⊎ (share.new.parts + threads ≡ share.old.parts)) }
     ensures refused { IfErr result
         (λ e. e ≡ Workers → share.new.parts + threads ≡ share.old.parts) }
+    ensures asked { IfErr result (λ e. e ≡ Workers → 1 < threads) }
 {
     let (workers, room) = deal::<J>(alloc, deck, threads, share)?;
     let back = all_work(rt, alloc, workers, book, gate)?;

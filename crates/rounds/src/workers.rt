@@ -179,7 +179,12 @@ impl<'a, R: Threads + Wait + Sync> How for Workers<'a, R, &'a (dyn Gate + Sync)>
         THREAD_PARTS * self.options.threads as usize
     }
 
-    fn fork(&self) -> ByThreads<'a, R> {
+    /// Parts are done by as many threads as the options tell.
+    fn fork(&self) -> ByThreads<'a, R>
+        requires ready { IsSync R.row }
+        ensures able { IsSync R.row }
+        ensures threads { result.threads ≡ self.now.options.threads }
+    {
         ByThreads {
             rt: self.rt,
             threads: self.options.threads as usize,

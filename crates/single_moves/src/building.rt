@@ -12,43 +12,16 @@ ghost use Rattle.single_moves.specs.Prelude.{IsFreeFor};
 ghost use Rattle.single_moves.specs.Prelude.{Expand, AreCostsOf};
 ghost use Rattle.single_moves.specs.PlainBuilding.{IsPlainBuilding};
 
-use crate::workspace::{KEPT_SITES, Workspace};
+use crate::workspace::Workspace;
 use cost_store::{Problem, costs_of, has_cost};
-use deciding::{Bounds, Deciding, Lists, MoveToFind, RiseNumbers};
+use deciding::{MoveToFind, RiseNumbers};
 use label_terms::add_label_costs;
 use labellings::Move;
-use move_energy::{BuildError, Neighbours, OpenSites};
+use move_energy::{BuildError, OpenSites};
 use solvers::How;
 use std::alloc::{AllocError, Global};
 use std::mem::swap;
 use strips::{Basis, close_parts};
-
-/// The most open sites beside which the pairs stay grouped by their sites. The form, the net and
-/// the cut of more take over 50 MB, so the groups are given back before the form is built, and the
-/// next move makes them anew, which takes less than a twentieth of such a move's time.
-const GROUPED_SITES: usize = 1 << 19;
-
-/// Gives the memory of the bounds of many sites back.
-fn give_bounds_back(alloc: Global, bounds: &mut Bounds) {
-    if bounds.least.len() > KEPT_SITES {
-        *bounds = Bounds::new(alloc);
-    }
-}
-
-/// Gives the memory of the grouped pairs back where many sites are open. The bounds stay.
-fn give_groups_back(alloc: Global, grouped: &mut bool, deciding: &mut Deciding)
-    requires far { deciding.old.lists.listed ≡ false }
-    ensures far { deciding.new.lists.listed ≡ false }
-    ensures kept { IsTrue grouped.new
-        → IsTrue grouped.old × (deciding.new.ends ≡ deciding.old.ends) }
-    ensures bounds { deciding.new.bounds ≡ deciding.old.bounds }
-{
-    if deciding.lists.count > GROUPED_SITES {
-        *grouped = false;
-        deciding.ends = Neighbours::empty(alloc);
-        deciding.lists = Lists::empty(alloc);
-    }
-}
 
 /// Decides the sites of a move, which the workspace then knows.
 fn decide<F: Fn(u32, u32) -> i64 + Sync, V: Fn(u32, u32) -> i64 + Sync>(
@@ -65,7 +38,6 @@ fn decide<F: Fn(u32, u32) -> i64 + Sync, V: Fn(u32, u32) -> i64 + Sync>(
     ensures decided { WhereMeant F.Fn V.Fn problem.now (λ m. IsDecidedMove m change at.now
         space.new.built.variables.choices.items result) }
 {
-    space.group(alloc, &problem.pairs)?;
     space.deciding.decide(problem, at, change)?;
     swap(
         &mut space.deciding.bounds.choices,
@@ -117,12 +89,10 @@ fn build_all<F: Fn(u32, u32) -> i64 + Sync, V: Fn(u32, u32) -> i64 + Sync>(
     ensures kept { KeepsChoices space.old space.new }
     ensures form { OnOk result (IsOpenForm F.Fn V.Fn problem.now at.now change space.new) }
 {
-    give_groups_back(alloc, &mut space.grouped, &mut space.deciding);
     let weights = &space.deciding.bounds.greatest;
     space
         .built
         .build_weighted(alloc, problem, weights, at, change)?;
-    give_bounds_back(alloc, &mut space.deciding.bounds);
     Ok(())
 }
 
@@ -224,7 +194,6 @@ fn close_apart<F: Fn(u32, u32) -> i64 + Sync, V: Fn(u32, u32) -> i64 + Sync, H: 
     if parts < 2 {
         return Ok(false);
     }
-    space.group(alloc, &problem.pairs)?;
     if !space.deciding.open(problem, at, change)? {
         return Ok(false);
     }

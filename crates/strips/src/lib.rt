@@ -16,4 +16,3 @@ mod telling;
 pub use closing::Strips;
 pub use material::Basis;
 pub use parting::close_parts;
-pub use sides::least_sides;

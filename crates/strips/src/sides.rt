@@ -15,38 +15,11 @@ ghost use Rattle.strips.specs.Sides.{IsLessBorder};
 ghost use Rattle.strips.specs.Strips.{IsRowForm};
 
 use crate::material::RowForm;
-use compile_cut::{Quadratic, net_of, sink_capacities, source_capacities};
-use plain_cut::{BothSides, Workspace, both_sides_in, both_sides_of};
+use compile_cut::{Quadratic, sink_capacities, source_capacities};
+use plain_cut::{BothSides, Workspace, both_sides_of};
 use sink_distances::Laid;
 use std::alloc::{AllocError, Global};
 use std::mem::replace;
-
-/// The least assignments with the fewest ones, a bit for each node: `lower` is that of the form,
-/// and `upper` that of the form in which each weight is less by its node's border. Both come of one
-/// network. At the second cut each node can send the sink its border more. Refuses only where
-/// memory runs out.
-pub fn least_sides(
-    alloc: Global,
-    form: Quadratic,
-    borders: &[u64],
-    cutting: &mut Workspace,
-) -> Result<BothSides, AllocError>
-    requires bounded { IsQuadraticBounded term_limit form }
-    requires few { vec_len form.weights ≤ site_limit + label_limit }
-    requires count { length borders.now ≡ vec_len form.weights }
-    requires small { sum borders.now ≤ borders_limit }
-    ensures lower_bits { IfOk result (λ sides. length sides.lower.items ≡ vec_len form.weights) }
-    ensures upper_bits { IfOk result (λ sides. length sides.upper.items ≡ vec_len form.weights) }
-    ensures lower { IfOk result (λ sides. IsSmallestLeast (vec_len form.weights)
-        (quadratic_value form) (assignment sides.lower.items)) }
-    ensures upper { IfOk result (λ sides. (less : Form) → IsLessBorder borders.now form less →
-        IsSmallestLeast (vec_len form.weights) (quadratic_value less)
-        (assignment sides.upper.items)) }
-{
-    let compiled = net_of(alloc, form)?;
-    let sides = both_sides_in(alloc, compiled.net, borders, cutting)?;
-    Ok(sides)
-}
 
 /// The network of a form in rows, which it takes over.
 fn take_net(alloc: Global, form: &mut RowForm) -> Result<Laid, AllocError>
@@ -65,7 +38,10 @@ fn take_net(alloc: Global, form: &mut RowForm) -> Result<Laid, AllocError>
     })
 }
 
-/// What `least_sides` tells, of a form in rows.
+/// The least assignments with the fewest ones of a form in rows, a bit for each node: `lower` is
+/// that of the form, and `upper` that of the form in which each weight is less by its node's
+/// border. Both come of one network. At the second cut each node can send the sink its border more.
+/// Refuses only where memory runs out.
 pub(crate) fn row_sides(
     alloc: Global,
     form: &mut RowForm,

@@ -229,7 +229,7 @@ fn is_read_whole(alloc: Global) -> bool {
     let Ok(input) = read_input(alloc, &mut source) else {
         return false;
     };
-    input.len() == INPUT_LIMIT && source.failures == 0
+    input.len() == INPUT_LIMIT && source.failures() == 0
 }
 
 // An input of the greatest length is read whole, and one byte more is refused before a fault behind

@@ -1,5 +1,5 @@
 use Rattle.std.proofs.Common.{true, ◌∙◌}
-use Rattle.block_cut.proofs.Taking.{accept_taken, refuse_taken, end_flight_by, from_same, none_taken}
+use Rattle.block_cut.proofs.Taking.{accept_taken, refuse_taken, settle_by, from_same, none_taken}
 use Rattle.block_cut.proofs.messages.take_front.Goals as goal
 
 pub returns-then-perform-clause-taken : goal.returns-then-perform-clause-taken
@@ -14,7 +14,7 @@ returns-then-perform-2-clause-taken c =
 pub returns-clause-taken : goal.returns-clause-taken
 returns-clause-taken c =
     from_same c.args.state.now c.perform-2.new.self c.perform-3.new.self c.perform-3.result (c.if-perform-2.ensures.happens.1 ∙ c.if-perform.ensures.happens.1)
-    (end_flight_by c.perform-2.new.self c.perform-3.new.self c.args.from c.args.to c.perform-3.result c.perform-3.ensures.sound c.perform-3.ensures.happens)
+    (settle_by c.perform-2.new.self c.perform-3.new.self c.args.from c.args.to c.perform-3.result c.perform-3.ensures.sound c.perform-3.ensures.happens)
 
 pub returns-clause-none : goal.returns-clause-none
 returns-clause-none c =

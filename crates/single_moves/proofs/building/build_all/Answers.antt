@@ -5,22 +5,7 @@ use Rattle.labellings.specs.Energies.{labelling}
 use Rattle.move_energy.specs.Choices.{choice_at}
 use Rattle.move_energy.specs.Limits.{weights_limit}
 use Rattle.move_energy.specs.Weights.{AreWeights}
-use Rattle.deciding.specs.declared.bounds.Bounds.{Bounds}
-use Rattle.move_energy.specs.declared.by_site.Neighbours.{Neighbours}
-use Rattle.move_energy.specs.BySite.{AreBySite}
 use Rattle.single_moves.proofs.building.build_all.Goals as goal
-
-pub returns-in_err-build_weighted-clause-by_site : goal.returns-in_err-build_weighted-clause-by_site
-returns-in_err-build_weighted-clause-by_site g c = λ yes.
-    let kept = c.give_groups_back.ensures.kept yes in
-    let P : Neighbours → Type 0 = λ ends. AreBySite c.args.problem.now.pairs ends in
-    subst P (sym kept.1) c.requires.weighed.near.by_site
-
-pub returns-clause-by_site : goal.returns-clause-by_site
-returns-clause-by_site g c = λ yes.
-    let kept = c.give_groups_back.ensures.kept yes in
-    let P : Neighbours → Type 0 = λ ends. AreBySite c.args.problem.now.pairs ends in
-    subst P (sym kept.1) c.requires.weighed.near.by_site
 
 pub build_weighted-requires-clause-valued : goal.build_weighted-requires-clause-valued
 build_weighted-requires-clause-valued g c = λ κs lives. record {
@@ -32,7 +17,7 @@ build_weighted-requires-clause-valued g c = λ κs lives. record {
 pub build_weighted-requires-clause-weights : goal.build_weighted-requires-clause-weights
 build_weighted-requires-clause-weights g c = λ κs lives.
     let a = c.args in
-    let weights = c.deref.ensures.value ∙ ap (λ (b : Bounds). b.greatest.items) c.give_groups_back.ensures.bounds in
+    let weights = c.deref.ensures.value in
     let S : List ℤ → Type 0 = λ ws. weights_size ws ≤ weights_limit in
     record {
       count = ap (λ (ws : List ℤ). length ws) weights ∙ c.requires.weighed.sized.0;

@@ -1,10 +1,10 @@
 use Rattle.std.proofs.Common.{◌≡◌, ◌∷◌, drop, sym, subst}
 use Rattle.block_events.specs.declared.message.Message.TheVariants.{Accepted}
-use Rattle.block_events.specs.declared.event.Event.TheVariants.{EndFlight}
+use Rattle.block_events.specs.declared.event.Event.TheVariants.{Settle}
 use Rattle.block_events.specs.States as core
 use Rattle.block_events.specs.Effects.{state_of}
 use Rattle.block_core.proofs.Keeping.{held_next}
-use Rattle.block_core.proofs.Fronts.{accepted_out, may_end_flight, delivery_is}
+use Rattle.block_core.proofs.Fronts.{accepted_out, may_settle, delivery_is}
 use Rattle.block_core.proofs.state.State.deliver_parcel.Goals as goal
 
 pub deliver_parcel-requires : goal.deliver_parcel-requires
@@ -25,5 +25,5 @@ invariant_of-self c =
     let s : core.State = state_of c.self.inside.blocks c.self.inside.ways.messages c.self.inside.got in
     let front : core.way_at s.ways b e ≡ Accepted x c.args.amount ∷ drop 1 (core.way_at s.ways b e) = subst (λ (t : core.State). core.way_at t.ways b e ≡ Accepted x c.args.amount ∷ drop 1 (core.way_at t.ways b e)) (sym c.self.view_is) c.requires.front in
     let way = subst (λ (t : core.State). core.IsWay t b e) (sym c.self.view_is) c.requires.way in
-    rw c.take.ensures.rooms (held_next (EndFlight b e) _ c.self.invariant (may_end_flight s b e (Accepted x c.args.amount) _ way front tt)
+    rw c.take.ensures.rooms (held_next (Settle b e) _ c.self.invariant (may_settle s b e (Accepted x c.args.amount) _ way front tt)
     (delivery_is c.self.inside.blocks _ _ _ _ b e x c.args.amount _ front c.deliver_parcel.ensures c.take.ensures.messages))

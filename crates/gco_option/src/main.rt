@@ -1,4 +1,4 @@
-//! `gco` once more, run on a problem of labels with an option: status 0.
+//! `gco` once more, run on a picture with an option that has a value: status 0.
 #![tactic(auto)]
 
 use gco_cli::run_program;

@@ -3,12 +3,12 @@ use Rattle.block_events.specs.declared.message.Message.{Message}
 use Rattle.block_net.specs.Views.{CellsView}
 use Rattle.block_turns.specs.declared.block.Block.TheInside.{Inside}
 use Rattle.block_turns.specs.declared.letter.Letter.{Letter}
-use Rattle.block_turns.specs.Calls.{HasEndedFlight}
+use Rattle.block_turns.specs.Calls.{HasSettled}
 use Rattle.block_turns.specs.Turns.{IsKnown}
 use Rattle.block_turns.proofs.Receiving.{parcel_letter, accepted_letter, refused_letter}
-use Rattle.block_turns.proofs.Calling.{known_alike, some_or_none, has_ended_flight, NoFlightEnds, no_flight_ends, parcel_ends_no_flight}
-use Rattle.block_turns.proofs.calls.end_flight.Goals.{in-Parcel, in-Accepted, in-Refused}
-use Rattle.block_turns.proofs.calls.end_flight.Goals as goal
+use Rattle.block_turns.proofs.Calling.{known_alike, some_or_none, has_settled, NothingSettles, nothing_settles, parcel_settles_nothing}
+use Rattle.block_turns.proofs.calls.settle.Goals.{in-Parcel, in-Accepted, in-Refused}
+use Rattle.block_turns.proofs.calls.settle.Goals as goal
 
 pub invariant_of-block : goal.invariant_of-block
 invariant_of-block g c = elim c.match-letter.branch [
@@ -31,7 +31,7 @@ returns-clause-ended g c =
       | in-Parcel w ↦
           let letter : Letter = parcel_letter w.in-Parcel.direction w.in-Parcel.amount w.in-Parcel.label place in
           rw (w.result-is, w.ways-is, w.block-inside-is)
-          (subst (λ (b : CellsView). NoFlightEnds b was c.args.from old mid) c.block.view_is (parcel_ends_no_flight old was mid c.args.from letter c.front.ensures.look (front_of letter.message w.in-Parcel.is) tt))
+          (subst (λ (b : CellsView). NothingSettles b was c.args.from old mid) c.block.view_is (parcel_settles_nothing old was mid c.args.from letter c.front.ensures.look (front_of letter.message w.in-Parcel.is) tt))
       | in-Accepted w ↦
           let told = w.receive_accepted.ensures in
           let now = g.W.Ways.seen w.receive_accepted.new.ways in
@@ -39,10 +39,10 @@ returns-clause-ended g c =
           let letter : Letter = accepted_letter w.in-Accepted.direction w.in-Accepted.amount place in
           rw (w.result-is, w.ways-is, w.block-inside-is)
           (some_or_none w.receive_accepted.result _ _
-          (λ some. subst (λ (b : CellsView). HasEndedFlight b was c.args.from new now) c.block.view_is (has_ended_flight old new was mid now c.args.from letter c.front.ensures.look (front_of letter.message w.in-Accepted.is) (told.done some)))
+          (λ some. subst (λ (b : CellsView). HasSettled b was c.args.from new now) c.block.view_is (has_settled old new was mid now c.args.from letter c.front.ensures.look (front_of letter.message w.in-Accepted.is) (told.done some)))
           (λ none.
           let still = told.does.still none in
-          subst (λ (b : CellsView). NoFlightEnds b was c.args.from new now) c.block.view_is (no_flight_ends old new was mid now c.args.from c.front.ensures.look (told.idle none) still.0 still.1)))
+          subst (λ (b : CellsView). NothingSettles b was c.args.from new now) c.block.view_is (nothing_settles old new was mid now c.args.from c.front.ensures.look (told.idle none) still.0 still.1)))
       | in-Refused w ↦
           let told = w.receive_refused.ensures in
           let now = g.W.Ways.seen w.receive_refused.new.ways in
@@ -50,8 +50,8 @@ returns-clause-ended g c =
           let letter : Letter = refused_letter w.in-Refused.direction w.in-Refused.amount w.in-Refused.label w.in-Refused.told place in
           rw (w.result-is, w.ways-is, w.block-inside-is)
           (some_or_none w.receive_refused.result _ _
-          (λ some. subst (λ (b : CellsView). HasEndedFlight b was c.args.from new now) c.block.view_is (has_ended_flight old new was mid now c.args.from letter c.front.ensures.look (front_of letter.message w.in-Refused.is) (told.done some)))
+          (λ some. subst (λ (b : CellsView). HasSettled b was c.args.from new now) c.block.view_is (has_settled old new was mid now c.args.from letter c.front.ensures.look (front_of letter.message w.in-Refused.is) (told.done some)))
           (λ none.
           let still = told.does.still none in
-          subst (λ (b : CellsView). NoFlightEnds b was c.args.from new now) c.block.view_is (no_flight_ends old new was mid now c.args.from c.front.ensures.look (told.idle none) still.0 still.1)))
+          subst (λ (b : CellsView). NothingSettles b was c.args.from new now) c.block.view_is (nothing_settles old new was mid now c.args.from c.front.ensures.look (told.idle none) still.0 still.1)))
     ]
