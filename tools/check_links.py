@@ -10,7 +10,7 @@ from pathlib import Path
 
 TOP = Path(__file__).resolve().parent.parent
 NAMED = re.compile(
-    r"`((?:docs|examples|tools|bindings|crates|release)/[\w./-]+\.\w+"
+    r"`((?:bench|bindings|crates|docs|examples|release|tools|web)/[\w./-]+\.\w+"
     r"|CONTRIBUTING\.md|LICENSE-\w+|VERSION)(?::\d+)?`"
 )
 BARE = re.compile(r"(?<![\w`/])(docs/[A-Z]+\.md|tools/\w+\.py)\b")
@@ -25,6 +25,7 @@ def pages():
         TOP / "CONTRIBUTING.md",
         *sorted((TOP / "docs").glob("*.md")),
         TOP / "examples/README.md",
+        TOP / "bench/README.md",
     ]
 
 
