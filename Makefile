@@ -4,6 +4,7 @@
 #   make uninstall PREFIX=/usr/local DESTDIR=
 #   make check                     tries the program, the bindings, the release, the manuals, the
 #                                  completions and the pages
+#   make bench                     measures the program beside another: bench/README.md
 # The program and the library are what `rt run` in crates/gco and `make -C bindings` leave.
 # Others may be named:
 #   GCO=path/of/gco                the built program
@@ -17,6 +18,7 @@ CRATE ?=
 GATE_LOG ?=
 PREFIX ?= /usr/local
 DESTDIR ?=
+BENCH_OPTIONS ?=
 ifndef PYTHON
 PYTHON := $(shell python3 -c 'import numpy, PIL' 2> /dev/null && echo python3 || echo /usr/bin/python3)
 endif
@@ -81,13 +83,17 @@ check-bindings: check-packages $(GCO)
 check-packages:
 	@$(PYTHON) tools/check_packages.py
 
+bench: $(GCO)
+	$(MAKE) -C bench GCO=$(abspath $(GCO)) PYTHON=$(PYTHON) BENCH_OPTIONS="$(BENCH_OPTIONS)"
+
 clean:
 	rm -rf dist
 	$(MAKE) -C bindings clean
+	$(MAKE) -C bench clean
 
 FORCE:
 
 .PHONY: release install uninstall check check-pages check-program check-bindings check-packages \
-	clean FORCE
+	bench clean FORCE
 .DELETE_ON_ERROR:
 .NOTPARALLEL:

@@ -47,7 +47,8 @@ put_program() {
 put_pages() {
     doc=$stage/share/doc/gco
     mkdir -p "$doc/docs" "$doc/examples" "$doc/tools"
-    cp README.md CONTRIBUTING.md LICENSE-MIT LICENSE-APACHE "$doc"
+    cp README.md CONTRIBUTING.md CHANGELOG.md SECURITY.md CITATION.cff "$doc"
+    cp LICENSE-MIT LICENSE-APACHE "$doc"
     cp docs/* "$doc/docs"
     cp examples/* "$doc/examples"
     # What the pages have a user run.

@@ -1,6 +1,6 @@
 #!/usr/bin/env python3
-"""Tests that each file that a page names is there, and that each picture of docs/ is shown by a
-page:
+"""Tests that each file that a page names is there, that each picture of docs/ is shown by a page,
+and that tools/README.md has each script:
 
     python3 tools/check_links.py
 """
@@ -10,8 +10,8 @@ from pathlib import Path
 
 TOP = Path(__file__).resolve().parent.parent
 NAMED = re.compile(
-    r"`((?:docs|examples|tools|bindings|crates|release)/[\w./-]+\.\w+"
-    r"|CONTRIBUTING\.md|LICENSE-\w+|VERSION)(?::\d+)?`"
+    r"`((?:bench|bindings|crates|docs|examples|release|tools|web)/[\w./-]+\.\w+"
+    r"|CONTRIBUTING\.md|CHANGELOG\.md|SECURITY\.md|CITATION\.cff|LICENSE-\w+|VERSION)(?::\d+)?`"
 )
 BARE = re.compile(r"(?<![\w`/])(docs/[A-Z]+\.md|tools/\w+\.py)\b")
 SHOWN = re.compile(r"!?\[[^\]]*\]\(([^)#:]+)\)")
@@ -25,6 +25,10 @@ def pages():
         TOP / "CONTRIBUTING.md",
         *sorted((TOP / "docs").glob("*.md")),
         TOP / "examples/README.md",
+        TOP / "bench/README.md",
+        TOP / "tools/README.md",
+        TOP / "CHANGELOG.md",
+        TOP / "SECURITY.md",
     ]
 
 
@@ -40,6 +44,10 @@ def faults():
             shown.add(file)
             if not file.exists():
                 yield f"{page.relative_to(TOP)}: there is no {target}"
+    told = (TOP / "tools/README.md").read_text(encoding="utf-8")
+    for script in sorted((TOP / "tools").glob("*.py")):
+        if f"`{script.name}`" not in told:
+            yield f"tools/README.md does not say what {script.name} does"
     for picture in sorted((TOP / "docs").glob("*.png")):
         if picture not in shown:
             yield f"docs/{picture.name} is shown by no page"
