@@ -118,3 +118,34 @@ fn cuts_show_a_form(rt: HostRuntime) -> Result<(), Fail> {
     assert!(rt; cut_values(&rt, &compiled.net, compiled.constant) == CASES[0].3);
     Ok(())
 }
+
+/// The constants of energies without terms, and their least assignments with the fewest ones. The
+/// least value is the constant, and the least cut has the value 0.
+const BARE: &[(i64, &[bool])] = &[(7, &[]), (-2, &[false; 3])];
+
+/// Whether an energy without terms has this constant as its minimum, at this assignment.
+fn is_bare_minimum(
+    rt: &impl Abort,
+    alloc: Global,
+    energy: &mut Energy,
+    constant: i64,
+    assignment: &[bool],
+) -> Result<bool, EnergyError> {
+    energy.clear(0);
+    energy.add_constant(constant)?;
+    for _ in assignment {
+        energy.add_variable()?;
+    }
+    let minimum = minimise(alloc, check(energy).expect(rt, "regular"))?;
+    Ok(minimum.value == constant && minimum.assignment.as_slice() == assignment)
+}
+
+#[test]
+fn energies_without_terms(rt: HostRuntime) -> Result<(), Fail> {
+    let mut energy = Energy::new(rt.alloc());
+    for (place, (constant, assignment)) in BARE.iter().enumerate() {
+        let is_right = is_bare_minimum(&rt, rt.alloc(), &mut energy, *constant, assignment)?;
+        expect(&rt, "BARE", place, is_right);
+    }
+    Ok(())
+}

@@ -157,6 +157,41 @@ fn single_moves(rt: HostRuntime) -> Result<(), Fail> {
     Ok(())
 }
 
+/// No sites: the first cycle changes nothing, and nor does a move.
+#[test]
+fn no_sites(rt: HostRuntime) -> Result<(), Fail> {
+    let mut labels = [0u32; 0];
+    let mut told = no_outcome();
+    let status = gco_label(
+        rt.alloc(),
+        3,
+        &[],
+        &POTTS,
+        &[],
+        &[],
+        0,
+        9,
+        &mut labels,
+        &mut told,
+    );
+    assert_eq!(rt; status, 0);
+    assert!(rt; tells(&told, [0, 0, 0], [0, 1, 1], [1, 1, 0, 0, 0]));
+    let status = gco_expand(
+        rt.alloc(),
+        3,
+        &[],
+        &POTTS,
+        &[],
+        &[],
+        2,
+        &mut labels,
+        &mut told,
+    );
+    assert_eq!(rt; status, 0);
+    assert!(rt; tells(&told, [0, 0, 0], [0, 0, 0], [0; 5]));
+    Ok(())
+}
+
 /// Two sites at 0 and 2 whose difference costs its square: the expansion of 1 has a term that is
 /// not regular, which names that move. A second pair of one site alone is refused by its place.
 #[test]

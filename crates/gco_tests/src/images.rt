@@ -50,6 +50,14 @@ const ROWS: &[Row] = &[
         BLACK,
         "energy 3 data 3 smooth 0\n",
     ),
+    // What follows the picture is not looked at.
+    (
+        &["gco", "restore", "--weight", "1"],
+        b"P5\n3 1\n3\n\x00\x03\x00P5\n\x00#",
+        0,
+        RESTORED,
+        "energy 2 data 0 smooth 2\n",
+    ),
     // A level costs 1 by itself: three black pixels cost 3 and their level 1, the picture as it is
     // 2 and its two levels 2.
     (
@@ -215,6 +223,13 @@ const ROWS: &[Row] = &[
     (
         &["gco", "restore", "--moves", "jump", "--smooth", "cubic"],
         b"",
+        1,
+        b"",
+        "refused 29 smooth\n",
+    ),
+    (
+        &["gco", "restore", "--smooth", "cubic"],
+        RESTORED,
         1,
         b"",
         "refused 29 smooth\n",

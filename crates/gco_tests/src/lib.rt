@@ -17,6 +17,8 @@ mod label_files;
 #[cfg(test)]
 mod labels;
 #[cfg(test)]
+mod many_words;
+#[cfg(test)]
 mod refused_files;
 #[cfg(test)]
 mod rows;

@@ -259,7 +259,7 @@ pub fn is_answered<F: Fn(u32, u32) -> i64 + Sync, V: Fn(u32, u32) -> i64 + Sync,
     labelling: &mut Labelling,
     row: &[u8; BYTES],
     label_energy: i64,
-    chain: &[[u8; 4]],
+    chain: &[&[u8]],
     how: &H,
 ) -> bool
     requires ready { H.ready how.now }
@@ -272,7 +272,7 @@ pub fn is_answered<F: Fn(u32, u32) -> i64 + Sync, V: Fn(u32, u32) -> i64 + Sync,
         return first == answer_wanted(row) && is_after(problem, labelling, row, label_energy);
     }
     let stands = are_labels(labelling.as_slice(), row, 49)
-        || chain.iter().any(|it| labelling.as_slice() == it.as_slice());
+        || chain.iter().any(|it| labelling.as_slice() == *it);
     let again = answer_of(problem, alloc, labelling, row, how);
     let is_told = again == answer_wanted(row) || matches!(again, Ok((true, _)));
     stands && is_told && is_after(problem, labelling, row, label_energy)
@@ -283,7 +283,7 @@ pub fn is_right<H: How>(
     rt: &impl Abort,
     alloc: Global,
     row: &[u8; BYTES],
-    chain: &[[u8; 4]],
+    chain: &[&[u8]],
     how: &H,
 ) -> bool
     requires { H.ready how.now }
@@ -319,12 +319,7 @@ pub fn is_right<H: How>(
 
 /// Whether a row is right that is made strip by strip, for each size of the strips, and for each
 /// number of parts.
-fn is_right_in_strips(
-    rt: &impl Abort,
-    alloc: Global,
-    row: &[u8; BYTES],
-    chain: &[[u8; 4]],
-) -> bool {
+fn is_right_in_strips(rt: &impl Abort, alloc: Global, row: &[u8; BYTES], chain: &[&[u8]]) -> bool {
     let mut all = true;
     for sites in STRIPS {
         for parts in PARTS {

@@ -55,8 +55,8 @@ enum Answer {
     Kept,
     /// The move changes a label.
     Changed,
-    /// The move is not regular at the pair of this place.
-    NotRegular(u32),
+    /// A move is not regular at the pair of this place. It is the expansion of this label.
+    NotRegular(u32, u32),
     /// A label of the move is no label of the problem.
     NoSuchLabel,
     /// The run may make no further cycle, after so many.
@@ -125,8 +125,18 @@ const APART: Case = Case {
 /// To expand the label 1 makes the term 4, 1, 1, 0: 4 + 0 is above 1 + 1.
 const NOT_REGULAR: Case = Case {
     task: Task::Expand(1),
-    answer: Answer::NotRegular(0),
+    answer: Answer::NotRegular(0, 1),
     ..APART
+};
+
+/// The same with a third site, which has no pair and is best with the label 0. A run expands 0
+/// first, which changes that site alone. Then it is refused to expand 1.
+const STOPPED: Case = Case {
+    data: &[&[0, 9, 9], &[9, 9, 0], &[0, 5, 9]],
+    before: &[0, 2, 1],
+    task: Task::Expansions(9),
+    after: &[0, 2, 0],
+    ..NOT_REGULAR
 };
 
 /// There is no label 3 to expand.
@@ -200,6 +210,7 @@ const CASES: &[(&str, Case)] = &[
     ("BOTH_CHANGE", BOTH_CHANGE),
     ("APART", APART),
     ("NOT_REGULAR", NOT_REGULAR),
+    ("STOPPED", STOPPED),
     ("NO_LABEL", NO_LABEL),
     ("NO_PARTNER", NO_PARTNER),
     ("FIRST_KEPT", FIRST_KEPT),
@@ -210,15 +221,17 @@ const CASES: &[(&str, Case)] = &[
     ("CHAIN_OF_SWAPS", CHAIN_OF_SWAPS),
 ];
 
-/// The labellings of the last run, in their order.
-const CHAIN: [[u8; 4]; 7] = [
-    [1, 2, 0, 0],
-    [1, 2, 1, 1],
-    [1, 0, 1, 1],
-    [2, 0, 1, 1],
-    [2, 0, 0, 1],
-    [2, 0, 0, 2],
-    [2, 2, 2, 2],
+/// The labellings of the last run, in their order, and those of the run over three sites.
+const CHAIN: &[&[u8]] = &[
+    &[1, 2, 0, 0],
+    &[1, 2, 1, 1],
+    &[1, 0, 1, 1],
+    &[2, 0, 1, 1],
+    &[2, 0, 0, 1],
+    &[2, 0, 0, 2],
+    &[2, 2, 2, 2],
+    &[0, 2, 1],
+    &[0, 2, 0],
 ];
 
 /// Of a task: which it is, the cycles, and the two labels, as a row of `random` has them.
@@ -236,7 +249,7 @@ fn answer_codes(answer: Answer) -> [u32; 2] {
     match answer {
         Answer::Kept => [0, 0],
         Answer::Changed => [1, 0],
-        Answer::NotRegular(pair) => [2, pair],
+        Answer::NotRegular(pair, _) => [2, pair],
         Answer::NoSuchLabel => [3, 0],
         Answer::Stopped(cycles) => [0, cycles],
         Answer::Settled(cycles) => [1, cycles],
@@ -266,8 +279,12 @@ fn digit_of(lines: &[&[u32]]) -> u32 {
 
 /// Writes how large a problem is, the task and the answer.
 fn put_head(row: &mut [u8], case: &Case) {
-    let [kind, cycles, alpha, beta] = task_codes(case.task);
+    let [kind, cycles, label, beta] = task_codes(case.task);
     let [answer, number] = answer_codes(case.answer);
+    let alpha = match case.answer {
+        Answer::NotRegular(_, refused) => refused,
+        _ => label,
+    };
     put(
         row,
         0,
@@ -297,7 +314,7 @@ fn row_of(case: &Case) -> [u8; BYTES] {
 #[test]
 fn moves_worked_by_hand(rt: HostRuntime) {
     for (name, case) in CASES {
-        let is_right = is_right(&rt, rt.alloc(), &row_of(case), &CHAIN, &Alone);
+        let is_right = is_right(&rt, rt.alloc(), &row_of(case), CHAIN, &Alone);
         assert!(rt; is_right, "{name}");
     }
 }

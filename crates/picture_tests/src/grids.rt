@@ -2,6 +2,7 @@
 ghost use Rattle.std.specs.Prelude.{◌≤◌, ◌<◌, ◌+◌, ◌*◌, ◌≤ℤ◌, pos};
 
 use crate::by_workers::TWO;
+use crate::rows::expect;
 use cost_store::{DataCost, Problem, SmoothCost};
 use label_field::{Labelling, Pairs};
 use moves::{Alone, Ended, How, MoveError, expand, run_expansion};
@@ -74,4 +75,27 @@ fn grids_are_alike(rt: HostRuntime) -> Result<(), Fail> {
     assert!(rt; alone.0 == two.0 && alone.1 == two.1);
     assert!(rt; alone.2.as_slice() == two.2.as_slice());
     Ok(())
+}
+
+/// Options of one thread of which one number is out of its range: such a thread is given each net.
+const BAD: &[Options] = &[
+    Options { threads: 0, ..TWO },
+    Options {
+        threads: 1,
+        blocks: 257,
+        ..TWO
+    },
+    Options {
+        threads: 1,
+        ring: 0,
+        ..TWO
+    },
+];
+
+#[test]
+fn bad_options_are_told(rt: HostRuntime) {
+    for (place, options) in BAD.iter().enumerate() {
+        let refused = expanded_by(&rt, rt.alloc(), *options).err();
+        expect(&rt, "BAD", place, refused == Some(MoveError::BadOptions));
+    }
 }

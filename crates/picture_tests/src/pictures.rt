@@ -69,7 +69,7 @@ const CORNERS: SegmentOptions = SegmentOptions {
 };
 
 /// A command, its input, the picture that it writes, and the two parts of the energy.
-const ROWS: [(Task, &[u8], &[u8], (i64, i64)); 21] = [
+const ROWS: [(Task, &[u8], &[u8], (i64, i64)); 24] = [
     (Task::Restore(RESTORE), ROW, ROW, (0, 2)),
     (Task::Restore(HEAVY), ROW, ZEROS, (3, 0)),
     // What follows the image is not looked at.
@@ -145,6 +145,28 @@ const ROWS: [(Task, &[u8], &[u8], (i64, i64)); 21] = [
         b"P5\n2 1\n9\n\x03\x04P5\n2 1\n9\n\x03\x01",
         b"P5\n2 1\n1\n\x00\x00",
         (3, 0),
+    ),
+    // Two columns and sixteen labels. Label 0 costs 0 3, label 1 the cap and 1, and the others the
+    // cap twice.
+    (
+        Task::Stereo(STEREO),
+        b"P5\n2 1\n9\n\x03\x04P5\n2 1\n9\n\x03\x01",
+        b"P5\n2 1\n15\n\x00\x01",
+        (1, 1),
+    ),
+    // One pixel, whose samples have two bytes: 256 and 255.
+    (
+        Task::Stereo(STEREO),
+        b"P5\n1 1\n256\n\x01\x00P5\n1 1\n65535\n\x00\xff",
+        b"P5\n1 1\n15\n\x00",
+        (1, 0),
+    ),
+    // 256 and no seed.
+    (
+        Task::Segment(SEGMENT),
+        b"P5\n1 1\n65535\n\x01\x00P5\n1 1\n256\n\x00\x00",
+        b"P5\n1 1\n1\n\x01",
+        (56, 0),
     ),
     (
         Task::Segment(SEGMENT),

@@ -38,3 +38,5 @@ mod second_threads;
 mod solving;
 #[cfg(test)]
 mod turns;
+#[cfg(test)]
+mod worked;

@@ -17,7 +17,7 @@ use worker_options::{Gate, Options};
 
 /// Whether the solver over these options ends in the answer of the plain solver, with a preflow
 /// that certifies it.
-fn is_plain<R: Threads + Wait + Abort + AllocGlobal + Sync, G: Gate>(
+pub fn is_plain<R: Threads + Wait + Abort + AllocGlobal + Sync, G: Gate>(
     rt: &R,
     net: &Net,
     wanted: &Solved,
@@ -135,7 +135,7 @@ fn large_nets_end_alike(rt: HostRuntime) -> Result<(), Fail> {
 }
 
 /// Options of which one number is out of its range.
-const BAD: &[Options] = &[
+pub const BAD: &[Options] = &[
     Options { ring: 0, ..TWO },
     Options { threads: 65, ..TWO },
     Options { blocks: 257, ..TWO },

@@ -294,6 +294,20 @@ const BOUNDS: &[Row] = &[
     ),
     (
         FREE,
+        "label_costs = [2,2,2]",
+        0,
+        "energy 4 data 0 smooth 0 label 4\nlabels 0 2\nbound none\n",
+        "",
+    ),
+    (
+        "sites = 2\nlabels = 2\ndata = [0,3,9,3]\n",
+        "label_costs = [3,3]",
+        0,
+        "energy 9 data 3 smooth 0 label 6\nlabels 0 1\nbound none\n",
+        "",
+    ),
+    (
+        FREE,
         "label_costs = [0,0,0]\nsmooth = 'linear'\ntrunc = 2",
         0,
         "energy 0 data 0 smooth 0 label 0\nlabels 0 2\nbound 1 4\n",

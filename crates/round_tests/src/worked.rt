@@ -1,0 +1,173 @@
+//! Small energies whose minima were worked by hand: their nets, cut by workers in many blocks.
+use crate::calls::Diary;
+use crate::overlap::TWO;
+use crate::rows::expect;
+use crate::solving::{BAD, is_plain};
+use compile_cut::{Compiled, compile};
+use flow_network::Solved;
+use minimum::minimise_by;
+use plain_cut::solve;
+use pseudo_bool::{Energy, EnergyError};
+use regular::check;
+use rounds::{Open, ParallelError, Workers};
+use solvers::SolveError;
+use std::alloc::Global;
+use std::process::Abort;
+use std::sync::Wait;
+use std::test::Fail;
+use std::thread::Threads;
+use worker_options::{Gate, Options};
+
+/// What each variable costs where it is 0 and where it is 1, what two of them cost at 00, 01, 10
+/// and 11, the least value, and the least assignment with the fewest ones.
+type Case = (
+    &'static [[i64; 2]],
+    &'static [(u32, u32, [i64; 4])],
+    i64,
+    &'static [bool],
+);
+
+const CASES: &[Case] = &[
+    // The values at 00, 01, 10 and 11 are 6, 14, 7 and 8.
+    (
+        &[[5, 2], [1, 6]],
+        &[(0, 1, [0, 3, 4, 0])],
+        6,
+        &[false, false],
+    ),
+    // Samples 0 3 0 of a row, each of which turns from 0 to 3 or not.
+    (
+        &[[0, 3], [3, 0], [0, 3]],
+        &[(0, 1, [0, 1, 1, 0]), (1, 2, [0, 1, 1, 0])],
+        2,
+        &[false, true, false],
+    ),
+    // The rows 0 9 0 0 and 9 0 0 0 of a stereo pair, shifted by 1 or not.
+    (
+        &[[9, 9], [9, 0], [0, 0], [0, 0]],
+        &[
+            (0, 1, [0, 1, 1, 0]),
+            (1, 2, [0, 1, 1, 0]),
+            (2, 3, [0, 1, 1, 0]),
+        ],
+        9,
+        &[true; 4],
+    ),
+    // Pixels 10 12 200 in two segments, of which the first and the last are given.
+    (
+        &[[0, 10_000_000], [1, 188], [10_000_000, 0]],
+        &[(0, 1, [0, 20, 20, 0]), (1, 2, [0, 5, 5, 0])],
+        6,
+        &[false, false, true],
+    ),
+    // Two sites swap labels that cost 4 beside each other: 00 and 11 are both 3.
+    (
+        &[[0, 3], [3, 0]],
+        &[(0, 1, [0, 4, 4, 0])],
+        3,
+        &[false, false],
+    ),
+    // One pixel, which turns to its sample or not.
+    (&[[7, 0]], &[], 0, &[true]),
+];
+
+/// The energy of a case.
+fn energy_of(alloc: Global, case: &Case) -> Result<Energy, EnergyError> {
+    let mut energy = Energy::new(alloc);
+    for table in case.0 {
+        let variable = energy.add_variable()?;
+        energy.add_term1(variable, *table)?;
+    }
+    for (first, second, table) in case.1 {
+        energy.add_term2(*first, *second, *table)?;
+    }
+    Ok(energy)
+}
+
+/// Whether a cut shows the minimum of a case.
+fn is_minimum(compiled: &Compiled, solved: &Solved, case: &Case) -> bool {
+    let Ok(value) = i64::try_from(solved.value) else {
+        return false;
+    };
+    value.checked_add(compiled.constant) == Some(case.2) && solved.sink_side.as_slice() == case.3
+}
+
+const THREADS: &[u32] = &[1, 2, 8];
+
+const BLOCKS: &[u32] = &[16, 256];
+
+/// How often workers ask their gate where they cut the net in each way; none where a cut is not the
+/// plain solver's.
+fn count_asked<R: Threads + Wait + Abort + AllocGlobal + Sync>(
+    rt: &R,
+    compiled: &Compiled,
+    wanted: &Solved,
+) -> Result<Option<u32>, ParallelError> {
+    let gate = Diary::new(rt.alloc(), 0)?;
+    for threads in THREADS {
+        for blocks in BLOCKS {
+            let options = Options {
+                threads: *threads,
+                blocks: *blocks,
+                ..TWO
+            };
+            if !is_plain(rt, &compiled.net, wanted, &options, &gate)? {
+                return Ok(None);
+            }
+        }
+    }
+    Ok(Some(gate.count()))
+}
+
+/// The same of a case; none where a cut does not show its minimum.
+fn asked_for<R: Threads + Wait + Abort + AllocGlobal + Sync>(
+    rt: &R,
+    case: &Case,
+) -> Result<Option<u32>, Fail> {
+    let energy = energy_of(rt.alloc(), case)?;
+    let compiled = compile(rt.alloc(), check(&energy).expect(rt, "regular"))?;
+    let wanted = solve(rt.alloc(), &compiled.net)?;
+    if !is_minimum(&compiled, &wanted, case) {
+        return Ok(None);
+    }
+    Ok(count_asked(rt, &compiled, &wanted)?)
+}
+
+/// Each net has fewer nodes than blocks. Some have excess to move: there workers ask the gate.
+#[test]
+fn worked_nets_end_alike(rt: HostRuntime) -> Result<(), Fail> {
+    let mut all = 0u32;
+    for (place, case) in CASES.iter().enumerate() {
+        let asked = asked_for(&rt, case)?;
+        expect(&rt, "CASES", place, asked.is_some());
+        all = all.saturating_add(asked.unwrap_or(0));
+    }
+    assert!(rt; all > 0);
+    Ok(())
+}
+
+/// Why the minimum of the first case is refused to workers of these options.
+fn refusal_by<R: Threads + Wait + Abort + AllocGlobal + Sync>(
+    rt: &R,
+    options: &Options,
+) -> Result<Option<SolveError>, EnergyError> {
+    let open = Open;
+    let gate: &(dyn Gate + Sync) = &open;
+    let how = Workers {
+        rt,
+        options: *options,
+        gate: &gate,
+    };
+    let energy = energy_of(rt.alloc(), &CASES[0])?;
+    let regular = check(&energy).expect(rt, "regular");
+    Ok(minimise_by(rt.alloc(), regular, &how).err())
+}
+
+#[test]
+fn bad_options_are_told(rt: HostRuntime) -> Result<(), Fail> {
+    for (place, options) in BAD.iter().enumerate() {
+        let refusal = refusal_by(&rt, options)?;
+        expect(&rt, "BAD", place, refusal == Some(SolveError::BadOptions));
+    }
+    Ok(())
+}
