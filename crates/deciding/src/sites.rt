@@ -26,6 +26,22 @@ pub struct Deciding {
 }
 
 impl Deciding {
+    /// Of no pairs, with nothing known of any site. It takes no memory.
+    pub fn empty(alloc: Global) -> Deciding
+        ensures listed { result.lists.listed ≡ false }
+        ensures ends { (result.ends.starts.items ≡ []) × (result.ends.heads.items ≡ []) }
+        ensures bounds { AreOfNoSites result.bounds }
+        ensures lists { AreListsEmpty result.lists }
+    {
+        Deciding {
+            ends: Neighbours::empty(alloc),
+            table: RiseTable::empty(alloc),
+            bounds: Bounds::new(alloc),
+            lists: Lists::empty(alloc),
+            own_rises: Vec::new(alloc),
+        }
+    }
+
     /// Room for the moves of a run over these pairs. Nothing is known of any site yet.
     pub fn new(alloc: Global, pairs: &Pairs) -> Result<Deciding, AllocError>
         ensures by_site { IfOk result (λ d. AreBySite pairs.now d.ends) }

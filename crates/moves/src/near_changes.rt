@@ -88,6 +88,7 @@ fn begin_stages<F: Fn(u32, u32) -> i64 + Sync, V: Fn(u32, u32) -> i64 + Sync, H:
         (λ m. OnOk result (AreStageZeros m alpha at.now space.new)) }
 {
     let alloc = *changes.stamps.allocator();
+    space.group(alloc, &problem.pairs)?;
     space.stage.mark_fresh(
         &problem.pairs,
         &space.deciding.ends,

@@ -37,9 +37,9 @@ use Rattle.single_moves.specs.declared.workspace.Workspace.{Workspace}
 abbrev pub later_nodes : ℕ
 later_nodes = 2 ^ 16
 
--- the workspace has the pairs by their sites
+-- the pairs by their sites, once they were grouped
 abbrev pub IsGroupedFor : PairList → Workspace → Type 0
-IsGroupedFor pairs space = AreBySite pairs space.deciding.ends
+IsGroupedFor pairs space = IsTrue space.grouped → AreBySite pairs space.deciding.ends
 
 -- the lists of the workspace are those of the move from f, and its pairs are by their sites
 pub record HasListsOfMove (pairs : PairList) (move : Move) (f : List ℕ)
@@ -80,7 +80,7 @@ KnowsWeights m move f space =
     AreWeights m move (labelling f) (choice_at space.built.variables.choices.items)
     space.deciding.bounds.greatest.items
 
--- the move is asked of a posed problem, and the workspace has its pairs by their sites
+-- the move is asked of a posed problem, and the pairs are by their sites, once they were grouped
 pub record IsReadyMove {F V : Type 0} (f : Closure F) (v : Closure V) (problem : Problem F V)
     (at : List ℕ) (move : Move) (space : Workspace) : Type 0 where
   pub posed : IsPosed f v problem
@@ -210,6 +210,6 @@ abbrev pub IsBuiltPlain : Instance → Move → List ℕ → MoveEnergy → Resu
 IsBuiltPlain m move f made (Ok done) = IsAllowed m move (labelling f) × MakesPlain m move f made
 IsBuiltPlain m move f made (Err e) = IsPrepareRefusal m move (labelling f) e
 
--- what was decided stays as it is
+-- what was grouped and decided stays as it is
 abbrev pub KeepsDecided : Workspace → Workspace → Type 0
-KeepsDecided old new = new.deciding ≡ old.deciding
+KeepsDecided old new = (new.grouped ≡ old.grouped) × (new.deciding ≡ old.deciding)

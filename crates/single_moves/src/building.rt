@@ -38,6 +38,7 @@ fn decide<F: Fn(u32, u32) -> i64 + Sync, V: Fn(u32, u32) -> i64 + Sync>(
     ensures decided { WhereMeant F.Fn V.Fn problem.now (λ m. IsDecidedMove m change at.now
         space.new.built.variables.choices.items result) }
 {
+    space.group(alloc, &problem.pairs)?;
     space.deciding.decide(problem, at, change)?;
     swap(
         &mut space.deciding.bounds.choices,
@@ -194,6 +195,7 @@ fn close_apart<F: Fn(u32, u32) -> i64 + Sync, V: Fn(u32, u32) -> i64 + Sync, H: 
     if parts < 2 {
         return Ok(false);
     }
+    space.group(alloc, &problem.pairs)?;
     if !space.deciding.open(problem, at, change)? {
         return Ok(false);
     }

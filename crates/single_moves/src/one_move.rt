@@ -98,7 +98,7 @@ pub fn cut_small<H: How>(
 /// `LabelCostInSwap` where a swap is asked for and some label costs something by itself;
 /// `PairNotRegular`, the first pair of the list whose term is not regular; what `how` refuses.
 /// `OutOfMemory` may come at any growth. A refused move leaves the labels as they were. The
-/// workspace has the problem's pairs by their sites.
+/// workspace is of one problem: its pairs, once they are grouped, are that problem's.
 pub fn make_move<F: Fn(u32, u32) -> i64 + Sync, V: Fn(u32, u32) -> i64 + Sync, H: How>(
     alloc: Global,
     problem: &Problem<F, V>,

@@ -1,5 +1,6 @@
 //! What the moves of a run work with, from one move to the next.
-ghost use Rattle.std.specs.Prelude.{◌≡◌, IfOk, IsTrue};
+ghost use Rattle.std.specs.Prelude.{◌≡◌, false, OnOk, IsTrue};
+ghost use Rattle.move_energy.specs.BySite.{AreBySite};
 ghost use Rattle.move_energy.specs.Choices.{AreOpenSites, AreAssigned};
 ghost use Rattle.single_moves.specs.Building.{IsGroupedFor};
 
@@ -23,11 +24,12 @@ pub fn give_numbers_back(alloc: Global, listed: bool, of_sites: &mut Vec<u32>) {
     }
 }
 
-/// The workspace of a run: its pairs by their sites, what decides the sites of its moves, the
-/// energy of its moves, the strips in which they are closed in, where its later expansions look,
-/// and the lists of its cuts. And whether the way to cut had a net of the run.
+/// The workspace of a run: what decides the sites of its moves, once the pairs were grouped by
+/// their sites, the energy of its moves, the strips in which they are closed in, where its later
+/// expansions look, and the lists of its cuts. And whether the way to cut had a net of the run.
 #[derive(Drop)]
 pub struct Workspace {
+    pub grouped: bool,
     pub shared: bool,
     pub deciding: Deciding,
     pub built: MoveEnergy,
@@ -37,19 +39,34 @@ pub struct Workspace {
 }
 
 impl Workspace {
-    /// A workspace for moves over these pairs, which are grouped by their sites. Refuses only where
-    /// memory runs out.
-    pub fn of(alloc: Global, pairs: &Pairs) -> Result<Workspace, AllocError>
-        ensures by_site { IfOk result (IsGroupedFor pairs.now) }
+    /// A workspace of which nothing is taken yet. It takes no memory.
+    pub fn new(alloc: Global) -> Workspace
+        ensures { result.grouped ≡ false }
     {
-        Ok(Workspace {
+        Workspace {
+            grouped: false,
             shared: false,
-            deciding: Deciding::new(alloc, pairs)?,
+            deciding: Deciding::empty(alloc),
             built: MoveEnergy::new(alloc),
             strips: Strips::new(alloc),
             stage: Stage::empty(alloc),
             cutting: plain_cut::Workspace::new(alloc),
-        })
+        }
+    }
+
+    /// Groups the pairs by their sites, where that was not done before. Refuses only where memory
+    /// runs out.
+    pub fn group(&mut self, alloc: Global, pairs: &Pairs) -> Result<(), AllocError>
+        requires by_site { IsGroupedFor pairs.now self.old }
+        ensures grouped { OnOk result (AreBySite pairs.now self.new.deciding.ends) }
+        ensures by_site { IsGroupedFor pairs.now self.new }
+        ensures same { (self.new.built ≡ self.old.built) × (self.new.stage ≡ self.old.stage) }
+    {
+        if !self.grouped {
+            self.deciding = Deciding::new(alloc, pairs)?;
+            self.grouped = true;
+        }
+        Ok(())
     }
 
     /// Gives each open site its value, the listed ones alone where they are listed.
@@ -59,7 +76,8 @@ impl Workspace {
             self.old.deciding.lists.opened.items }
         ensures assigned { AreAssigned self.old.built.variables.choices.items bits.now
             self.new.built.variables.choices.items }
-        ensures same { self.new.deciding ≡ self.old.deciding }
+        ensures same { (self.new.grouped ≡ self.old.grouped)
+            × (self.new.deciding ≡ self.old.deciding) }
     {
         if self.deciding.lists.listed {
             self.built

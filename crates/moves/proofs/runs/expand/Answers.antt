@@ -7,7 +7,7 @@ use Rattle.moves.proofs.runs.expand.Goals as goal
 pub returns-clause-over_metric : goal.returns-clause-over_metric
 returns-clause-over_metric g c = λ m meant inside.
     moved_over_metric (g.H.How.refuses c.args.how.now) c.args.labelling.now.labels m (Expand c.args.alpha) c.args.labelling.now.at
-    c.make_move-moved.new.labelling c.make_move-moved.result c.keeps-2.ensures.below (pairs_meant _ _ _ m c.requires.posed meant)
+    c.make_move-moved.new.labelling c.make_move-moved.result c.keeps.ensures.below (pairs_meant _ _ _ m c.requires.posed meant)
     (c.make_move-moved.ensures.sizes.sites ∙ c.requires.fits.sites ∙ sym meant.sites_are)
     (c.make_move-moved.ensures.sizes.labels ∙ c.requires.fits.labels ∙ sym meant.labels_are)
     inside (λ swap. absurd swap) (c.make_move-moved.ensures.moved m meant) c.make_move-moved.ensures.refused

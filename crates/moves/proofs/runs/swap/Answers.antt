@@ -7,7 +7,7 @@ use Rattle.moves.proofs.runs.swap.Goals as goal
 pub returns-clause-over_metric : goal.returns-clause-over_metric
 returns-clause-over_metric g c = λ m meant first second free.
     moved_over_metric (g.H.How.refuses c.args.how.now) c.args.labelling.now.labels m (Swap c.args.alpha c.args.beta) c.args.labelling.now.at
-    c.make_move-moved.new.labelling c.make_move-moved.result c.keeps-2.ensures.below (pairs_meant _ _ _ m c.requires.posed meant)
+    c.make_move-moved.new.labelling c.make_move-moved.result c.keeps.ensures.below (pairs_meant _ _ _ m c.requires.posed meant)
     (c.make_move-moved.ensures.sizes.sites ∙ c.requires.fits.sites ∙ sym meant.sites_are)
     (c.make_move-moved.ensures.sizes.labels ∙ c.requires.fits.labels ∙ sym meant.labels_are)
     (first, second) (λ swap. free) (c.make_move-moved.ensures.moved m meant) c.make_move-moved.ensures.refused

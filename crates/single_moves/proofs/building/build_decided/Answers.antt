@@ -98,9 +98,9 @@ returns-then-space-size g c = record {
 
 pub returns-then-branch : goal.returns-then-branch
 returns-then-branch g c = record {
-  by_site =
+  by_site = λ grouped.
       let E : Neighbours → Type 0 = λ ends. AreBySite c.args.problem.now.pairs ends in
-      subst E (sym (ap (λ (d : Deciding). d.ends) c.build_rest.ensures.same)) (c.in_ok-close_apart.ensures.near c.if-branch.true).by_site;
+      subst E (sym (ap (λ (d : Deciding). d.ends) c.build_rest.ensures.same.1)) (c.in_ok-close_apart.ensures.near c.if-branch.true).by_site;
   left =
       let a = c.args in
       let closed = c.in_ok-close_apart.ensures.near c.if-branch.true in
@@ -114,8 +114,8 @@ returns-then-branch g c = record {
       record {
         near = λ listed. near_rest a.problem.now.pairs a.change a.at.now c.build_rest.new.space count
             record {
-              by_site = subst E (sym (ap (λ (d : Deciding). d.ends) same)) closed.by_site;
-              lists = subst L (sym (ap (λ (d : Deciding). d.lists) same)) (subst C (sym kept) closed.lists);
+              by_site = subst E (sym (ap (λ (d : Deciding). d.ends) same.1)) closed.by_site;
+              lists = subst L (sym (ap (λ (d : Deciding). d.lists) same.1)) (subst C (sym kept) closed.lists);
             } listed;
         choices = count;
         bounded = form.bounded;
@@ -137,9 +137,9 @@ returns-then-branch g c = record {
 
 pub returns-in_err-build_rest : goal.returns-in_err-build_rest
 returns-in_err-build_rest g c = record {
-  by_site =
+  by_site = λ grouped.
       let E : Neighbours → Type 0 = λ ends. AreBySite c.args.problem.now.pairs ends in
-      subst E (sym (ap (λ (d : Deciding). d.ends) c.build_rest.ensures.same)) (c.in_ok-close_apart.ensures.near c.if-branch.true).by_site;
+      subst E (sym (ap (λ (d : Deciding). d.ends) c.build_rest.ensures.same.1)) (c.in_ok-close_apart.ensures.near c.if-branch.true).by_site;
   left = (let p = err_from_is_err_and c.from_residual-in_err-build_rest.result c.from_residual-in_err-build_rest.ensures.1 in rw (p.1) tt);
   built = λ m meant. (let p = err_from_is_err_and c.from_residual-in_err-build_rest.result c.from_residual-in_err-build_rest.ensures.1 in rw (p.1, p.2) tt);
 }

@@ -12,7 +12,7 @@ use Rattle.single_moves.proofs.building.decide.Goals as goal
 
 pub returns-in_err-decide-clause-decided : goal.returns-in_err-decide-clause-decided
 returns-in_err-decide-clause-decided g c = λ m meant.
-    let p = err_from_is_err_and c.from_residual.result c.from_residual.ensures.1 in
+    let p = err_from_is_err_and c.from_residual-in_err-decide.result c.from_residual-in_err-decide.ensures.1 in
     rw (p.1, p.2) (c.in_err-decide.ensures.decided m meant)
 
 pub returns-clause-decided : goal.returns-clause-decided
@@ -32,7 +32,7 @@ returns-clause-weighed g c =
       posed = c.requires.asked.posed;
       asked = c.requires.asked.asked;
       count = ap (λ (xs : List Choice). length xs) now ∙ known.sized.choices;
-      near = record { by_site = subst E (sym c.decide.ensures.kept) c.requires.asked.by_site; lists = subst L (sym now) known.listed };
+      near = record { by_site = subst E (sym c.decide.ensures.kept) c.in_ok-group.ensures.grouped; lists = subst L (sym now) known.listed };
       sized = (known.sized.greatest, known.small);
       weights = λ m meant.
           let W : List Choice → Type 0 = λ choices. AreWeights m a.change (labelling a.at.now) (choice_at choices) c.decide.new.self.bounds.greatest.items in
@@ -45,5 +45,5 @@ pub decide-requires-clause-asked : goal.decide-requires-clause-asked
 decide-requires-clause-asked g c = λ κs lives. record {
   posed = c.requires.asked.posed;
   asked = c.requires.asked.asked;
-  by_site = c.requires.asked.by_site;
+  by_site = c.in_ok-group.ensures.grouped;
 }

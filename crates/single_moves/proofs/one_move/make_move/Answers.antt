@@ -139,16 +139,16 @@ take_best-requires-clause-choices g c = λ κs lives.
 pub take_best-requires-clause-changes : goal.take_best-requires-clause-changes
 take_best-requires-clause-changes g c = λ κs lives listed.
     let same = c.assign.ensures.same in
-    let yes = subst (λ (d : Deciding). IsTrue d.lists.listed) same listed in
+    let yes = subst (λ (d : Deciding). IsTrue d.lists.listed) same.1 listed in
     let near = rw (c.as_slice.ensures.value) at (c.in-Ok.ensures.left.near yes) in
     near_changes c.args.problem.now.pairs c.args.change c.args.labelling.now.at _ c.assign.new.self _
-    (c.in-Ok.ensures.left.choices ∙ ap (λ (xs : List ℕ). length xs) c.as_slice.ensures.value) near same c.assign.ensures.assigned
+    (c.in-Ok.ensures.left.choices ∙ ap (λ (xs : List ℕ). length xs) c.as_slice.ensures.value) near same.1 c.assign.ensures.assigned
 
 pub returns-clause-by_site : goal.returns-clause-by_site
-returns-clause-by_site g c =
+returns-clause-by_site g c = λ grouped.
     let E : Deciding → Type 0 = λ deciding. AreBySite c.args.problem.now.pairs deciding.ends in
     let same = c.assign.ensures.same in
-    subst E (sym same) c.in-Ok.ensures.by_site
+    subst E (sym same.1) (c.in-Ok.ensures.by_site (sym same.0 ∙ grouped))
 
 pub assign-requires : goal.assign-requires
 assign-requires g c = λ listed. (c.in-Ok.ensures.left.near listed).opened
