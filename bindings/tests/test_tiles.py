@@ -102,7 +102,8 @@ def random_grids(turns):
         labels = found.labels.reshape(-1).tolist()
         assert found.energies[0] == problem.energy(start.reshape(-1).tolist()), (shape, tile)
         assert all(later <= before for before, later in zip(found.energies, found.energies[1:]))
-        assert found.energy == found.energies[-1] == problem.energy(labels), (found, problem.energy(labels))
+        assert (found.data, found.smooth, 0) == problem.parts(labels), (found, problem.parts(labels))
+        assert found.energy == found.energies[-1] == found.data + found.smooth
         assert found.settled and found.labels.shape == shape
         tiles = list(tiles_of(shape, tile, overlap))
         for free in tiles:

@@ -263,17 +263,17 @@ def _pinned(whole, pairs, borders, wide):
 
 
 def energy_of(data: Any, weights: Sequence[Any], offsets: Sequence[Shape], smooth: Any, labels: Any,
-              inside: Box, corners: Box) -> int:
-    """The data costs of the sites `inside` a window, and those of its pairs that have their lower
-    corner in the box `corners`."""
+              inside: Box, corners: Box) -> Tuple[int, int]:
+    """The data costs of the sites `inside` a window, and what those of its pairs cost that have
+    their lower corner in the box `corners`."""
     numpy = arrays.numpy
     here = labels[inside].astype(numpy.int64)
     paid = numpy.take_along_axis(data, here[..., None], axis=-1)
-    total = int(paid.sum(dtype=numpy.int64))
+    by_site, by_pair = int(paid.sum(dtype=numpy.int64)), 0
     for offset, weight in zip(offsets, weights):
         corner = tuple(slice(part.start, max(min(part.stop, side - abs(move)), part.start))
                        for part, side, move in zip(corners, labels.shape, offset))
         first = moved(corner, tuple(max(-move, 0) for move in offset))
         paid = smooth[labels[first], labels[moved(first, offset)]]
-        total += int((paid * (weight[corner] if weight.ndim else weight)).sum())
-    return total
+        by_pair += int((paid * (weight[corner] if weight.ndim else weight)).sum())
+    return by_site, by_pair

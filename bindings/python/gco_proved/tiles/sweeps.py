@@ -2,7 +2,7 @@
 from typing import Any, Callable, Dict, Iterator, List, NamedTuple, Optional, Set, Tuple
 
 from .. import arrays
-from .._library import LABEL_LIMIT, MOVES, SMOOTH_LIMIT
+from .._library import LABEL_LIMIT, MOVES, PAIR_LIMIT, SITE_LIMIT, SMOOTH_LIMIT
 from ..refusals import Refused
 from . import costs, tile as work
 from .boxes import Box, Shape, Sweep, grown, offsets_of, shifts_of, sides_of, within
@@ -11,7 +11,7 @@ from .progress import bar
 
 
 class Tiled(NamedTuple):
-    """Labels as they ended, and their energy.
+    """Labels as they ended: energy = data + smooth.
 
     `energies` are those before the first sweep and after each. `settled` says that no move over any
     tile, as it stands or shifted, would lower the energy.
@@ -19,6 +19,8 @@ class Tiled(NamedTuple):
 
     labels: Any
     energy: int
+    data: int
+    smooth: int
     energies: List[int]
     settled: bool
 
@@ -103,7 +105,7 @@ def label_tiles(data: Any, smooth: Any, weights: Any = 1, *, shape: Any = None, 
 
     `tile` has the sides of a tile, by default 512 x 512 or 64 x 64 x 64. Each tile's run also looks
     at so many sites as `overlap` says beside it. `free` is an array of yes and no: the other sites
-    keep their labels. `start` is each site's cheapest label where none is given. `out` is where
+    keep their labels; free sites that one problem can take are one tile by default. `start` is each site's cheapest label where none is given. `out` is where
     labels are written, as a memory map or zarr; `start` and `out` may be one: so a run that was
     stopped goes on. It is an array of one byte a label where none is given.
 
@@ -113,7 +115,7 @@ def label_tiles(data: Any, smooth: Any, weights: Any = 1, *, shape: Any = None, 
     and the energy; where it answers False the run stops. True stands for a bar.
 
     Raises what gco_proved.label raises. A KeyboardInterrupt has what was found till then as
-    `partial`. Label costs are refused: they are no sum over tiles.
+    `partial`, None before the first sweep. Label costs are refused: they are no sum over tiles.
     """
     if arrays.numpy is None:
         raise ImportError("label_tiles: numpy is wanted: pip install numpy")
@@ -126,6 +128,9 @@ def label_tiles(data: Any, smooth: Any, weights: Any = 1, *, shape: Any = None, 
         run = Run(whole, tile, overlap, bar() if progress is True else progress)
         run.begin(start, out)
         return run.sweep_all(sweeps, least_gain)
+    except KeyboardInterrupt as stop:
+        stop.partial = getattr(stop, "partial", None)  # type: ignore[attr-defined]
+        raise
     finally:
         engine.close()
 
@@ -138,12 +143,27 @@ class Run:
         shape = whole.shape
         sides = sides_of(tile, shape, overlap, whole.offsets)
         mixed = any(sum(map(abs, offset)) > 1 for offset in whole.offsets)
+        self.plain = Sweep(shape, sides, (0,) * len(shape), 0, mixed)
+        if tile is None and self._few_are_free():
+            sides = shape
         self.sweeps = [Sweep(shape, sides, shift, overlap, mixed)
                        for shift in shifts_of(sides, shape)]
-        self.plain = Sweep(shape, sides, (0,) * len(shape), 0, mixed)
         self.due: List[Set[Shape]] = [set(sweep.places()) for sweep in self.sweeps]
         self.energies: List[int] = []
-        self.energy = 0
+        self.data = self.smooth = 0
+
+    def _few_are_free(self):
+        """Whether not all sites are free, and one tile can take those that are."""
+        whole, numpy = self.whole, self.whole.numpy
+        if whole.free is None:
+            return False
+        count = sum(int(numpy.count_nonzero(whole.free_in(self.plain.box(place))))
+                    for place in self.plain.places())
+        return count <= min(SITE_LIMIT, PAIR_LIMIT // len(whole.offsets))
+
+    @property
+    def energy(self) -> int:
+        return self.data + self.smooth
 
     def begin(self, start: Any, out: Any) -> None:
         """The labels to begin with, and their energy."""
@@ -157,7 +177,9 @@ class Run:
                 whole.labels[box] = labels
         elif start is not out:
             self._copy(start)
-        self.energy = sum(part for _, part in whole.each(work.energy, self.plain))
+        for _, (data, smooth) in whole.each(work.energy, self.plain):
+            self.data += data
+            self.smooth += smooth
         self.energies = [self.energy]
 
     def _copy(self, start):
@@ -178,7 +200,7 @@ class Run:
             whole.labels[box] = labels
 
     def found(self, settled: bool) -> Tiled:
-        return Tiled(self.whole.labels, self.energy, self.energies, settled)
+        return Tiled(self.whole.labels, self.energy, self.data, self.smooth, self.energies, settled)
 
     def sweep_all(self, sweeps: Optional[int], least_gain: float) -> Tiled:
         """Sweeps until the run ends."""
@@ -235,8 +257,9 @@ class Run:
 
     def _take(self, shift, place, answer):
         """Writes a tile's labels, and notes which tiles have to be looked at again."""
-        assert answer.rise <= 0
-        self.energy += answer.rise
+        assert answer.data + answer.smooth <= 0
+        self.data += answer.data
+        self.smooth += answer.smooth
         if answer.labels is not None:
             box = self.sweeps[shift].box(place)
             changed = self._write(box, answer.labels)

@@ -1,5 +1,5 @@
 """What a worker does with one tile: its cheapest labels, its energy, and its run."""
-from typing import Any, List, NamedTuple, Optional
+from typing import Any, List, NamedTuple, Optional, Tuple
 
 from .. import arrays, labelling
 from ..refusals import Refused
@@ -29,10 +29,11 @@ class Task(NamedTuple):
 
 class Answer(NamedTuple):
     """The labels of a tile after its run, or None where they are as they were; by how much the
-    energy rose, which is at most 0; and whether the run settled."""
+    data costs and those of pairs rose, together at most 0; and whether the run settled."""
 
     labels: Any
-    rise: int
+    data: int
+    smooth: int
     settled: bool
 
 
@@ -55,8 +56,8 @@ def _look_at_labels(task: Task) -> None:
                       f" labels are 0 to {len(task.smooth) - 1}")
 
 
-def energy(task: Task) -> int:
-    """The data costs of the tile's sites, and the pairs whose lower corner is one of them."""
+def energy(task: Task) -> Tuple[int, int]:
+    """The data costs of the tile's sites, and those of pairs whose lower corner is one of them."""
     _look_at_labels(task)
     weights = costs.weights_read(task.weights, task.window, task.labels.shape, task.offsets)
     inside = within(task.box, task.window)
@@ -80,13 +81,14 @@ def run(task: Task) -> Answer:
     found = _found(task, free, problem, numpy.concatenate([start, problem.pinned]))
     after = found.labels[:problem.sites]
     if numpy.array_equal(after, start):
-        return Answer(None, 0, found.settled)
+        return Answer(None, 0, 0, found.settled)
     labels = task.labels.copy()
     free.write(labels, after)
     every = tuple(slice(0, side) for side in labels.shape)
     before, now = (energy_of(data, weights, task.offsets, task.smooth, one, inside, every)
                    for one in (task.labels, labels))
-    return Answer(labels[inside].astype(numpy.uint8), now - before, found.settled)
+    return Answer(labels[inside].astype(numpy.uint8), now[0] - before[0], now[1] - before[1],
+                  found.settled)
 
 
 def _found(task, free, problem, start):
