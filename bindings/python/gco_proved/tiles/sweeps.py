@@ -86,7 +86,7 @@ def smooth_of(smooth: Any) -> Any:
 def label_tiles(data: Any, smooth: Any, weights: Any = 1, *, shape: Any = None, tile: Any = None,
                 overlap: int = 0, connect: Optional[int] = None, start: Any = None, out: Any = None,
                 free: Any = None, label_costs: Any = None, moves: str = "expansion",
-                cycles: Optional[int] = None, sweeps: Optional[int] = None, least_gain: float = 0,
+                cycles: Optional[int] = 1, sweeps: Optional[int] = None, least_gain: float = 0,
                 executor: Any = None, progress: Any = None) -> Tiled:
     """Labels a grid of two or three axes of any size, tile by tile: each a run of the library with
     the labels around it fixed, from the labels that stand there. So no run raises the energy of the
@@ -101,13 +101,15 @@ def label_tiles(data: Any, smooth: Any, weights: Any = 1, *, shape: Any = None, 
     function that makes these of a box as if that were the grid. The offsets are (0, 1) and (1, 0),
     with `connect` 8 then (1, 1) and (1, -1); of three axes (0, 0, 1), (0, 1, 0) and (1, 0, 0), or
     13 with `connect` 26. The array of an offset has the grid's sides, each less the offset's size.
-    `smooth`, `moves` and `cycles` are those of gco_proved.label; `cycles` bounds each tile's run.
+    `smooth` and `moves` are those of gco_proved.label. Each tile's run makes so many `cycles` in a
+    sweep, or all with None: one is quickest in the whole.
 
     `tile` has the sides of a tile, by default 512 x 512 or 64 x 64 x 64. Each tile's run also looks
     at so many sites as `overlap` says beside it. `free` is an array of yes and no: the other sites
-    keep their labels; free sites that one problem can take are one tile by default. `start` is each site's cheapest label where none is given. `out` is where
-    labels are written, as a memory map or zarr; `start` and `out` may be one: so a run that was
-    stopped goes on. It is an array of one byte a label where none is given.
+    keep their labels. Free sites that one problem can take are one tile by default. `start` is each
+    site's cheapest label where none is given. `out` is where labels are written, as a memory map or
+    zarr, by default an array of one byte a label. `start` and `out` may be one: so a run that was
+    stopped goes on.
 
     `executor` is None (one tile after another), a number of processes, an executor of
     concurrent.futures or a Client of Dask. The labels are the same from each. `progress` is called
