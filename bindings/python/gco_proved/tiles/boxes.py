@@ -115,5 +115,15 @@ def within(box: Box, outer: Box) -> Box:
                  for part, around in zip(box, outer))
 
 
+def around(places: Any, box: Box) -> Box:
+    """The least box around the places of a box that are not 0."""
+    inner = []
+    for axis, part in enumerate(box):
+        others = tuple(other for other in range(len(box)) if other != axis)
+        along = places.any(axis=others).nonzero()[0]
+        inner.append(slice(part.start + int(along[0]), part.start + int(along[-1]) + 1))
+    return tuple(inner)
+
+
 def sides_of_box(box: Box) -> Shape:
     return tuple(part.stop - part.start for part in box)

@@ -4,7 +4,7 @@ from typing import Any, Iterator, NamedTuple, Sequence, Tuple
 
 from .. import arrays
 from .._library import DATA_LIMIT
-from .boxes import Box, Shape, sides_of_box
+from .boxes import Box, Shape, sides_of_box, within
 
 
 class Border(NamedTuple):
@@ -96,6 +96,10 @@ class Full:
         """Writes labels of the free sites into those of the window."""
         labels[self._in_window(self.box)] = after.reshape(self.sides)
 
+    def rows_of(self, data: Any) -> Any:
+        """The data costs of the free sites, of those of the box."""
+        return data.reshape(-1, data.shape[-1])
+
     def _in_window(self, box: Box) -> Box:
         return moved(box, back(tuple(part.start for part in self.window)))
 
@@ -143,11 +147,13 @@ class Full:
 
 
 class Masked:
-    """Some sites of a window that are free, by a table of yes and no."""
+    """Some sites of a box that are free, by a table of yes and no."""
 
-    def __init__(self, free: Any, window: Box) -> None:
+    def __init__(self, inside: Any, box: Box, window: Box) -> None:
         numpy = arrays.numpy
-        self.window, self.shape = window, free.shape
+        free = numpy.zeros(sides_of_box(window), dtype=bool)
+        free[within(box, window)] = inside
+        self.inside, self.window, self.shape = inside, window, free.shape
         self.at = numpy.nonzero(free)
         self.flat = numpy.flatnonzero(free)
         self.count = len(self.flat)
@@ -159,6 +165,9 @@ class Masked:
 
     def write(self, labels: Any, after: Any) -> None:
         labels.reshape(-1)[self.flat] = after
+
+    def rows_of(self, data: Any) -> Any:
+        return data[self.inside]
 
     def site(self, number: int) -> Tuple[int, ...]:
         return tuple(part.start + int(at[number]) for part, at in zip(self.window, self.at))
@@ -262,17 +271,26 @@ def _pinned(whole, pairs, borders, wide):
     return Problem(numpy.concatenate([whole, table]), numpy.concatenate(rows), len(whole), pinned)
 
 
-def energy_of(data: Any, weights: Sequence[Any], offsets: Sequence[Shape], smooth: Any, labels: Any,
-              inside: Box, corners: Box) -> Tuple[int, int]:
-    """The data costs of the sites `inside` a window, and what those of its pairs cost that have
-    their lower corner in the box `corners`."""
+def energy_of(problem: Problem, smooth: Any, labels: Any) -> int:
+    """The energy of labels of the free sites and of those that stand for fixed ones."""
+    numpy = arrays.numpy
+    paid = numpy.take_along_axis(problem.data, labels[:, None].astype(numpy.int64), axis=1)
+    pairs = problem.pairs
+    ends = labels[pairs[:, 0]], labels[pairs[:, 1]]
+    return int(paid.sum(dtype=numpy.int64)) + int((smooth[ends] * pairs[:, 2]).sum())
+
+
+def energy_of_box(data: Any, weights: Sequence[Any], offsets: Sequence[Shape], smooth: Any,
+                  labels: Any, inside: Box) -> Tuple[int, int]:
+    """The data costs of a box inside a window, and what those of the window's pairs cost that have
+    their lower corner in the box."""
     numpy = arrays.numpy
     here = labels[inside].astype(numpy.int64)
     paid = numpy.take_along_axis(data, here[..., None], axis=-1)
     by_site, by_pair = int(paid.sum(dtype=numpy.int64)), 0
     for offset, weight in zip(offsets, weights):
         corner = tuple(slice(part.start, max(min(part.stop, side - abs(move)), part.start))
-                       for part, side, move in zip(corners, labels.shape, offset))
+                       for part, side, move in zip(inside, labels.shape, offset))
         first = moved(corner, tuple(max(-move, 0) for move in offset))
         paid = smooth[labels[first], labels[moved(first, offset)]]
         by_pair += int((paid * (weight[corner] if weight.ndim else weight)).sum())

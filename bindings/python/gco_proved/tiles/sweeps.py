@@ -5,7 +5,7 @@ from .. import arrays
 from .._library import LABEL_LIMIT, MOVES, PAIR_LIMIT, SITE_LIMIT, SMOOTH_LIMIT
 from ..refusals import Refused
 from . import costs, tile as work
-from .boxes import Box, Shape, Sweep, grown, offsets_of, shifts_of, sides_of, within
+from .boxes import Box, Shape, Sweep, around, grown, offsets_of, shifts_of, sides_of
 from .engines import engine_of
 from .progress import bar
 
@@ -48,12 +48,7 @@ class Whole:
     def task(self, box: Box, free: Any = None) -> work.Task:
         """All that a worker has to know of a tile."""
         numpy, window = self.numpy, grown(box, self.shape)
-        labels = numpy.array(self.labels[window])
-        if free is not None:
-            around = numpy.zeros(labels.shape, dtype=bool)
-            around[within(box, window)] = free
-            free = around
-        return work.Task(box, window, labels, free, self.data.piece(box),
+        return work.Task(box, window, numpy.array(self.labels[window]), free, self.data.piece(box),
                          self.weights.piece(window), self.smooth, self.offsets, self.moves,
                          self.cycles)
 
@@ -233,11 +228,14 @@ class Run:
             self.whole.labels.flush()
 
     def _boxes_due(self, shift):
-        """The boxes of the tiles that are due, by their places; one without a free site is not."""
-        whole, sweep = self.whole, self.sweeps[shift]
-        boxes = {place: sweep.box(place) for place in sorted(self.due[shift])}
-        if whole.free is not None:
-            boxes = {place: box for place, box in boxes.items() if whole.free_in(box).any()}
+        """The boxes of the tiles that are due, by their places, each cut to its free sites; one
+        without any is not due."""
+        sweep, boxes = self.sweeps[shift], {}
+        for place in sorted(self.due[shift]):
+            box = sweep.box(place)
+            free = self.whole.free_in(box)
+            if free is None or free.any():
+                boxes[place] = box if free is None else around(free, box)
         self.due[shift] = set(boxes)
         return boxes
 
@@ -250,20 +248,19 @@ class Run:
             tasks = ((place, whole.task(box, whole.free_in(box)))
                      for place, box in boxes.items() if sweep.colour(place) == colour)
             for place, answer in whole.engine.answers(work.run, tasks):
-                self._take(shift, place, answer)
+                self._take(shift, place, boxes[place], answer)
                 done += 1
                 if self.progress and self.progress(len(self.energies), done, len(boxes),
                                                    self.energy) is False:
                     return False
         return True
 
-    def _take(self, shift, place, answer):
+    def _take(self, shift, place, box, answer):
         """Writes a tile's labels, and notes which tiles have to be looked at again."""
         assert answer.data + answer.smooth <= 0
         self.data += answer.data
         self.smooth += answer.smooth
         if answer.labels is not None:
-            box = self.sweeps[shift].box(place)
             changed = self._write(box, answer.labels)
             for other, sweep in enumerate(self.sweeps):
                 self.due[other].update(sweep.touched(changed))
@@ -274,8 +271,6 @@ class Run:
 
     def _write(self, box, labels):
         """Writes the labels of a tile; answers the least box around those that changed."""
-        numpy = self.whole.numpy
-        at = numpy.nonzero(numpy.asarray(self.whole.labels[box]) != labels)
+        changed = self.whole.numpy.asarray(self.whole.labels[box]) != labels
         self.whole.labels[box] = labels
-        return tuple(slice(part.start + int(along.min()), part.start + int(along.max()) + 1)
-                     for part, along in zip(box, at))
+        return around(changed, box)

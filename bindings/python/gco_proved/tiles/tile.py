@@ -5,14 +5,14 @@ from .. import arrays, labelling
 from ..refusals import Refused
 from . import costs
 from .boxes import Box, Shape, sides_of_box, within
-from .problem import Full, Masked, energy_of, problem_of
+from .problem import Full, Masked, energy_of, energy_of_box, problem_of
 
 
 class Task(NamedTuple):
     """A tile, and all that its worker reads: it can be pickled.
 
     `window` is the tile and the sites beside it, and `labels` are those of the window. `free` is an
-    array of the window, or None where the whole tile is free.
+    array of yes and no of the tile, or None where all of it is free.
     """
 
     box: Box
@@ -60,35 +60,33 @@ def energy(task: Task) -> Tuple[int, int]:
     """The data costs of the tile's sites, and those of pairs whose lower corner is one of them."""
     _look_at_labels(task)
     weights = costs.weights_read(task.weights, task.window, task.labels.shape, task.offsets)
-    inside = within(task.box, task.window)
-    return energy_of(data_of(task), weights, task.offsets, task.smooth, task.labels, inside, inside)
+    return energy_of_box(data_of(task), weights, task.offsets, task.smooth, task.labels,
+                         within(task.box, task.window))
 
 
 def run(task: Task) -> Answer:
     """The run of a tile: moves from the labels that stand there, all other sites fixed."""
     numpy = arrays.numpy
     _look_at_labels(task)
-    inside = within(task.box, task.window)
-    data = data_of(task)
-    rows = data.reshape(-1, len(task.smooth))
-    free: Any = Full(task.box, task.window)
-    if task.free is not None:
-        free = Masked(task.free, task.window)
-        rows = rows[numpy.flatnonzero(task.free[inside])]
+    free: Any = Full(task.box, task.window) if task.free is None else \
+        Masked(task.free, task.box, task.window)
+    rows = free.rows_of(data_of(task))
     weights = costs.weights_read(task.weights, task.window, task.labels.shape, task.offsets)
     problem = problem_of(rows, free, task.labels, weights, task.offsets, task.smooth)
     start = free.labels_of(task.labels).astype(numpy.uint32)
-    found = _found(task, free, problem, numpy.concatenate([start, problem.pinned]))
+    begun = numpy.concatenate([start, problem.pinned])
+    found = _found(task, free, problem, begun)
     after = found.labels[:problem.sites]
     if numpy.array_equal(after, start):
         return Answer(None, 0, 0, found.settled)
+    ended = numpy.concatenate([after, problem.pinned])
+    rise = energy_of(problem, task.smooth, ended) - energy_of(problem, task.smooth, begun)
+    data = sum(sign * int(numpy.take_along_axis(rows, labels[:, None].astype(numpy.int64), axis=1)
+                          .sum(dtype=numpy.int64)) for labels, sign in ((after, 1), (start, -1)))
     labels = task.labels.copy()
     free.write(labels, after)
-    every = tuple(slice(0, side) for side in labels.shape)
-    before, now = (energy_of(data, weights, task.offsets, task.smooth, one, inside, every)
-                   for one in (task.labels, labels))
-    return Answer(labels[inside].astype(numpy.uint8), now[0] - before[0], now[1] - before[1],
-                  found.settled)
+    labels = labels[within(task.box, task.window)].astype(numpy.uint8)
+    return Answer(labels, data, rise - data, found.settled)
 
 
 def _found(task, free, problem, start):
