@@ -1,0 +1,4 @@
+pub mod Entries
+pub mod Gentle
+pub mod Under
+pub mod Duality

@@ -1,0 +1,10 @@
+use Rattle.std.proofs.Common.{◌≡◌, ◌*◌, length}
+use Rattle.dual_bound.proofs.ascent.messages_after.Given as goal
+
+abbrev pub invariant-loop-pass : goal.invariant-loop-pass
+invariant-loop-pass g l = record {
+  messages : length l.messages.items ≡ length l.problem.pairs.list * l.problem.data_cost.labels;
+  sums : length l.sums.items ≡ l.problem.data_cost.labels;
+  own : length l.own.items ≡ l.problem.data_cost.labels;
+  out : length l.out.items ≡ l.problem.data_cost.labels;
+}

@@ -1,0 +1,68 @@
+//! Bounds that meet the least energy, which was found by trying every labelling.
+ghost use Rattle.std.specs.Prelude.{◌<◌, ◌≤ℤ◌, pos};
+
+use crate::lower_bound;
+use cost_store::{DataCost, Problem, SmoothCost};
+use label_field::Pairs;
+use std::test::Fail;
+
+/// A picture of three columns and two rows.
+const SAMPLES: [u8; 6] = [1, 0, 2, 0, 0, 2];
+
+/// What three labels cost each of three sites, and what they cost a pair: from the first site's
+/// label to the second's it is another price than back.
+const COSTS: [u8; 9] = [0, 5, 9, 7, 0, 7, 9, 4, 0];
+
+const PRICES: [u8; 9] = [0, 3, 8, 1, 0, 2, 6, 5, 0];
+
+#[test]
+fn a_picture(rt: HostRuntime) -> Result<(), Fail> {
+    let pairs = Pairs::grid4(rt.alloc(), 3, 2, 1)?;
+    let data_cost = DataCost::new(
+        |site: u32, label: u32| -> i64
+            requires { (site < 6) × (label < 3) }
+            ensures { (pos 0 ≤ℤ result) × (result ≤ℤ pos 255) }
+        { i64::from(SAMPLES[site as usize].abs_diff(label as u8)) },
+        6,
+        3,
+    );
+    let smooth_cost = SmoothCost::new(
+        |first: u32, second: u32| -> i64
+            ensures { (pos 0 ≤ℤ result) × (result ≤ℤ pos 1) }
+        { i64::from(first != second) },
+        3,
+    );
+    let problem = Problem::new(pairs, data_cost, smooth_cost);
+    let found = lower_bound(rt.alloc(), &problem, 20, u64::MAX)?;
+    assert_eq!(rt; found.low, 3);
+    assert_eq!(rt; problem.energy(&found.labelling), 3);
+    Ok(())
+}
+
+#[test]
+fn a_chain_whose_pairs_are_written_backwards(rt: HostRuntime) -> Result<(), Fail> {
+    let mut pairs = Pairs::new(rt.alloc(), 3);
+    pairs.add(1, 0, 2)?;
+    pairs.add(2, 1, 3)?;
+    assert_eq!(rt; pairs.sites(), 3);
+    let data_cost = DataCost::new(
+        |site: u32, label: u32| -> i64
+            requires { (site < 3) × (label < 3) }
+            ensures { (pos 0 ≤ℤ result) × (result ≤ℤ pos 255) }
+        { i64::from(COSTS[site as usize * 3 + label as usize]) },
+        3,
+        3,
+    );
+    let smooth_cost = SmoothCost::new(
+        |first: u32, second: u32| -> i64
+            requires { (first < 3) × (second < 3) }
+            ensures { (pos 0 ≤ℤ result) × (result ≤ℤ pos 255) }
+        { i64::from(PRICES[first as usize * 3 + second as usize]) },
+        3,
+    );
+    let problem = Problem::new(pairs, data_cost, smooth_cost);
+    let found = lower_bound(rt.alloc(), &problem, 20, u64::MAX)?;
+    assert_eq!(rt; found.low, 6);
+    assert_eq!(rt; problem.energy(&found.labelling), 6);
+    Ok(())
+}
