@@ -7,15 +7,18 @@ this checkout where it is built; small pictures are compared with the definition
 """
 import contextlib
 import io
+import math
 import os
 import pathlib
 import random
 import shutil
 import signal
+import struct
 import subprocess
 import sys
 import tempfile
 import time
+import zlib
 
 TOP = pathlib.Path(__file__).resolve().parent.parent.parent
 sys.path.insert(0, str(TOP / "tools"))
@@ -103,7 +106,7 @@ def by_definition(folder, count):
             seeds = [rng.choice([0, 0, 0, 1, 2]) for _ in first]
             pgm(folder / "in.pgm", (rows(first), maxval), (rows(seeds), 2))
             low, high, strong, weak, edge = rng.randrange(4), rng.randrange(4), rng.randrange(4), rng.randrange(3), rng.randrange(2)
-            if low == high and not any(seeds):
+            if low == high and not {1, 2} <= set(seeds):
                 high += 1
             words = ["--low", low, "--high", high, "--strong", strong, "--weak", weak, "--edge", edge]
             wanted = definition.segment(width, first, seeds, low, high, strong, weak, edge, **more)
@@ -166,6 +169,9 @@ def against_program(folder, folders):
     return f"{count} runs as the program"
 
 
+GREY_LINE = "restore --like photo: levels 32 smooth linear trunc 8 weight 1\n"
+
+
 def kinds_of_files(folder):
     """What Pillow reads comes in, and 8 and 16 bits come out as other readers read them."""
     grey, _ = samples(EXAMPLES / "camera64.pgm")
@@ -184,16 +190,16 @@ def kinds_of_files(folder):
     said(0, of=("restore", folder / "made-grey.png", folder / "wanted.png"))
     wanted = Image.open(folder / "wanted.png").tobytes()
     alpha = colour.copy()
-    alpha.putalpha(77)
+    alpha.putalpha(255)
     colour.save(folder / "colour.tif")
     alpha.save(folder / "alpha.png")
     for name in ("colour.tif", "alpha.png"):
-        said(0, of=("restore", folder / name, folder / "c.png"))
-        assert Image.open(folder / "c.png").tobytes() == wanted, name
+        text = said(0, of=("restore", folder / name, folder / "c.png", "--grey"))
+        assert Image.open(folder / "c.png").tobytes() == wanted and text.startswith(GREY_LINE + "energy ") and text.count("\n") == 2, (name, text)
     colour.quantize(64).save(folder / "palette.gif")
     colour.save(folder / "photo.jpg", quality=95)
     for name in ("palette.gif", "photo.jpg"):
-        said(0, of=("restore", folder / name, folder / "c.png"))
+        said(0, of=("restore", folder / name, folder / "c.png", "--grey"))
         assert abs(np.asarray(Image.open(folder / "c.png")).astype(int) - np.asarray(Image.open(folder / "wanted.png"))).mean() < 8
     # 16 bits in and out; a picture of one bit
     Image.fromarray((grey * 257).astype(np.uint16)).save(folder / "wide.png")
@@ -256,12 +262,234 @@ def seeds(folder):
     median = int(np.median(grey[drawn == 1])), int(np.median(grey[drawn == 2]))
     said(0, "low %d high %d" % median, of=("segment", folder / "in.png", folder / "paint.png", folder / "k.png", "--like", "greys"))
     Image.fromarray((grey // 2).astype(np.uint8)).save(folder / "many.png")
-    said(1, "greys, and seeds have three", "red", of=("segment", folder / "in.png", folder / "many.png", folder / "no.png", *words))
-    said(1, "there are no seeds", of=("segment", folder / "in.png", folder / "no.png"))
-    said(1, "no seed of segment 1", of=("segment", folder / "in.png", folder / "no.png", "--like", "greys"))
+    said(2, "greys, and seeds have three", "red", of=("segment", folder / "in.png", folder / "many.png", folder / "no.png", *words))
+    said(2, "there are no seeds", of=("segment", folder / "in.png", folder / "no.png"))
+    said(2, "no seed of segment 1", of=("segment", folder / "in.png", folder / "no.png", "--like", "greys"))
     Image.fromarray(drawn[:32].astype(np.uint8)).save(folder / "half.png")
     said(1, "64 x 64 pixels", "64 x 32", of=("segment", folder / "in.png", folder / "half.png", folder / "no.png", *words))
     assert not (folder / "no.png").exists()
+
+
+def strokes(folder):
+    """Strokes on a layer, on a sheet and on a copy of the photograph; and what is told of those that say too little."""
+    words = ("--low", 40, "--high", 170, "--strong", 90, "--weak", 40, "--edge", 60)
+    wanted = np.asarray(Image.open(folder / "g.png"))
+    grey = np.asarray(Image.open(folder / "in.png"))
+    drawn = np.array(make_pictures.seeds(64, 64)).reshape(64, 64)
+    inks = np.array([(0, 0, 0), (230, 20, 20), (30, 40, 240)], dtype=np.uint8)[drawn]
+    at = np.argwhere(drawn == 0)[7]
+
+    def layer(alpha, colours=inks):
+        return Image.fromarray(np.dstack([colours, np.where(drawn > 0, alpha, 0)]).astype(np.uint8), "RGBA")
+
+    def answers(name, image, more=(), **how):
+        image.save(folder / name, **how)
+        said(0, of=("segment", folder / "in.png", folder / name, folder / "l.png", *words, *more))
+        return np.asarray(Image.open(folder / "l.png"))
+
+    # a stroke is there from an alpha of one half on
+    for alpha in (255, 128):
+        assert (answers("layer.png", layer(alpha)) == wanted).all()
+    nothing = np.asarray(Image.open(folder / "in.png"))
+    said(0, of=("segment", folder / "in.png", folder / "m.png", *words))
+    without = np.asarray(Image.open(folder / "m.png"))
+    assert (answers("erased.png", layer(127)) == without).all() and (without != wanted).any()
+    two = np.where(drawn == 2, 255, 40)
+    erased = Image.fromarray(np.dstack([inks, np.where(drawn > 0, two, 0)]).astype(np.uint8), "RGBA")
+    only = drawn * (drawn == 2)
+    Image.fromarray(only.astype(np.uint8)).save(folder / "only.png")
+    said(0, of=("segment", folder / "in.png", folder / "only.png", folder / "m.png", *words))
+    assert (answers("half erased.png", erased) == np.asarray(Image.open(folder / "m.png"))).all()
+    # a grey layer; a palette with a transparent colour; a palette of greys
+    greys = np.array([0, 90, 200], dtype=np.uint8)[drawn]
+    assert (answers("grey layer.png", Image.fromarray(np.dstack([greys, np.where(drawn > 0, 255, 0)]).astype(np.uint8), "LA")) == wanted).all()
+    for name, table in (("red and blue", [0, 0, 0, 220, 0, 0, 0, 0, 220]), ("three greys", [0] * 3 + [128] * 3 + [255] * 3)):
+        image = Image.fromarray(drawn.astype(np.uint8), "P")
+        image.putpalette(table)
+        assert (answers(f"{name}.png", image) == wanted).all(), name
+        assert (answers(f"{name} clear.png", image, transparency=0) == wanted).all(), name
+    # on white paper; on a grey copy; on a copy in which red and blue things stand
+    assert (answers("paper.png", Image.fromarray(np.where(drawn[..., None] > 0, inks, 255).astype(np.uint8))) == wanted).all()
+    copy = grey.copy()
+    copy[drawn == 1], copy[drawn == 2] = 0, 255
+    assert len(np.unique(copy)) > 3 and (np.where(copy != grey, drawn, 0) == drawn).mean() > 0.99
+    kept = np.where(copy != grey, drawn, 0)
+    Image.fromarray(kept.astype(np.uint8)).save(folder / "kept.seeds.png")
+    said(0, of=("segment", folder / "in.png", folder / "kept.seeds.png", folder / "m.png", *words))
+    assert (answers("grey copy.png", Image.fromarray(copy)) == np.asarray(Image.open(folder / "m.png"))).all()
+    photo = np.dstack([grey, 255 - grey, grey[::-1]])
+    photo[:8, :8], photo[-8:, -8:] = (250, 0, 0), (0, 0, 250)
+    Image.fromarray(photo).save(folder / "things.png")
+    over = np.where(drawn[..., None] > 0, inks, photo)
+    Image.fromarray(over).save(folder / "over.png")
+    for name, seeds_of_it in (("over.png", np.where((over != photo).any(axis=2), drawn, 0)),):
+        Image.fromarray(seeds_of_it.astype(np.uint8)).save(folder / "plain.png")
+        said(0, "edges: low 128", "has colours, which are read as grey", of=("segment", folder / "things.png", folder / "plain.png", folder / "p.png", "--like", "edges"))
+        said(0, of=("segment", folder / "things.png", folder / name, folder / "q.png", "--like", "edges"))
+        assert (folder / "q.png").read_bytes() == (folder / "p.png").read_bytes()
+    # soft edges of strokes are no strokes of a third colour
+    soft = Image.fromarray(np.where(drawn[..., None] > 0, inks, 255).astype(np.uint8)).resize((128, 128)).resize((64, 64), Image.BILINEAR)
+    soft.save(folder / "soft.png")
+    said(0, of=("segment", folder / "in.png", folder / "soft.png", folder / "l.png", *words))
+    # what says too little, or something else: a sentence, status 2 and no file
+    green = inks.copy()
+    green[drawn == 1] = (20, 200, 20)
+    Image.fromarray(green).save(folder / "green.png")
+    layer(255, green).save(folder / "green layer.png")
+    count, first = int((drawn == 1).sum()), np.argwhere(drawn == 1)[0]
+    for name in ("green.png", "green layer.png"):
+        said(2, f"{count:,} pixels of a colour that is neither red (the first segment) nor blue (the second), as (20, 200, 20) in row {first[0]}, column {first[1]}",
+             of=("segment", folder / "in.png", folder / name, folder / "no.png"))
+    painted = photo.copy()
+    painted[at[0]:at[0] + 3, at[1]:at[1] + 3] = 255
+    Image.fromarray(painted).save(folder / "white.png")
+    said(2, "as (255, 255, 255)", of=("segment", folder / "things.png", folder / "white.png", folder / "no.png"))
+    for kind, word in ((1, "second"), (2, "first")):
+        Image.fromarray((drawn * (drawn == kind)).astype(np.uint8)).save(folder / "one.png")
+        said(2, f"there is no seed of the {word} segment, and --low and --high are one grey", "red is the first",
+             of=("segment", folder / "in.png", folder / "one.png", folder / "no.png"))
+        said(2, f"no seed of the {word} segment, and --like colours", of=("segment", folder / "in.png", folder / "one.png", folder / "no.png", "--like", "colours"))
+        said(0, of=("segment", folder / "in.png", folder / "one.png", folder / "l.png", *words))
+    layer(40).save(folder / "gone.png")
+    said(2, "there are no seeds", of=("segment", folder / "in.png", folder / "gone.png", folder / "no.png"))
+    assert not (folder / "no.png").exists() and nothing.shape == (64, 64)
+
+
+def colour_pictures(folder):
+    """restore keeps colours, to the byte; segment decides by the colours of strokes."""
+    grey = np.asarray(Image.open(folder / "in.png")).astype(int)
+    tint = np.dstack([grey * 3 // 4 + 20, grey // 2 + 60, 200 - grey // 2]).astype(np.uint8)
+    Image.fromarray(tint).save(folder / "tint.png", icc_profile=b"what the colours are")
+    # nothing changes: each byte stays
+    said(0, "tint.png has colours: its luminance is restored, and its colours are kept (--grey: in grey)",
+         of=("restore", folder / "tint.png", folder / "o.png", "--weight", 0))
+    assert (np.asarray(Image.open(folder / "o.png")) == tint).all() and Image.open(folder / "o.png").info["icc_profile"] == b"what the colours are"
+    # the luminance is that of the grey way, and red, green and blue move as it does
+    said(0, "restore --like photo: levels 32", of=("restore", folder / "tint.png", folder / "o.png"))
+    said(0, of=("restore", folder / "tint.png", folder / "o-grey.png", "--grey"))
+    luminance, restored = (np.asarray(Image.open(folder / name).convert("L")).astype(int) for name in ("tint.png", "o-grey.png"))
+    out = np.asarray(Image.open(folder / "o.png")).astype(int)
+    assert (out == np.clip(tint + (restored - luminance)[..., None], 0, 255)).all() and (out != tint).any()
+    # chroma by its own weight: a speck of colour goes, and the greys stay grey
+    specks = np.full((9, 9, 3), 120, dtype=np.uint8)
+    specks[4, 4] = (180, 93, 103)  # of the luminance 120 too
+    assert Image.fromarray(specks).convert("L").getpixel((4, 4)) in (119, 120, 121)
+    Image.fromarray(specks).save(folder / "specks.png")
+    said(0, of=("restore", folder / "specks.png", folder / "o.png", "--levels", 256, "--weight", 0))
+    assert (np.asarray(Image.open(folder / "o.png")) == specks).all()
+    text = said(0, "chroma 20", "its colours are restored by --chroma", "\nCb energy ", "\nCr energy ",
+                of=("restore", folder / "specks.png", folder / "o.png", "--levels", 256, "--weight", 0, "--chroma", 20))
+    out = np.asarray(Image.open(folder / "o.png")).astype(int)
+    assert (abs(out - 120) <= 3).all() and text.count("energy") == 3, out[4]
+    # where no colour can be written it is said; a grey picture has none, whatever its file
+    for name, more, part in (("o.pgm", (), "holds greys alone"), ("o.png", ("--no-scale",), "as they are"), ("o.png", ("--bits", 16), "16 bits")):
+        said(0, part, "restored as grey", of=("restore", folder / "tint.png", folder / name, *more))
+        assert Image.open(folder / name).mode in ("L", "I", "I;16")
+    Image.fromarray(np.dstack([grey] * 3).astype(np.uint8)).save(folder / "three.png")
+    text = said(0, of=("restore", folder / "three.png", folder / "o.png"))
+    assert text.startswith(GREY_LINE + "energy ") and Image.open(folder / "o.png").mode == "L"
+    said(0, "has no colours, so --chroma changes nothing", of=("restore", folder / "three.png", folder / "o.png", "--chroma", 3))
+    # a red field and a green one of one grey: by their colours the cut is where they meet, whatever the strokes' place
+    field = np.zeros((12, 20, 3), dtype=np.uint8)
+    field[:, :7], field[:, 7:] = (200, 60, 60), (60, 132, 60)
+    field[::3, ::4] += 6
+    assert abs(np.asarray(Image.fromarray(field).convert("L")).astype(int).ptp()) <= 8
+    Image.fromarray(field).save(folder / "field.png")
+    marks = np.zeros((12, 20, 4), dtype=np.uint8)
+    marks[2:9, 1:3], marks[3:10, 17:19] = (255, 0, 0, 255), (0, 0, 255, 255)
+    Image.fromarray(marks, "RGBA").save(folder / "marks.png")
+    text = said(0, "segment --like colours: strong 1000 weak 0 edge ", " rounds 1\n", of=("segment", folder / "field.png", folder / "marks.png", folder / "o.png"))
+    assert (np.asarray(Image.open(folder / "o.png")) == np.where(np.arange(20) < 7, 0, 255)).all() and "read as grey" not in text
+    said(0, "rounds 4", of=("segment", folder / "field.png", folder / "marks.png", folder / "o2.png", "--rounds", 4))
+    assert (folder / "o2.png").read_bytes() == (folder / "o.png").read_bytes()
+    # the grey ways as before: by --grey without a word more, else with a sentence
+    text = said(0, of=("segment", folder / "field.png", folder / "marks.png", folder / "e.png", "--grey"))
+    assert text.startswith("segment --like edges: low 128 high 128 strong 100 weak 3 edge 8\nenergy ") and text.count("\n") == 2
+    Image.open(folder / "field.png").convert("L").save(folder / "field-grey.png")
+    assert said(0, of=("segment", folder / "field-grey.png", folder / "marks.png", folder / "f.png")) == text
+    assert (folder / "e.png").read_bytes() == (folder / "f.png").read_bytes()
+    said(2, "leave --low and --high away", of=("segment", folder / "field.png", folder / "marks.png", folder / "no.png", "--like", "colours", "--low", 3))
+    said(2, "divides by it", of=("segment", folder / "field.png", folder / "marks.png", folder / "no.png", "--like", "colours", "--edge", 0))
+
+
+def colour_costs():
+    """The weights and the costs of --like colours by their formulas."""
+    from gco_proved.pictures import colours
+    rng = np.random.default_rng(3)
+    picture = rng.integers(0, 256, (3, 2, 3)).astype(np.uint8)
+    for neighbours in (4, 8):
+        pairs = colours.contrast_pairs(picture, 1000, 5, 90, neighbours)
+        assert len(pairs) == (7 if neighbours == 4 else 11)
+        for first, second, weight in pairs.tolist():
+            apart = picture[first // 2, first % 2].astype(int) - picture[second // 2, second % 2]
+            distance = math.hypot(first // 2 - second // 2, first % 2 - second % 2)
+            assert weight == max(5, round(1000 * math.exp(-int((apart ** 2).sum()) / (2 * 90 * 90)) / distance)), (first, second)
+    assert colours.usual_edge(np.array([[[0, 0, 0], [3, 0, 4]]], dtype=np.uint8)) == 5
+    # one colour only: a Gaussian of five of 255, and a hundredth over all colours
+    ones = np.tile(np.array([[100, 100, 100]], dtype=np.uint8), (50, 1))
+    for away in (0, 5, 200):
+        likely = 0.99 / (2 * math.pi * 25) ** 1.5 * math.exp(-away ** 2 / 50) + 0.01 / 256 ** 3
+        colour = np.array([[100, 100 + away if away < 100 else 255, 100]], dtype=np.uint8)
+        if away >= 100:
+            likely = 0.01 / 256 ** 3
+        assert colours.Mixture(ones).costs(colour).tolist() == [round(-20 * math.log(likely))], away
+
+
+def kinds_of_colours(folder):
+    """Orientation, 16 bits of colour, alpha, animations, CMYK and HEIC: read rightly, or told in a sentence."""
+    wide = np.zeros((4, 6, 3), dtype=np.uint8)
+    wide[:, 2:] = 90
+    wide[:, 4:] = 200
+    upright = Image.fromarray(wide)
+    for tag, turned in ((3, upright.transpose(Image.ROTATE_180)), (6, upright.transpose(Image.ROTATE_90)), (8, upright.transpose(Image.ROTATE_270))):
+        exif = Image.Exif()
+        exif[0x0112] = tag
+        turned.save(folder / "turned.png", exif=exif)
+        said(0, of=("restore", folder / "turned.png", folder / "o.png", "--weight", 0))
+        assert (np.asarray(Image.open(folder / "o.png")) == wide[..., 0]).all(), tag
+    # transparent parts have no hidden colour: as on white paper
+    hidden = np.dstack([wide, np.where(np.arange(6) < 2, 0, 255) * np.ones((4, 1))]).astype(np.uint8)
+    hidden[:, :2, :3] = (10, 200, 30)
+    Image.fromarray(hidden, "RGBA").save(folder / "hidden.png")
+    said(0, "hidden.png is transparent in parts: they are read as on white paper", of=("restore", folder / "hidden.png", folder / "o.png", "--weight", 0))
+    assert (np.asarray(Image.open(folder / "o.png")) == np.where(np.arange(6) < 2, 255, wide[..., 0])).all()
+    Image.fromarray(hidden[..., [0, 3]], "LA").save(folder / "hidden-grey.png")
+    said(0, "transparent in parts", of=("restore", folder / "hidden-grey.png", folder / "o.png", "--weight", 0))
+    assert (np.asarray(Image.open(folder / "o.png")) == np.where(np.arange(6) < 2, 255, wide[..., 0])).all()
+    # frames; print colours; 16 bits a colour
+    for name in ("frames.gif", "frames.tif"):
+        upright.save(folder / name, save_all=True, append_images=[Image.new("RGB", (6, 4))])
+        said(0, f"{name} has 2 pictures: the first is read", of=("restore", folder / name, folder / "o.png", "--weight", 0))
+        assert (np.asarray(Image.open(folder / "o.png")) == wide[..., 0]).all()
+    Image.merge("CMYK", [Image.new("L", (6, 4), 0)] * 3 + [Image.fromarray(255 - wide[..., 0])]).save(folder / "print.tif")
+    said(0, "colours of a printer (CMYK)", of=("restore", folder / "print.tif", folder / "o.png", "--weight", 0))
+    assert (np.asarray(Image.open(folder / "o.png")) == wide[..., 0]).all()
+    deep = np.dstack([wide[..., 0].astype(">u2") * 257] * 3)
+    (folder / "deep.png").write_bytes(png_of(deep))
+    said(0, "deep.png has 16 bits for each colour: the upper 8 are read", of=("restore", folder / "deep.png", folder / "o.png", "--weight", 0))
+    assert (np.asarray(Image.open(folder / "o.png")) == wide[..., 0]).all()
+    (folder / "deep.ppm").write_bytes(b"P6\n6 4\n65535\n" + deep.tobytes())
+    said(0, "the upper 8 are read", of=("restore", folder / "deep.ppm", folder / "o.png", "--weight", 0))
+    Image.merge("LAB", [Image.new("L", (6, 4), value) for value in (255, 128, 128)]).save(folder / "lab.tif")
+    said(0, of=("restore", folder / "lab.tif", folder / "o.png", "--weight", 0))
+    (folder / "phone.heic").write_bytes(b"\0\0\0\x18ftypheic\0\0\0\0mif1heic" + b"\0" * 64)
+    try:
+        import pillow_heif
+        said(1, "phone.heic", of=("restore", folder / "phone.heic", folder / "no.png"))
+        assert pillow_heif
+    except ImportError:
+        said(1, "phone.heic is a HEIC or AVIF picture", "pip install pillow-heif", "JPEG", of=("restore", folder / "phone.heic", folder / "no.png"))
+    assert not (folder / "no.png").exists()
+
+
+def png_of(samples):
+    """A PNG file of 16 bits for each of three colours, by its definition."""
+    height, width, _ = samples.shape
+    rows = b"".join(b"\0" + row.tobytes() for row in samples)
+
+    def chunk(kind, data):
+        return struct.pack(">I", len(data)) + kind + data + struct.pack(">I", zlib.crc32(kind + data))
+    return b"\x89PNG\r\n\x1a\n" + chunk(b"IHDR", struct.pack(">IIBBBBB", width, height, 16, 2, 0, 0, 0)) + chunk(b"IDAT", zlib.compress(rows)) + chunk(b"IEND", b"")
 
 
 def impulse(folder):
@@ -421,6 +649,10 @@ def all_of_it(folder):
     kinds_of_files(folder)
     disparities(folder)
     seeds(folder)
+    strokes(folder)
+    colour_pictures(folder)
+    colour_costs()
+    kinds_of_colours(folder)
     impulse(folder)
     fits(folder)
     refusals(folder)

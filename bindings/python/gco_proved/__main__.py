@@ -4,7 +4,8 @@ from typing import List, Optional
 
 
 def main(words: Optional[List[str]] = None) -> int:
-    """Runs a command; answers 0, 1 where it was refused, and 130 where Ctrl-C stopped it."""
+    """Runs a command; answers 0, 1 where it was refused, 2 where seeds or words do not say what is
+    wanted, and 130 where Ctrl-C stopped it."""
     from gco_proved import __version__
     from gco_proved.pictures import commands, problems
     from gco_proved.pictures.options import command_line
@@ -20,7 +21,7 @@ def main(words: Optional[List[str]] = None) -> int:
         return commands.run_picture(options)
     except Wrong as wrong:
         print(f"gco {options.command}: {wrong}", file=sys.stderr)
-        return 1
+        return wrong.status
     except problems.Line as line:
         print(line, file=sys.stderr)
         return 1

@@ -1,6 +1,6 @@
 """The command line, and the costs by name that --like sets."""
 import argparse
-from typing import Any, Dict
+from typing import Any, Dict, Optional
 
 LIKES: Dict[str, Dict[str, Dict[str, Any]]] = {
     "restore": {
@@ -17,6 +17,7 @@ LIKES: Dict[str, Dict[str, Dict[str, Any]]] = {
         "plain": {"strong": 20, "weak": 5, "edge": 5},
         "edges": {"low": 128, "high": 128, "strong": 100, "weak": 3, "edge": 8},
         "greys": {"strong": 20, "weak": 5, "edge": 5},
+        "colours": {"strong": 1000, "weak": 0, "rounds": 1},
     },
 }
 
@@ -46,13 +47,18 @@ COSTS = {
     "strong": (_ranged(0, 1000), "the weight of two pixels that are alike"),
     "weak": (_ranged(0, 1000), "the weight of two pixels that are not"),
     "edge": (_ranged(0, 65535), "how far the greys of two pixels that are alike differ"),
+    "rounds": (_ranged(1, 100), "--like colours: how often colours are learned from segments (1)"),
+    "chroma": (_ranged(0, 1000), "a colour picture: the weight for its colours, which stay if it is"
+               " 0 (the default)"),
 }
 USUAL = {"restore": "photo", "stereo": "scene", "segment": "edges"}
 OF_COMMAND = {
-    "restore": ("levels", "smooth", "trunc", "weight", "cap", "label_cost"),
+    "restore": ("levels", "smooth", "trunc", "weight", "cap", "label_cost", "chroma"),
     "stereo": ("labels", "smooth", "trunc", "weight", "cap"),
-    "segment": ("low", "high", "strong", "weak", "edge"),
+    "segment": ("low", "high", "strong", "weak", "edge", "rounds"),
 }
+# what is no cost, and leaves the default of --like as it is
+NO_COSTS = ("labels", "levels", "rounds", "chroma")
 ABOUT = {
     "restore": ("IN OUT", "takes the noise out of a picture",
                 "python -m gco restore in.jpg out.png --weight 20 --levels 32"),
@@ -73,8 +79,10 @@ def _picture_options(parser: argparse.ArgumentParser, command: str) -> None:
         more: Dict[str, Any] = {"choices": ["potts", "linear", "quadratic"]} if kind is None \
             else {"type": kind, "metavar": "N"}
         parser.add_argument("--" + name.replace("_", "-"), help=words, **more)
-    parser.add_argument("--neighbours", type=int, choices=[4, 8], default=4,
-                        help="pixels beside, or across corners too (4)")
+    parser.add_argument("--neighbours", type=int, choices=[4, 8],
+                        help="pixels beside, or across corners too (4, and 8 of --like colours)")
+    if command != "stereo":
+        parser.add_argument("--grey", action="store_true", help="read a colour picture as grey")
     if command != "segment":
         parser.add_argument("--moves", choices=["expansion", "swap"], default="expansion",
                             help="of one label, or of two (expansion)")
@@ -123,18 +131,19 @@ def _likes(command: str) -> str:
     """What each name of --like sets, a line each."""
     lines = [f"--like {name}: " + " ".join(f"--{cost} {value}" for cost, value in costs.items())
              for name, costs in LIKES[command].items()]
-    return "\n".join([*lines, f"Without any cost it is {USUAL[command]}, and else plain."])
+    usual = USUAL[command] + (" (colours if the picture has some, and both kinds of seeds)"
+                              if command == "segment" else "")
+    return "\n".join([*lines, f"Without any cost it is {usual}, and else plain."])
 
 
-def settled(options: argparse.Namespace) -> str:
-    """Sets the costs that were not given, by --like or its default, and answers its name.
+def settle(options: argparse.Namespace, usual: Optional[str] = None) -> None:
+    """Sets the costs that were not given, and --like itself, by --like or its default.
 
     How many labels there are is no cost: it leaves the default as it is.
     """
-    names = [name for name in OF_COMMAND[options.command] if name not in ("labels", "levels")]
+    names = [name for name in OF_COMMAND[options.command] if name not in NO_COSTS]
     given = [name for name in names if getattr(options, name) is not None]
-    like = options.like or ("plain" if given else USUAL[options.command])
-    for name, value in LIKES[options.command][like].items():
+    options.like = options.like or ("plain" if given else usual or USUAL[options.command])
+    for name, value in LIKES[options.command][options.like].items():
         if getattr(options, name) is None:
             setattr(options, name, value)
-    return like

@@ -1,6 +1,7 @@
-"""Pictures as samples: PGM files as they are, others by Pillow, and seeds of masks and strokes."""
+"""Pictures as samples: PGM files as they are, and others by Pillow."""
 import pathlib
 import re
+import struct
 import warnings
 from typing import Any, List, NamedTuple, Optional, Tuple
 
@@ -8,15 +9,23 @@ from .words import Wrong, numpy_and_pillow
 
 LIMIT = 1048576
 _GAP = rb"[ \t\r\n](?:[ \t\r\n]|#[^\r\n]*[\r\n])*"
+_HEIC = re.compile(rb"....ftyp(?:hei|hev|mif1|msf1|avif|avis)", re.DOTALL)
 _HEADER = re.compile(rb"P([25])" + _GAP + rb"(\d+)" + _GAP + rb"(\d+)" + _GAP + rb"(\d+)[ \t\r\n]")
 
 
 class Picture(NamedTuple):
-    """Grey samples, height x width, each from 0 to maxval."""
+    """Grey samples, height x width, each from 0 to maxval.
+
+    Of a picture that is not grey, `colours` are its red, green and blue, and `profile` is what its
+    file says of them. `notes` are sentences on what was read other than it lies there.
+    """
 
     name: str
     samples: Any
     maxval: int
+    colours: Any = None
+    profile: Optional[bytes] = None
+    notes: Tuple[str, ...] = ()
 
 
 def bytes_of(name: str) -> bytes:
@@ -37,8 +46,7 @@ def read_pictures(name: str) -> List[Picture]:
     if not data:
         raise Wrong(f"{name} is empty")
     if data[:2] not in (b"P5", b"P2"):
-        image = _opened(name)
-        return [Picture(name, *_grey(image, name))]
+        return [picture_of(*opened(name), name)]
     found, at = [], 0
     while data[at:at + 2] in (b"P5", b"P2"):
         picture, at = _pgm(data, at, name)
@@ -89,30 +97,66 @@ def _plain(data, at, count, name, numpy):
     raise Wrong(f"{name} ends before its last sample: it was cut off, or is no picture")
 
 
-def _opened(name: str) -> Any:
-    """Pillow's picture, upright."""
+def opened(name: str) -> Tuple[Any, List[str]]:
+    """Pillow's picture, upright, and sentences on what is read other than it lies there."""
     _, image_class = numpy_and_pillow()
     from PIL import ImageOps, UnidentifiedImageError
     try:
         with warnings.catch_warnings():
             warnings.simplefilter("ignore", image_class.DecompressionBombWarning)
-            image = image_class.open(name)
-            image.load()
+            image = _by_pillow(name)
+            notes = _notes(image, name)
+            return ImageOps.exif_transpose(image), notes
     except UnidentifiedImageError:
         raise Wrong(f"{name} is no picture that Pillow reads: give a JPEG, PNG, TIFF or PGM") \
             from None
     except image_class.DecompressionBombError:
         raise Wrong(f"{name} is far too large: make it smaller first") from None
-    except (OSError, SyntaxError, ValueError) as error:
+    except (OSError, SyntaxError, ValueError, KeyError, TypeError, struct.error) as error:
         raise Wrong(f"{name} is a broken picture: {error}") from None
-    return ImageOps.exif_transpose(image)
 
 
-def _grey(image: Any, name: str) -> Tuple[Any, int]:
-    """The grey samples of Pillow's picture, and their maxval."""
+def _by_pillow(name: str) -> Any:
+    """The file by Pillow, and by its module for HEIC if Pillow alone does not read it."""
+    _, image_class = numpy_and_pillow()
+    from PIL import UnidentifiedImageError
+    try:
+        return image_class.open(name)
+    except UnidentifiedImageError:
+        if _HEIC.match(bytes_of(name)) is None:
+            raise
+    try:
+        from pillow_heif import register_heif_opener
+    except ImportError:
+        raise Wrong(f"{name} is a HEIC or AVIF picture, which Pillow does not read by itself: pip"
+                    " install pillow-heif, or save it as a JPEG") from None
+    register_heif_opener()
+    return image_class.open(name)
+
+
+def _notes(image: Any, name: str) -> List[str]:
+    """What Pillow reads other than it lies in the file."""
+    notes = []
+    frames = getattr(image, "n_frames", 1)
+    if frames > 1 and image.format != "PSD":
+        notes.append(f"{name} has {frames} pictures: the first is read")
+    kinds = [kind for tile in image.tile for kind in
+             (tile[3] if isinstance(tile[3], tuple) else tile[3:])]
+    if image.mode in ("RGB", "RGBA", "LA") and any(
+            ";16" in str(kind) or (image.format == "PPM" and isinstance(kind, int) and kind > 255)
+            for kind in kinds):
+        notes.append(f"{name} has 16 bits for each colour: the upper 8 are read")
+    if image.mode == "CMYK":
+        notes.append(f"{name} has the colours of a printer (CMYK): they are read without its"
+                     " profile")
+    return notes
+
+
+def picture_of(image: Any, notes: List[str], name: str) -> Picture:
+    """The grey samples of Pillow's picture, and its colours if it has some."""
     numpy, _ = numpy_and_pillow()
     if image.mode == "1":
-        return numpy.asarray(image).astype(numpy.int64), 1
+        return Picture(name, numpy.asarray(image).astype(numpy.int64), 1, notes=tuple(notes))
     if image.mode == "F":
         raise Wrong(f"{name} has samples with a fraction: save it with 8 or 16 bits")
     if image.mode == "I" or image.mode.startswith("I;16"):
@@ -120,47 +164,52 @@ def _grey(image: Any, name: str) -> Tuple[Any, int]:
         if samples.min() < 0 or samples.max() > 65535:
             raise Wrong(f"{name} has samples from {samples.min()} to {samples.max()}: save it with"
                         " 8 or 16 bits")
-        return samples, 65535
-    if image.mode == "LA":
-        image = image.getchannel("L")
-    if image.mode == "P":
-        image = image.convert("RGB")
-    return numpy.asarray(image.convert("L")).astype(numpy.int64), 255
+        return Picture(name, samples, 65535, notes=tuple(notes))
+    plain = on_white(image)
+    if plain is not image:
+        notes = [*notes, f"{name} is transparent in parts: they are read as on white paper"]
+    if plain.mode in ("P", "PA", "La", "RGBa"):
+        plain = with_alpha(plain).convert("RGB")
+    shades = coloured(plain, name)
+    grey = (plain if plain.mode == "YCbCr" else shades).convert("L")
+    grey, colours = numpy.asarray(grey).astype(numpy.int64), numpy.asarray(shades)
+    if (colours == colours[..., :1]).all():
+        return Picture(name, grey, 255, notes=tuple(notes))
+    profile = None if image.mode == "CMYK" else image.info.get("icc_profile")
+    return Picture(name, grey, 255, colours, profile, tuple(notes))
 
 
-def read_seeds(name: str) -> Any:
-    """Seeds, 0, 1 (the first segment) and 2 (the second): strokes of red and blue, or a mask."""
-    numpy, _ = numpy_and_pillow()
-    if bytes_of(name)[:2] in (b"P5", b"P2"):
-        return seeds_of(read_pictures(name)[0])
-    image = _opened(name)
-    if image.mode in ("P", "RGBA", "RGB", "CMYK", "YCbCr"):
-        colours = numpy.asarray(image.convert("RGB")).astype(numpy.int64)
-        red, green, blue = colours[..., 0], colours[..., 1], colours[..., 2]
-        first = red - numpy.maximum(green, blue) > 64
-        second = blue - numpy.maximum(red, green) > 64
-        if first.any() or second.any():
-            return numpy.where(first, 1, numpy.where(second, 2, 0))
-    return seeds_of(Picture(name, *_grey(image, name)))
+def coloured(image: Any, name: str) -> Any:
+    """The picture in red, green and blue."""
+    try:
+        return image.convert("RGB")
+    except ValueError:
+        raise Wrong(f"{name} has colours of the kind {image.mode}, which Pillow does not turn into"
+                    " red, green and blue: save it as RGB") from None
 
 
-def seeds_of(picture: Picture) -> Any:
-    """Seeds of a mask: 0, 1 and 2 as they are, else its three values in rising order."""
-    numpy, _ = numpy_and_pillow()
-    values = numpy.unique(picture.samples)
-    if values.max() <= 2:
-        return picture.samples
-    if len(values) > 3:
-        raise Wrong(f"{picture.name} has {len(values)} greys, and seeds have three (nothing, first"
-                    " segment, second segment): draw without soft edges and save as PNG, or draw"
-                    " the first in red and the second in blue")
-    if len(values) == 3:
-        return numpy.searchsorted(values, picture.samples)
-    if picture.samples.min() > 0:
-        raise Wrong(f"{picture.name} has no pixel of 0, so it leaves none open: 0 says nothing, a"
-                    " middle grey is the first segment, and white the second")
-    return numpy.where(picture.samples == 0, 0,
-                       numpy.where(picture.samples * 4 <= 3 * picture.maxval, 1, 2))
+def has_alpha(image: Any) -> bool:
+    """Whether the picture says of its pixels how transparent they are."""
+    return image.mode in ("RGBA", "LA", "PA", "La", "RGBa") or "transparency" in image.info
+
+
+def with_alpha(image: Any) -> Any:
+    """The picture in red, green, blue and alpha."""
+    if image.mode == "La":
+        image = image.convert("LA")
+    return image.convert("RGBA")
+
+
+def on_white(image: Any) -> Any:
+    """The picture as it looks on white paper; itself if nothing of it is transparent."""
+    _, image_class = numpy_and_pillow()
+    if not has_alpha(image):
+        return image
+    over = with_alpha(image)
+    if over.getchannel("A").getextrema()[0] == 255:
+        return image
+    paper = image_class.new("RGBA", over.size, "white")
+    return image_class.alpha_composite(paper, over).convert("RGB")
 
 
 def fitted_sides(height: int, width: int) -> Tuple[int, int]:
@@ -183,7 +232,11 @@ def fitted(picture: Picture, fit: bool) -> Picture:
     image = image_class.fromarray(picture.samples.astype(numpy.float32))
     image = image.resize((columns, rows), image_class.LANCZOS)
     samples = numpy.clip(numpy.rint(numpy.asarray(image)), 0, picture.maxval)
-    return picture._replace(samples=samples.astype(numpy.int64))
+    colours = picture.colours
+    if colours is not None:
+        image = image_class.fromarray(colours).resize((columns, rows), image_class.LANCZOS)
+        colours = numpy.asarray(image)
+    return picture._replace(samples=samples.astype(numpy.int64), colours=colours)
 
 
 def fitted_seeds(seeds: Any, sides: Optional[Tuple[int, int]]) -> Any:

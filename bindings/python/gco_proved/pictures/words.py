@@ -4,6 +4,14 @@
 class Wrong(Exception):
     """A command that cannot go on. The text is for the person who gave it."""
 
+    status = 1
+
+
+class Undecided(Wrong):
+    """A command whose seeds or options do not say what is wanted."""
+
+    status = 2
+
 
 def numpy_and_pillow():
     """numpy and Pillow's Image, or a sentence that asks for them."""

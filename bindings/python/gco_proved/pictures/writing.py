@@ -2,7 +2,7 @@
 import os
 import pathlib
 import tempfile
-from typing import Any
+from typing import Any, Optional
 
 from .words import Wrong, numpy_and_pillow
 
@@ -35,8 +35,8 @@ def spread(labels: Any, greatest: int, bits: int, scale: bool) -> Any:
     return (labels.astype(int) * top * 2 + greatest) // (2 * greatest)
 
 
-def write_picture(name: str, samples: Any, bits: int) -> None:
-    """Writes the file whole, or leaves what stood there."""
+def write_picture(name: str, samples: Any, bits: int, profile: Optional[bytes] = None) -> None:
+    """Writes the file whole, or leaves what stood there; `profile` says what its colours are."""
     numpy, image_class = numpy_and_pillow()
     path = pathlib.Path(name)
     kind = numpy.uint8 if bits == 8 else numpy.uint16
@@ -50,7 +50,8 @@ def write_picture(name: str, samples: Any, bits: int) -> None:
                 file.write(samples.astype(">u2" if bits == 16 else "u1").tobytes())
             else:
                 image = image_class.fromarray(samples)
-                image.save(file, format=image_class.EXTENSION[path.suffix.lower()])
+                more = {} if profile is None else {"icc_profile": profile}
+                image.save(file, format=image_class.EXTENSION[path.suffix.lower()], **more)
         os.chmod(file.name, 0o666 & ~_mask())
         os.replace(file.name, path)
     except OSError as error:

@@ -1,0 +1,108 @@
+"""Colours: luminance put back into a colour picture, and segments by the colours of strokes."""
+import math
+from typing import Any, List
+
+from ..grids import grid_pairs
+from .words import numpy_and_pillow
+
+UNIT = 20           # the costs of one nat: a border of two like pixels at --strong 1000 costs 50 nats
+PARTS = 5           # Gaussians for the colours of one kind (Rother, Kolmogorov and Blake 2004)
+SPREAD = 25.0       # the least variance of a colour in a Gaussian: five of 255
+ELSEWHERE = 0.01    # how much of a kind's colours may be any colour
+
+
+def with_luminance(colours: Any, luminance: Any, restored: Any, blue: Any = 0, red: Any = 0) -> Any:
+    """The colours after their luminance has become `restored`, by as much in red, green and blue,
+    so that Cb and Cr stay; `blue` and `red` are what is added to Cb and Cr (ITU-R BT.601)."""
+    numpy, _ = numpy_and_pillow()
+    added = restored.astype(int) - luminance
+    parts = [added + 1.402 * red, added - 0.344136 * blue - 0.714136 * red, added + 1.772 * blue]
+    moved = colours + numpy.stack(parts, axis=-1)
+    return numpy.clip(numpy.rint(moved), 0, 255).astype(numpy.uint8)
+
+
+def chroma(colours: Any, luminance: Any) -> List[Any]:
+    """Cb and Cr, from -127.5 to 127.5 (ITU-R BT.601)."""
+    return [(colours[..., 2] - luminance) / 1.772, (colours[..., 0] - luminance) / 1.402]
+
+
+class Levels:
+    """Chroma in levels from 0 on, each half as far from the next as the levels of the luminance,
+    with one at no colour."""
+
+    def __init__(self, plane: Any, luminances: int) -> None:
+        numpy, _ = numpy_and_pillow()
+        self.step = 127.5 / min(luminances - 1, 127)
+        nearest = numpy.rint(plane / self.step).astype(numpy.int64)
+        self.least = int(nearest.min())
+        self.count = int(nearest.max()) - self.least + 1
+        self.samples = nearest - self.least
+
+    def values(self, labels: Any) -> Any:
+        """The chroma of levels."""
+        return (labels.astype(int) + self.least) * self.step
+
+
+class Mixture:
+    """Gaussians of the colours of one kind of seeds, by k-means."""
+
+    def __init__(self, colours: Any) -> None:
+        numpy, image_class = numpy_and_pillow()
+        row = image_class.fromarray(numpy.ascontiguousarray(colours[None]))
+        parts = numpy.asarray(row.quantize(PARTS, kmeans=1))[0]
+        self.gaussians = []
+        for part in numpy.unique(parts):
+            inside = colours[parts == part].astype(float)
+            centre = inside.mean(axis=0)
+            apart = inside - centre
+            covariance = apart.T @ apart / len(inside) + SPREAD * numpy.eye(3)
+            share = (1 - ELSEWHERE) * len(inside) / len(colours)
+            height = share / math.sqrt((2 * math.pi) ** 3 * numpy.linalg.det(covariance))
+            self.gaussians.append((height, centre, numpy.linalg.inv(covariance)))
+
+    def costs(self, colours: Any) -> Any:
+        """The negative log likelihood of colours in twentieths of a nat, in whole numbers."""
+        numpy, _ = numpy_and_pillow()
+        likely = numpy.full(len(colours), ELSEWHERE / 256 ** 3)
+        for height, centre, inverse in self.gaussians:
+            apart = colours - centre
+            likely += height * numpy.exp(-0.5 * ((apart @ inverse) * apart).sum(axis=1))
+        return numpy.rint(-UNIT * numpy.log(likely)).astype(numpy.int64)
+
+
+def model_costs(colours: Any, labels: Any) -> Any:
+    """What each of the two segments costs each pixel, by the colours of those that are labelled 1
+    and 2; the lesser of the two is 0 (Boykov and Jolly 2001)."""
+    numpy, _ = numpy_and_pillow()
+    flat = colours.reshape(-1, 3)
+    both = numpy.stack([Mixture(flat[labels.ravel() == kind]).costs(flat) for kind in (1, 2)],
+                       axis=-1)
+    both -= both.min(axis=1, keepdims=True)
+    return both.reshape(*labels.shape, 2)
+
+
+def usual_edge(colours: Any) -> int:
+    """The root of the mean square difference of the colours of neighbours, at least 1."""
+    numpy, _ = numpy_and_pillow()
+    wide = colours.astype(int)
+    squares = [((wide[:, 1:] - wide[:, :-1]) ** 2).sum(axis=2).ravel(),
+               ((wide[1:] - wide[:-1]) ** 2).sum(axis=2).ravel()]
+    together = numpy.concatenate(squares)
+    return max(1, int(round(math.sqrt(together.mean())))) if together.size else 1
+
+
+def contrast_pairs(colours: Any, strong: int, weak: int, edge: int, neighbours: int) -> Any:
+    """Pairs of the weight strong * exp(-d^2 / (2 edge^2)) over their distance, to the nearest whole
+    number and at least `weak`, d being how far the colours of the two pixels are apart (Boykov and
+    Jolly 2001)."""
+    numpy, _ = numpy_and_pillow()
+    height, width = colours.shape[:2]
+    pairs = grid_pairs(width, height, 1, neighbours)
+    flat = colours.reshape(-1, 3).astype(int)
+    apart = ((flat[pairs[:, 0]] - flat[pairs[:, 1]]) ** 2).sum(axis=1)
+    across = (pairs[:, 1] // width > pairs[:, 0] // width) \
+        & (pairs[:, 1] % width != pairs[:, 0] % width)
+    weights = strong * numpy.exp(-apart / (2.0 * edge * edge))
+    weights = numpy.where(across, weights / math.sqrt(2), weights)
+    pairs[:, 2] = numpy.maximum(numpy.rint(weights), weak)
+    return pairs
