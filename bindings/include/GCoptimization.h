@@ -20,7 +20,8 @@
 // - An expansion over a smooth cost that is no metric is refused if a term is not regular.
 // - A swap is refused if a label cost is above 0. With lists of sites it takes all sites of its
 //   two labels.
-// - Labels are taken in rising order: setLabelOrder takes that order alone.
+// - A random order of labels is the rising one, so that the answer is one. The order of a list is
+//   made move by move.
 // - setVerbosity(1) prints each cycle, and setVerbosity(2) each move, by a call for each.
 // Not there: setLabelSubsetCost, and more than 1,048,576 sites or 256 labels.
 #ifndef GCO_GCOPTIMIZATION_H
@@ -205,21 +206,28 @@ public:
                       "setLabelCost(costs)");
     }
 
-    // the order of the moves
+    // the order of the moves: rising where a random one is asked for, so that the answer is one;
+    // and that of a list, of all labels or of some
     void setLabelOrder(bool is_random) {
-        if (is_random)
-            throw GCException(
-                "a random order of labels is not there, labels are taken in rising order: for "
-                "another order "
-                "call alpha_expansion(label) or alpha_beta_swap(label, label) yourself, in a loop");
+        order_.clear();
+        is_ordered_ = false;
+        if (is_random && verbosity_ >= 1)
+            std::printf("gco: labels are taken in rising order, and not in a random one\n");
     }
     void setLabelOrder(const LabelID *order, LabelID size) {
-        bool is_rising = size == label_count_;
-        for (LabelID l = 0; is_rising && l < size; l++) is_rising = order[l] == l;
-        if (!is_rising)
-            throw GCException(
-                "labels are taken in rising order, each of them: for another order call "
-                "alpha_expansion(label) or alpha_beta_swap(label, label) yourself, in a loop");
+        in_memory([&] {
+            std::vector<LabelID> listed(order, order + std::max(size, 0));
+            std::vector<bool> is_listed(label_total());
+            for (LabelID label : listed) {
+                check_label(label);
+                if (is_listed[std::size_t(label)])
+                    throw GCException("the order of labels has label " + std::to_string(label) +
+                                      " twice");
+                is_listed[std::size_t(label)] = true;
+            }
+            order_.swap(listed);
+        });
+        is_ordered_ = size != label_count_ || !std::is_sorted(order_.begin(), order_.end());
     }
 
     EnergyType expansion(int cycles = -1) {
@@ -543,7 +551,8 @@ private:
             return "the smooth costs of " + names(pair.first, pair.second) +
                    " are not in proportion to those of " + names(other.first, other.second) +
                    ": gco takes smooth costs that are a weight of the two sites times "
-                   "one table of the labels";
+                   "one table of the labels. If the product is rounded, round the weight first: "
+                   "(int)(lambda * exp(-d * d / s)) * min(abs(a - b), T)";
         }
 
         const GCoptimization &of;
@@ -661,10 +670,11 @@ private:
         // a cycle of moves; yes where one changed a label
         bool cycle(std::uint32_t moves) {
             bool is_changed = false;
-            for (LabelID a = 0; a < of.label_count_; a++) {
-                if (moves == GCO_EXPANSION) is_changed |= expand(a);
-                for (LabelID b = a + 1; moves == GCO_SWAP && b < of.label_count_; b++)
-                    is_changed |= swap(a, b);
+            const LabelID count = of.order_count();
+            for (LabelID i = 0; i < count; i++) {
+                if (moves == GCO_EXPANSION) is_changed |= expand(of.ordered(i));
+                for (LabelID j = i + 1; moves == GCO_SWAP && j < count; j++)
+                    is_changed |= swap(of.ordered(i), of.ordered(j));
             }
             return is_changed;
         }
@@ -672,25 +682,40 @@ private:
     };
 
     EnergyType run(std::uint32_t moves, int cycles) {
-        if (verbosity_ < 1)
+        if (verbosity_ < 1 && !is_ordered_)
             return Run(*this).make(moves, cycles < 0 ? GCO_ALL_CYCLES : std::uint32_t(cycles));
+        const std::vector<std::uint32_t> before(labels_);
+        try {
+            return run_by_cycles(moves, cycles);
+        } catch (...) {
+            std::copy(before.begin(), before.end(), labels_.begin());
+            throw;
+        }
+    }
+    EnergyType run_by_cycles(std::uint32_t moves, int cycles) {
         Run calls(*this);
         EnergyType energy = calls.make(moves, 0);
         print("start", energy);
-        std::unique_ptr<Moves> single(verbosity_ >= 2 ? new Moves(*this) : nullptr);
+        std::unique_ptr<Moves> single(verbosity_ >= 2 || is_ordered_ ? new Moves(*this) : nullptr);
+        const bool takes_all = order_count() == label_count_;
         std::uint32_t made = 0;
         for (bool is_settled = false; !is_settled && (cycles < 0 || made < std::uint32_t(cycles));
              made++) {
             if (single) is_settled = !single->cycle(moves);
-            // a cycle that changes nothing is made again by one call, which tells the bound
-            energy = calls.make(moves, single && !is_settled ? 0 : 1);
-            is_settled = outcome_.settled != 0;
+            // a cycle of all labels that changes nothing is made again by one call, which tells
+            // the bound
+            energy = calls.make(moves, single && !(is_settled && takes_all) ? 0 : 1);
+            if (takes_all) is_settled = outcome_.settled != 0;
+            outcome_.settled = is_settled;
             print("cycle " + std::to_string(made + 1), energy);
         }
         outcome_.cycles = made;
         return energy;
     }
+    LabelID order_count() const { return is_ordered_ ? LabelID(order_.size()) : label_count_; }
+    LabelID ordered(LabelID at) const { return is_ordered_ ? order_[std::size_t(at)] : at; }
     void print(const std::string &what, EnergyType energy) const {
+        if (verbosity_ < 1) return;
         std::printf("gco: %s: energy %lld (data %lld, smooth %lld, label %lld)\n", what.c_str(),
                     energy, static_cast<EnergyType>(outcome_.data + shift_),
                     static_cast<EnergyType>(outcome_.smooth),
@@ -705,6 +730,8 @@ private:
     SmoothFunction smooth_function_;
     DataKind data_kind_ = DataKind::none;
     std::vector<std::uint32_t> labels_;
+    std::vector<LabelID> order_;
+    bool is_ordered_ = false;
     gco_outcome outcome_ = gco_outcome();
     EnergyType shift_ = 0;
     int verbosity_ = 0;

@@ -21,6 +21,8 @@ static const char moves[] = "gco: start: energy 60 (data 60, smooth 0, label 0)\
                             "gco:   expansion of label 3: energy 3 (data 0, smooth 3, label 0)\n"
                             "gco: cycle 2: energy 3 (data 0, smooth 3, label 0)\n";
 
+static const char note[] = "gco: labels are taken in rising order, and not in a random one\n";
+
 // four sites in a row; a label costs 10 for each step that it is below its site, 10,000 above
 static long long run(int level, gco_outcome &told) {
     GCoptimizationGridGraph gc(4, 1, 4);
@@ -44,11 +46,16 @@ int main(int, char **arguments) {
         WANT(told.cycles == quiet.cycles && told.settled == 1 && told.vmin == quiet.vmin &&
              told.vmax == quiet.vmax);
     }
+    // a random order is told as what it is
+    GCoptimizationGridGraph(1, 1, 2).setLabelOrder(true);
+    GCoptimizationGridGraph noted(1, 1, 2);
+    noted.setVerbosity(1);
+    noted.setLabelOrder(true);
     std::fclose(stdout);
     std::ifstream file(arguments[1]);
     std::ostringstream printed;
     printed << file.rdbuf();
-    if (printed.str() != std::string(cycles) + moves) {
+    if (printed.str() != std::string(cycles) + moves + note) {
         std::fprintf(stderr, "%s: other lines\n%s", __FILE__, printed.str().c_str());
         return 1;
     }

@@ -29,7 +29,8 @@ int main() {
     WANT(throws<GCException>(
         "the smooth costs of sites 3 and 0 are not in proportion to those of sites 1 and 0: gco "
         "takes smooth costs "
-        "that are a weight of the two sites times one table of the labels",
+        "that are a weight of the two sites times one table of the labels. If the product is "
+        "rounded, round the weight first: (int)(lambda * exp(-d * d / s)) * min(abs(a - b), T)",
         [&] { gc.expansion(); }, message_of<GCException>));
     for (int s = 0; s < 6; s++) WANT(gc.whatLabel(s) == 0);   // a refusal leaves the labels
     gc.setSmoothCost(edge, &stack);

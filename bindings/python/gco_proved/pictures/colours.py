@@ -5,13 +5,14 @@ from typing import Any, List
 from ..grids import grid_pairs
 from .words import numpy_and_pillow
 
-UNIT = 20           # the costs of one nat: a border of two like pixels at --strong 1000 costs 50 nats
+UNIT = 20           # the costs of one nat: at --strong 1000 two like pixels cost 50 nats
 PARTS = 5           # Gaussians for the colours of one kind (Rother, Kolmogorov and Blake 2004)
 SPREAD = 25.0       # the least variance of a colour in a Gaussian: five of 255
 ELSEWHERE = 0.01    # how much of a kind's colours may be any colour
 
 
-def with_luminance(colours: Any, luminance: Any, restored: Any, blue: Any = 0, red: Any = 0) -> Any:
+def with_luminance(colours: Any, luminance: Any, restored: Any, blue: Any = 0,
+                   red: Any = 0) -> Any:
     """The colours after their luminance has become `restored`, by as much in red, green and blue,
     so that Cb and Cr stay; `blue` and `red` are what is added to Cb and Cr (ITU-R BT.601)."""
     numpy, _ = numpy_and_pillow()

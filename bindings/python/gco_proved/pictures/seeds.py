@@ -75,9 +75,9 @@ def _by_brightness(picture):
 
 
 def _many(picture, count):
-    return (f"{picture.name} has {count} greys, and seeds have three (nothing, first segment, second"
-            " segment): draw without soft edges and save as PNG, or draw the first in red and the"
-            " second in blue")
+    return (f"{picture.name} has {count} greys, and seeds have three (nothing, first segment,"
+            " second segment): draw without soft edges and save as PNG, or draw the first in red"
+            " and the second in blue")
 
 
 def _painted_on(samples, photograph):
