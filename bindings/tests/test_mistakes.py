@@ -118,6 +118,35 @@ def words():
         refused(gco.Refused, gco.label, DATA, POTTS, np.array([[0, 1, 1], [3, 4, 2000]]), status=14, says="sites 3 and 4")
 
 
+def scaled():
+    """label with scale=True: costs with fractions and below 0, as the whole ones; inf for never; and what is no cost."""
+    if np is None:
+        refused(ImportError, gco.label, DATA, POTTS, EDGES, scale=True, says="numpy")
+        return
+    whole = gco.label(DATA, POTTS, [(*edge, 2) for edge in EDGES], label_costs=[3, 1, 2])
+    for part, pairs in ((0.25, [(*edge, 0.5) for edge in EDGES]), (0.5, np.array([(*edge, 1.0) for edge in EDGES])), (1, [(*edge, 2) for edge in EDGES])):
+        smooth = np.array(POTTS) * part / (pairs[0][2] / 2)
+        found = gco.label(np.array(DATA) * part, smooth, pairs, label_costs=np.array([3, 1, 2]) * part, scale=True)
+        assert isinstance(found, gco.Scaled) and flat(found.labels) == flat(whole.labels) and found.exact, (part, found)
+        assert found.energy == whole.energy * part, (found, whole)
+    # below 0, without weights, and a shape
+    shifted = gco.label(np.array(DATA).reshape(5, 3) - 4, POTTS, EDGES, scale=True)
+    plain = gco.label(DATA, POTTS, EDGES)
+    assert flat(shifted.labels) == flat(plain.labels) and shifted.energy == plain.energy - 20
+    assert gco.label(np.zeros((2, 2, 2)), gco.potts(2), gco.grid_pairs(2, 2), scale=True).labels.shape == (2, 2)
+    # never: by hand, site 1 takes label 1, since 2 has no limit and 0 costs more
+    forbidden = np.array([[0.5, 3], [9, 1.25], [0.5, 3]])
+    forbidden[1, 0] = np.inf
+    found = gco.label(forbidden, gco.potts(2), [(0, 1, 0.25), (1, 2, 0.25)], scale=True)
+    assert flat(found.labels) == [0, 1, 0] and found.energy == 0.5 + 1.25 + 0.5 + 0.5
+    refused(TypeError, gco.label, np.array(DATA) / 2, POTTS, EDGES, says="scale")
+    refused(ValueError, gco.label, np.full((2, 2), np.nan), gco.potts(2), [], scale=True, says="data: a cost is no number")
+    refused(ValueError, gco.label, np.zeros((2, 2)), gco.potts(2), [(0, 1, -0.5)], scale=True, says="below 0")
+    refused(ValueError, gco.label, np.zeros((2, 2)), gco.potts(2), [(0, 1)], label_costs=[-0.5, 1], scale=True, says="label_costs: -0.5 is below 0")
+    refused(TypeError, gco.label, np.zeros((2, 2)), gco.potts(2), [(0, 0.5, 1)], scale=True, says="a site is a whole number")
+    refused(gco.Refused, gco.label, np.zeros((2, 2)) + 0.5, gco.potts(2), [(0, 7)], scale=True, status=10)
+
+
 def graphs():
     g = gco.Graph()
     nodes = g.add_nodes(3)
@@ -130,8 +159,7 @@ def graphs():
     refused(ValueError, g.add_edge, 0, 3, 1, 1, says="there is no node 3: the nodes are 0 to 2")
     refused(TypeError, g.add_edge, 0, 1, 0.5, 0, says="scale and round")
     refused(TypeError, g.add_edge, 0, 1.0, 1, 0, says="a node")
-    refused(TypeError, gco.GraphFloat, says="scale and round")
-    refused(TypeError, lambda: gco.Graph[float], says=("Graph[float]", "scale and round"))
+    refused(TypeError, lambda: gco.Graph[complex], says=("Graph[complex]", "Graph[float] is wanted"))
     assert g.get_edge_count() == 0
     g.add_tedge(0, 5, 1)
     assert g.maxflow() == 1 and [g.get_segment(node) for node in range(3)] == [0, 0, 0]
@@ -230,6 +258,7 @@ if __name__ == "__main__":
     shapes()
     kinds()
     words()
+    scaled()
     graphs()
     pickles()
     stopped_by_progress()

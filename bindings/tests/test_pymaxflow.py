@@ -2,6 +2,7 @@
 import itertools
 import random
 import sys
+import warnings
 
 if "--without-numpy" in sys.argv:
     sys.modules["numpy"] = None
@@ -26,8 +27,7 @@ def two_nodes():
         assert copy.maxflow() == 8 and made.maxflow() == 9 + 2 - 2 and made.get_segment(first) == 0
         made.reset()
         assert made.get_node_count() == 0
-    refused(TypeError, maxflow.GraphFloat, 2, 2, says="scale and round")
-    refused(TypeError, lambda: maxflow.Graph[float](2, 2), says="scale and round")
+    refused(TypeError, lambda: maxflow.Graph[str], says="Graph[int] or Graph[float]")
 
 
 def rows(table):
@@ -53,34 +53,41 @@ def grids(count):
     """Grids of one to three sides, each edge by the definition: from a node to that at an offset, its weight times the structure's number."""
     rng = random.Random(11)
     for turn in range(count):
-        shape = rng.choice([(4,), (7,), (2, 3), (3, 3), (1, 5), (2, 2, 2), (1, 2, 3), (3, 1, 2)])
+        shape = rng.choice([(4,), (7,), (2, 3), (3, 3), (1, 5), (2, 2, 2), (1, 2, 3), (3, 1, 2), (2, 1, 2, 2)])
         size = 1
         for side in shape:
             size *= side
         weights, source, sink = ([rng.randrange(6) for _ in range(size)] for _ in range(3))
         around = rng.choice(["plain", "structure", "sides of 5"])
         symmetric = rng.random() < 0.4
+        rounds = [rng.random() < 0.4 for _ in shape]
+        periodic = rounds if rng.random() < 0.5 else rounds[0]
+        rounds = rounds if isinstance(periodic, list) else [periodic] * len(shape)
+        kind = rng.choice([int, float])
+        part = 1 if kind is int else 0.25
         box = (5,) * len(shape) if around == "sides of 5" else (3,) * len(shape)
         numbers = [rng.choice([0, 0, 1, 2]) for _ in range(box[0] ** len(shape))]
-        g = maxflow.Graph[int]()
+        g = maxflow.Graph[kind]()
         g.add_nodes(2)
         ids = g.add_grid_nodes(shape[0] if len(shape) == 1 else shape)
         assert flat_ids(ids) == list(range(2, size + 2))
         if around == "plain":
             numbers = [int(sum(map(abs, at)) == 1 and (not symmetric or sum(at) == 1)) for at in itertools.product((-1, 0, 1), repeat=len(shape))]
-            g.add_grid_edges(ids, shaped(weights, shape), symmetric=symmetric)
+            g.add_grid_edges(ids, shaped([part * x for x in weights], shape), symmetric=symmetric, periodic=periodic)
         else:
-            g.add_grid_edges(ids, weights=shaped(weights, shape), structure=shaped(numbers, box), symmetric=symmetric)
-        g.add_grid_tedges(ids, shaped(source, shape), shaped(sink, shape))
+            g.add_grid_edges(ids, weights=shaped([part * x for x in weights], shape), structure=shaped(numbers, box), symmetric=symmetric, periodic=periodic)
+        g.add_grid_tedges(ids, shaped([part * x for x in source], shape), shaped([part * x for x in sink], shape))
         places = list(itertools.product(*map(range, shape)))
         edges = []
         for node, at in enumerate(places):
             for number, offset in zip(numbers, itertools.product(*(range(-(side // 2), side // 2 + 1) for side in box))):
-                over = tuple(one + step for one, step in zip(at, offset))
-                if number and any(offset) and over in places:
+                over = tuple((one + step) % side if around else one + step for one, step, side, around in zip(at, offset, shape, rounds))
+                if number and any(offset) and over in places and over != at:
                     edges.append((node, places.index(over), number * weights[node], number * weights[node] if symmetric else 0))
         value, bits = least_cut(size, [(node, source[node], sink[node]) for node in range(size)], edges)
-        assert g.maxflow() == value, (turn, shape, around, symmetric)
+        assert g.maxflow() == value * part, (turn, shape, around, symmetric, rounds)
+        cut = g.maxflow(return_scale=True)
+        assert (cut.flow, cut.exact) == (value * part, True) and cut.scale in ((1,) if kind is int else (1, 2, 4)), cut
         segments = g.get_grid_segments(ids)
         assert [int(one) for one in maxflow.flattened(rows(segments))] == list(bits), (turn, shape)
         assert [g.get_segment(node + 2) for node in range(size)] == list(bits)
@@ -146,21 +153,95 @@ def wrong():
     refused(ValueError, g.add_grid_edges, ids, 1, [[0, 1], [1, 0]], says="odd sides")
     refused(ValueError, g.add_grid_edges, ids, 1, [0, 0, 1], says="2 odd sides")
     refused(TypeError, g.add_grid_edges, ids, 1, [[0, 0, 0], [0, 0, 0.5], [0, 0, 0]], says="structure")
-    refused(ValueError, g.add_grid_nodes, (2, 2, 2, 2), says="one to three sides")
+    refused(ValueError, g.add_grid_nodes, (1,) * 9, says="one to 8 sides")
+    refused(ValueError, g.add_grid_edges, ids, periodic=[True], says="yes or no for each of 2 sides")
     refused(ValueError, g.add_grid_tedges, ids, [[1, 2]] * 2, 0, says="(2, 3)")
     refused(ValueError, g.add_grid_edges, ids, [[1, 2]] * 2, says="(2, 3)")
     refused(gco_refused(), g.add_grid_edges, ids, 2000000000, status=14, says="2,000,000,000")
     refused(gco_refused(), g.add_grid_tedges, ids, 2000000000, 0, status=14, says="2,000,000,000")
-    refused(NotImplementedError, g.add_grid_edges, ids, 1, periodic=True, says="add_edge")
     if np is not None:
         refused(TypeError, g.add_grid_edges, ids, np.ones((2, 3)), says="scale and round")
-        refused(TypeError, g.add_grid_tedges, ids, np.ones((2, 3)) / 2, 0, says="scale and round")
+        refused(TypeError, g.add_grid_tedges, ids, np.ones((2, 3)) / 2, 0, says="write Graph[float]")
         refused(ValueError, g.add_grid_tedges, ids + 1, 1, 0, says="no node 6")
     assert g.maxflow() == 0
 
 
 def gco_refused():
     return maxflow.Refused
+
+
+def fractions(count):
+    """Graph[float]: what has a fraction of a power of two is cut exactly, and else as near as the scale says; inf is never cut."""
+    inf = float("inf")
+    rng = random.Random(23)
+    for turn in range(count):
+        size, part = rng.randrange(1, 7), rng.choice([1, 0.5, 2.0 ** -20, 3.0])
+        tedges = [(node, rng.randrange(9), rng.randrange(9)) for node in range(size)]
+        edges = [(*rng.sample(range(size), 2), rng.randrange(9), rng.randrange(9)) for _ in range(2 * size)] if size > 1 else []
+        value, bits = least_cut(size, tedges, edges)
+        g = maxflow.Graph[float](size, len(edges))
+        g.add_nodes(size)
+        for node, source, sink in tedges:
+            g.add_tedge(node, source * part, sink * part)
+        for first, second, there, back in edges:
+            g.add_edge(first, second, there * part, back * part)
+        cut = g.copy().maxflow(return_scale=True)
+        assert cut.flow == value * part and cut.exact and cut.scale in (1, 2, *(2 ** power for power in range(3, 21) if part < 0.5)), (cut, part)
+        assert cut.flow == g.maxflow() and [g.get_segment(node) for node in range(size)] == list(bits), turn
+        # tenths have no power of two: near, and told
+        tenths = maxflow.GraphFloat()
+        tenths.add_nodes(size)
+        for node, source, sink in tedges:
+            tenths.add_tedge(node, source / 10, sink / 10)
+        for first, second, there, back in edges:
+            tenths.add_edge(first, second, there / 10, back / 10)
+        cut = tenths.maxflow(return_scale=True)
+        assert abs(cut.flow - value / 10) < 1e-6 and (cut.exact or cut.scale > 1e8)
+    # three nodes in a row, by hand: the first is the source's and the last the sink's, whatever it costs; the cut takes 0.3
+    g = maxflow.Graph[float]()
+    g.add_nodes(3)
+    g.add_tedge(0, inf, 0.7)
+    g.add_tedge(2, 0.1, inf)
+    g.add_edge(0, 1, 0.3, 0)
+    g.add_edge(1, 2, 1e6 + 0.5, inf)
+    cut = g.maxflow(return_scale=True)
+    assert abs(cut.flow - 1.1) < 1e-9 and not cut.exact and [g.get_segment(node) for node in range(3)] == [0, 1, 1]
+    g.add_edge(0, 2, inf, 0)
+    refused(OverflowError, g.maxflow, says="without limit")
+    for wrong, kind in ((float("nan"), ValueError), (-inf, ValueError), ("1", TypeError), (None, TypeError)):
+        refused(kind, g.add_tedge, 0, wrong, 1, says="node 0")
+        refused(kind, g.add_edge, 0, 1, wrong, 1, says="nodes 0 and 1")
+    refused(gco_refused(), g.add_edge, 0, 1, -0.5, 0.25, status=20, says="together below 0")
+    huge = maxflow.Graph[float]()
+    huge.add_nodes(2)
+    huge.add_tedge(0, 3e15, 0)
+    huge.add_tedge(1, 0, 2e15)
+    huge.add_edge(0, 1, 5e14, 0)
+    cut = huge.maxflow(return_scale=True)
+    assert cut.flow == 5e14 and cut.scale < 1
+    if np is not None:
+        ids = g.add_grid_nodes((2, 2))
+        refused(ValueError, g.add_grid_edges, ids, np.array([[1, np.nan], [1, 1]]), says="no number")
+        refused(ValueError, g.add_grid_edges, ids, np.array([[1, np.inf], [1, 1]]), says="no limit")
+        refused(ValueError, g.add_grid_tedges, ids, np.nan, 1, says="no number")
+        h = maxflow.Graph[float]()
+        ids = h.add_grid_nodes((1, 3))
+        h.add_grid_edges(ids, 0.5)
+        h.add_grid_tedges(ids, np.array([[np.inf, 0, 0]]), np.array([[0, 0.25, np.inf]]))
+        assert h.maxflow() == 0.5 and h.get_grid_segments(ids).tolist() == [[False, True, True]]
+    # what asks for an earlier search changes nothing, and says so
+    for call in (lambda: g.mark_node(0), lambda: h_of().maxflow(reuse_trees=True)):
+        with warnings.catch_warnings(record=True) as told:
+            warnings.simplefilter("always")
+            call()
+        assert [str(one.message) for one in told] == ["each maxflow() is found from scratch: mark_node and reuse_trees change nothing"], told
+    refused(ValueError, g.mark_node, 99, says="there is no node 99")
+
+
+def h_of():
+    g = maxflow.Graph[int]()
+    g.add_nodes(1)
+    return g
 
 
 def networkx():
@@ -213,12 +294,23 @@ def fastmin(count):
     refused(ValueError, maxflow.aexpansion_grid, np.zeros((2, 2, 3)), np.zeros((2, 2)), says="binary: one cost")
     refused(ValueError, maxflow.aexpansion_grid, np.zeros((2, 2, 3)), np.zeros((3, 3)), labels=np.zeros((2, 3), dtype=int), says="labels: one for each place")
     refused(ValueError, maxflow.aexpansion_grid, np.zeros((2, 2, 3)), np.zeros((3, 3)), labels=np.full((2, 2), 3), says="labels are 0 to 2")
-    refused(ValueError, maxflow.aexpansion_grid, np.full((2, 2, 3), np.nan), np.zeros((3, 3)), says="unary")
+    refused(ValueError, maxflow.aexpansion_grid, np.full((2, 2, 3), np.nan), np.zeros((3, 3)), says="unary: a cost is no number")
+    refused(ValueError, maxflow.aexpansion_grid, np.full((2, 2, 3), -np.inf), np.zeros((3, 3)), says="unary: a cost has no limit")
+    refused(ValueError, maxflow.aexpansion_grid, np.zeros((2, 2, 3)), np.full((3, 3), np.inf), says="binary: a cost has no limit")
+    refused(ValueError, maxflow.aexpansion_grid, [[np.inf, 0], [np.inf, np.inf]], np.zeros((2, 2)), says="each label has no limit at site 1")
+    # a label without limit is never taken: by hand, the middle place alone cannot have label 1, whose borders cost 2 each
+    for step, wanted in ((1, [1, 0, 1]), (0.3, [1, 0, 1])):
+        told = maxflow.aexpansion_grid(np.array([[9, 0], [0, np.inf], [9, 0]]) * step, np.array([[0, 2], [2, 0]]) * step, return_scale=True)
+        assert flat(told.labels) == wanted and abs(told.energy - 4 * step) < 1e-9 and told.exact == (step == 1)
+    walled = np.array([[1e7, 0]] * 9).reshape(3, 3, 2)
+    walled[1, 1] = (0, np.inf)
+    refused(OverflowError, maxflow.aexpansion_grid, walled, np.array([[0, 1], [1, 0]]) * 1e7, says=("label 1 has no limit at site 4", "all the same"))
 
 
 two_nodes()
 structures()
-grids(150)
+grids(200)
+fractions(60)
 layout()
 restoration()
 wrong()

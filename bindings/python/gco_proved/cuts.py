@@ -1,4 +1,5 @@
 """The calls of gco-wrapper and pygco: labels of graphs and pictures by their names."""
+import math
 from typing import Any, Optional, Union
 
 from . import arrays
@@ -25,6 +26,8 @@ def solved(unary: Any, pairwise: Any, pairs: Any, weights: Any, n_iter: int, alg
     found = label(costs.unary, costs.pairwise, pairs(costs.weights), moves=algorithm,
                   cycles=cycles_of(n_iter), start=init_labels)
     labels = found.labels
+    if found.settled:
+        costs.look_at(labels)
     if not return_scale:
         return labels
     energy = found.energy
@@ -44,6 +47,39 @@ def energy_of(unary: Any, pairwise: Any, pairs: Any, weights: Any, labels: Any) 
     return total.item()
 
 
+def label_by_scale(data: Any, smooth: Any, pairs: Any, label_costs: Any, **more: Any) -> Scaled:
+    """gco.label of costs with fractions or below 0, and of inf in `data` for never."""
+    numpy = arrays.numpy
+    if numpy is None:
+        raise ImportError("scale: costs with a fraction are scaled with numpy alone: pip install"
+                          " numpy")
+    unary, pairwise = costs_of(data, "data", never=True), costs_of(smooth, "smooth")
+    count = math.isqrt(pairwise.size)
+    unary = unary.reshape(-1, count) if unary.ndim == 1 and count else unary
+    rows = arrays.taken(pairs, "pairs")
+    rows = rows if arrays.is_array(rows) else [(*pair, 1)[:3] for pair in rows]
+    table = costs_of(rows, "pairs")
+    table = table.reshape(len(table), -1) if table.size else table.reshape(0, 3)
+    if table.shape[1] not in (2, 3):
+        raise ValueError(f"pairs: rows of two sites and a weight are wanted, and the shape is"
+                         f" {table.shape}")
+    if (table[:, :2] != numpy.rint(table[:, :2])).any():
+        raise TypeError("pairs: a site is a whole number")
+    ends = table[:, :2].astype(numpy.int64)
+    weights = table[:, 2] if table.shape[1] == 3 else numpy.ones(len(table), dtype=int)
+    own = None if label_costs is None else costs_of(label_costs, "label_costs")
+    costs = whole_costs(unary, pairwise.reshape(count, count), weights, label_costs=own)
+    found = label(costs.unary, costs.pairwise, numpy.column_stack([ends, costs.weights]),
+                  label_costs=costs.label_costs, **more)
+    if found.settled:
+        costs.look_at(found.labels)
+    energy = energy_of(unary, pairwise.reshape(count, count),
+                       lambda _: numpy.column_stack([ends, ends[:, 0]]), weights, found.labels)
+    if own is not None:
+        energy += own[numpy.unique(found.labels)].sum().item()
+    return Scaled(found.labels, energy, costs.scale, costs.exact)
+
+
 def cut_general_graph(edges: Any, edge_weights: Any, unary_cost: Any, pairwise_cost: Any,
                       n_iter: int = -1, algorithm: str = "expansion", init_labels: Any = None,
                       down_weight_factor: Optional[float] = None,
@@ -53,7 +89,8 @@ def cut_general_graph(edges: Any, edge_weights: Any, unary_cost: Any, pairwise_c
     Costs below 0 are shifted, and costs with a fraction are scaled (gco_proved.scaling says how).
     `return_scale` asks for a Scaled in place of the labels.
     """
-    unary, pairwise = costs_of(unary_cost, "unary_cost"), costs_of(pairwise_cost, "pairwise_cost")
+    unary = costs_of(unary_cost, "unary_cost", never=True)
+    pairwise = costs_of(pairwise_cost, "pairwise_cost")
     weights = costs_of(edge_weights, "edge_weights")
     edges = arrays.taken(edges, "edges")
     shape, count = shape_of(edges, "edges"), shape_of(weights, "edge_weights")
@@ -91,7 +128,8 @@ def cut_grid_graph(unary_cost: Any, pairwise_cost: Any, cost_v: Any, cost_h: Any
     `cost_v` has shape (height - 1, width), `cost_h` (height, width - 1), and `cost_dr` and
     `cost_dl`, of the neighbours below at the right and at the left, (height - 1, width - 1).
     """
-    unary, pairwise = costs_of(unary_cost, "unary_cost"), costs_of(pairwise_cost, "pairwise_cost")
+    unary = costs_of(unary_cost, "unary_cost", never=True)
+    pairwise = costs_of(pairwise_cost, "pairwise_cost")
     height, width = _sides(unary)
     names = {"down": cost_v, "right": cost_h, "down_right": cost_dr, "down_left": cost_dl}
     said = {"down": "cost_v", "right": "cost_h", "down_right": "cost_dr", "down_left": "cost_dl"}
@@ -136,7 +174,8 @@ def cut_grid_graph_simple(unary_cost: Any, pairwise_cost: Any, n_iter: int = -1,
                           down_weight_factor: Optional[float] = None,
                           return_scale: bool = False) -> Labels:
     """The labels, height x width, of a picture whose neighbours all have the weight 1."""
-    unary, pairwise = costs_of(unary_cost, "unary_cost"), costs_of(pairwise_cost, "pairwise_cost")
+    unary = costs_of(unary_cost, "unary_cost", never=True)
+    pairwise = costs_of(pairwise_cost, "pairwise_cost")
     height, width = _sides(unary)
     if down_weight_factor is not None and arrays.numpy is not None:
         weights = arrays.numpy.ones(len(grid_pairs(width, height, connect=connect)), dtype=int)
@@ -164,7 +203,7 @@ def cut_simple_vh(unary_cost: Any, pairwise_cost: Any, cost_v: Any, cost_h: Any,
                   algorithm: str = "expansion") -> Any:
     """pygco's call: `cost_v` and `cost_h` have a weight for each pixel, (height, width), of the
     pair with the pixel below it and at its right; the last row and column are not used."""
-    unary = costs_of(unary_cost, "unary_cost")
+    unary = costs_of(unary_cost, "unary_cost", never=True)
     height, width = _sides(unary)
     cut = []
     for costs, what, rows, columns in ((cost_v, "cost_v", height - 1, width),

@@ -24,7 +24,7 @@ def _tables(unary, binary, labels, needed=False):
     """The costs, and the labels to start from, after a look at the shapes."""
     if arrays.numpy is None:
         raise ImportError("fastmin: numpy is wanted: pip install numpy")
-    unary, binary = costs_of(unary, "unary"), costs_of(binary, "binary")
+    unary, binary = costs_of(unary, "unary", never=True), costs_of(binary, "binary")
     if unary.ndim < 2:
         raise ValueError("unary: costs of shape (.., labels) are wanted, and the shape is"
                          f" {unary.shape}")

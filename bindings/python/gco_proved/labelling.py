@@ -181,7 +181,7 @@ def _move(told):
 
 def label(data: Any, smooth: Any, pairs: Any, *, label_costs: Any = None,
           moves: str = "expansion", cycles: Optional[int] = None, start: Any = None,
-          progress: Any = None, stoppable: Optional[bool] = None) -> Found:
+          progress: Any = None, stoppable: Optional[bool] = None, scale: bool = False) -> Any:
     """Makes moves from a labelling, 0 everywhere if no `start` is given, until a cycle changes
     nothing or `cycles` are done.
 
@@ -198,7 +198,15 @@ def label(data: Any, smooth: Any, pairs: Any, *, label_costs: Any = None,
     Ctrl-C stops a run that is `stoppable` after the move that is being made: the KeyboardInterrupt
     has what was found till then as `partial`, which is None before the first move. A run is
     stoppable if it has 4,194,304 data costs or more, where nothing else is said. It takes longer.
+
+    `scale` lets costs and weights have fractions, and costs be below 0; inf in `data` is a label
+    that is never taken. They are shifted and scaled as gco_proved.scaling says, and the answer is a
+    Scaled in place of a Found. Energies that `progress` is told are those of the whole numbers.
     """
+    if scale:
+        from .cuts import label_by_scale
+        return label_by_scale(data, smooth, pairs, label_costs, moves=moves, cycles=cycles,
+                              start=start, progress=progress, stoppable=stoppable)
     try:
         return _labelled(data, smooth, pairs, label_costs, moves, cycles, start, progress,
                          stoppable)

@@ -1,4 +1,4 @@
-"""A minimum cut under the names of PyMaxflow, in whole numbers.
+"""A minimum cut under the names of PyMaxflow: Graph[int] in whole numbers, Graph[float] by scaling.
 
     import gco_proved.maxflow as maxflow
     g = maxflow.Graph[int]()
@@ -6,7 +6,8 @@
 import array
 import itertools
 import math
-from typing import Any, Dict, List, Tuple
+import warnings
+from typing import Any, Dict, List, NamedTuple, Tuple
 
 from . import arrays, fastmin
 from ._library import VALUE_LIMIT
@@ -14,14 +15,24 @@ from .arrays import is_array, numbers, shape_of, taken, whole
 from .fastmin import abswap_grid, aexpansion_grid, energy_of_grid_labeling
 from .minimum import least
 from .refusals import Refused
-from .structures import INFINITE, flattened, moore_structure, nested, offsets_of
+from .structures import INFINITE, flattened, moore_structure, nested, offsets_of, sides_of
 from .structures import vonNeumann_structure
 
 __all__ = ["Graph", "GraphInt", "GraphFloat", "vonNeumann_structure", "moore_structure", "fastmin",
            "aexpansion_grid", "abswap_grid", "energy_of_grid_labeling"]
 
-NO_FRACTIONS = "gco cuts in whole numbers: scale and round the capacities, as by" \
-    " numpy.rint(1000 * capacities).astype(int), and write Graph[int]"
+NO_FRACTIONS = "Graph[int] has whole capacities: write Graph[float], which scales them, or scale" \
+    " and round them, as by numpy.rint(1000 * capacities).astype(int)"
+FROM_SCRATCH = "each maxflow() is found from scratch: mark_node and reuse_trees change nothing"
+
+
+class Cut(NamedTuple):
+    """The least capacity of a cut, and by what power of two the capacities were multiplied before
+    they were rounded; `exact` says that nothing was rounded."""
+
+    flow: Any
+    scale: float
+    exact: bool
 
 
 class Graph:
@@ -29,8 +40,10 @@ class Graph:
 
     maxflow() is the least capacity of a cut. get_segment(node) is 1 where the node is on the sink's
     side of the cut with the fewest nodes there, else 0. An infinite capacity is an edge that no cut
-    takes.
+    takes. Graph[float] is a GraphFloat.
     """
+
+    _code, _fractions = "q", False
 
     def __init__(self, est_node_num: int = 0, est_edge_num: int = 0) -> None:
         whole(est_node_num, 0, 2**63 - 1, "est_node_num")
@@ -38,13 +51,15 @@ class Graph:
         self.reset()
 
     def __class_getitem__(cls, kind: type) -> type:
-        if kind is int:
-            return cls
-        raise TypeError(f"Graph[{getattr(kind, '__name__', kind)}]: {NO_FRACTIONS}")
+        if kind not in (int, float):
+            raise TypeError(f"Graph[{getattr(kind, '__name__', kind)}]: Graph[int] or Graph[float]"
+                            " is wanted")
+        return GraphInt if kind is int else GraphFloat
 
     def reset(self) -> None:
         """Takes all nodes and edges away."""
-        self._ones, self._twos, self._nodes = array.array("q"), array.array("q"), 0
+        self._ones, self._twos = array.array(self._code), array.array(self._code)
+        self._nodes = 0
         self._infinite: List[Tuple[int, int]] = []  # -1 is the source and -2 the sink
         self._bits: Any = None
 
@@ -65,11 +80,9 @@ class Graph:
         return arrays.numpy.arange(first, self._nodes)
 
     def add_grid_nodes(self, shape: Any) -> Any:
-        """Adds the nodes of a grid of one to three sides (or of one number), and answers them."""
+        """Adds the nodes of a grid of one to eight sides (or of one number), and answers them."""
         sides = (shape,) if hasattr(shape, "__index__") else tuple(shape)
-        sides = tuple(whole(side, 0, 2**31, "a side of the grid") for side in sides)
-        if not 1 <= len(sides) <= 3:
-            raise ValueError(f"a grid has one to three sides, and not {len(sides)}")
+        sides = sides_of(tuple(whole(side, 0, 2**31, "a side of the grid") for side in sides))
         ids = self.add_nodes(math.prod(sides))
         return nested(ids, sides) if arrays.numpy is None else ids.reshape(sides)
 
@@ -154,8 +167,11 @@ class Graph:
         source = self._capacities(sourcecaps, ids, "sourcecaps", lambda node: (-1, node))
         sink = self._capacities(sinkcaps, ids, "sinkcaps", lambda node: (node, -2))
         rows = arrays.numpy.column_stack([ids.ravel(), sink.ravel(), source.ravel()])
-        self._ones.frombytes(rows.tobytes())
+        self._add_rows(self._ones, rows)
         self._bits = None
+
+    def _add_rows(self, terms, rows):
+        terms.frombytes(rows.astype({"q": "int64", "d": "float64"}[self._code]).tobytes())
 
     def _capacities(self, caps, ids, what, ends):
         """The capacities of an array of nodes; those without a limit are kept by their ends."""
@@ -171,7 +187,12 @@ class Graph:
             return numpy.where(infinite, VALUE_LIMIT, finite).astype(numpy.int64)
         if caps.dtype.kind == "f":
             raise TypeError(f"{what}: {NO_FRACTIONS}")
-        caps = numbers(caps, what)
+        return self._within(numbers(caps, what), ids, what)
+
+    @staticmethod
+    def _within(caps, ids, what):
+        """The capacities, if each is within its limit."""
+        numpy = arrays.numpy
         if caps.size and not -VALUE_LIMIT <= int(caps.min()) <= int(caps.max()) <= VALUE_LIMIT:
             place = numpy.argmax((caps > VALUE_LIMIT) | (caps < -VALUE_LIMIT))
             raise Refused(14, words=f"{what}: node {ids.ravel()[place]} has the capacity"
@@ -179,69 +200,80 @@ class Graph:
         return caps
 
     def add_grid_edges(self, nodeids: Any, weights: Any = 1, structure: Any = None,
-                       symmetric: bool = False, periodic: bool = False) -> None:
+                       symmetric: bool = False, periodic: Any = False) -> None:
         """Edges from each node of a grid to those that `structure` names, by default its
         neighbours along each axis. The capacity is the node's weight times what stands there.
-        `symmetric`: the same capacity back."""
-        if periodic:
-            raise NotImplementedError("add_grid_edges: a grid is not joined at its borders here:"
-                                      " add those edges by add_edge")
-        shape = shape_of(taken(nodeids, "nodes"), "nodes")
-        if not 1 <= len(shape) <= 3:
-            raise ValueError(f"a grid has one to three sides, and not {len(shape)}")
+        `symmetric`: the same capacity back. `periodic`: the grid's last nodes are beside its first
+        ones, along each axis, or along those that a list of yes and no names."""
+        shape = sides_of(shape_of(taken(nodeids, "nodes"), "nodes"))
         if structure is None:
             structure = vonNeumann_structure(len(shape), directed=bool(symmetric))
-        ways = offsets_of(structure, len(shape))
+        ways = _paired(offsets_of(structure, len(shape), self._fractions), symmetric)
         add = self._add_listed_edges if arrays.numpy is None else self._add_array_edges
         ids = taken(nodeids, "nodes") if arrays.numpy is None else self._nodes_of(nodeids)
-        add(ids, shape, weights, _paired(ways, symmetric), symmetric)
+        add(ids, shape, weights, ways, symmetric, _rounds(periodic, len(shape)))
         self._bits = None
 
-    def _add_array_edges(self, ids, shape, weights, ways, symmetric):
+    def _weights(self, weights, shape):
         numpy = arrays.numpy
         weights = numpy.asarray(taken(weights, "weights") if hasattr(weights, "__iter__")
                                 else weights)
         if weights.dtype.kind not in "iu":
             raise TypeError(f"weights: {NO_FRACTIONS}")
-        weights = _broadcast(numbers(weights, "weights"), shape, "weights")
+        return _broadcast(numbers(weights, "weights"), shape, "weights")
+
+    def _add_array_edges(self, ids, shape, weights, ways, symmetric, rounds):
+        numpy = arrays.numpy
+        weights = self._weights(weights, shape)
         for offset, (there, back) in ways.items():
-            here = tuple(slice(max(-one, 0), max(side - max(one, 0), 0))
-                         for one, side in zip(offset, shape))
-            over = tuple(slice(max(one, 0), max(side + min(one, 0), 0))
-                         for one, side in zip(offset, shape))
-            first, second = ids[here], ids[over]
-            rows = numpy.zeros((first.size, 5), dtype=numpy.int64)
-            rows[:, 0] = (first | second << 32).ravel()
-            rows[:, 2] = self._times(weights[here], there, first, second)
-            rows[:, 3] = self._times(weights[here if symmetric else over], back, second, first)
-            below = rows[:, 2] + rows[:, 3] < 0
-            if below.any():
-                place = int(numpy.argmax(below))
-                raise Refused(20, words=f"the edge of nodes {first.ravel()[place]} and"
-                              f" {second.ravel()[place]} has capacities that are together below 0")
-            self._twos.frombytes(rows.tobytes())
+            here, over = [numpy.arange(ids.size).reshape(shape)] * 2
+            for axis, (step, around) in enumerate(zip(offset, rounds)):
+                over = numpy.roll(over, -step, axis=axis)
+                kept = numpy.arange(shape[axis])
+                if not around:
+                    kept = kept[(kept + step >= 0) & (kept + step < shape[axis])]
+                here, over = here.take(kept, axis=axis), over.take(kept, axis=axis)
+            here, over = here.ravel(), over.ravel()
+            here, over = here[here != over], over[here != over]
+            self._add_edges_between(ids.ravel(), weights.ravel(), here, over, there, back,
+                                    symmetric)
+
+    def _add_edges_between(self, ids, weights, here, over, there, back, symmetric):
+        """Edges of the places `here` and `over`."""
+        numpy = arrays.numpy
+        first, second = ids[here], ids[over]
+        rows = numpy.zeros((first.size, 5), dtype={"q": "int64", "d": "float64"}[self._code])
+        rows[:, 0] = first | second << 32
+        rows[:, 2] = self._times(weights[here], there, first, second)
+        rows[:, 3] = self._times(weights[here if symmetric else over], back, second, first)
+        below = rows[:, 2] + rows[:, 3] < 0
+        if below.any():
+            place = int(numpy.argmax(below))
+            raise Refused(20, words=f"the edge of nodes {first[place]} and {second[place]} has"
+                          " capacities that are together below 0")
+        self._twos.frombytes(rows.tobytes())
 
     def _times(self, weights, factor, first, second):
         """The capacities of edges: weights times what stands in the structure."""
         if factor == INFINITE:
-            ends = zip(first.ravel().tolist(), second.ravel().tolist())
-            self._infinite += list(ends)
+            self._infinite += list(zip(first.tolist(), second.tolist()))
             return VALUE_LIMIT
         most = max((abs(int(weights.min())), abs(int(weights.max())))) if weights.size else 0
         if most * abs(factor) > VALUE_LIMIT:
             place = int(abs(weights).argmax())
-            raise Refused(14, words=f"the edge of nodes {first.ravel()[place]} and"
-                          f" {second.ravel()[place]} has the capacity {most * abs(factor):,}: a"
-                          " capacity is at most 1,000,000,000")
-        return (weights * factor).ravel()
+            raise Refused(14, words=f"the edge of nodes {first[place]} and {second[place]} has"
+                          f" the capacity {most * abs(factor):,}: a capacity is at most"
+                          " 1,000,000,000")
+        return weights * factor
 
-    def _add_listed_edges(self, ids, shape, weights, ways, symmetric):
+    def _add_listed_edges(self, ids, shape, weights, ways, symmetric, rounds):
         nodes, caps = flattened(ids), _spread(weights, shape, "weights")
         steps = [math.prod(shape[axis + 1:]) for axis in range(len(shape))]
         for place, at in enumerate(itertools.product(*map(range, shape))):
             for offset, (there, back) in ways.items():
-                over = [one + step for one, step in zip(at, offset)]
-                if not all(0 <= one < side for one, side in zip(over, shape)):
+                over = [(one + step) % side if around else one + step
+                        for one, step, side, around in zip(at, offset, shape, rounds)]
+                if tuple(over) == at or not all(0 <= one < side for one, side in zip(over, shape)):
                     continue
                 other = sum(one * step for one, step in zip(over, steps))
                 returned = caps[place if symmetric else other]
@@ -249,10 +281,26 @@ class Graph:
                               there if there == INFINITE else caps[place] * there,
                               back if back == INFINITE else returned * back)
 
-    def maxflow(self, reuse_trees: bool = False) -> int:
-        """The least capacity of a cut. It is found anew each time."""
+    def mark_node(self, i: int) -> None:
+        """Changes nothing, and says so: each cut is found from scratch."""
+        self._node(i)
+        warnings.warn(FROM_SCRATCH, stacklevel=2)
+
+    def maxflow(self, reuse_trees: bool = False, return_scale: bool = False) -> Any:
+        """The least capacity of a cut, found from scratch each time. `return_scale` asks for a Cut
+        in its place."""
+        if reuse_trees:
+            warnings.warn(FROM_SCRATCH, stacklevel=2)
+        flow, scale, exact = self._found()
+        return Cut(flow, scale, exact) if return_scale else flow
+
+    def _found(self):
+        return self._least(self._ones, self._twos), 1.0, True
+
+    def _least(self, ones, twos):
+        """The least value of the terms, whose assignment is kept."""
         try:
-            value, bits = least(self._nodes, 0, self._ones, self._twos, array.array("q"))
+            value, bits = least(self._nodes, 0, ones, twos, array.array("q"))
         except Refused as refused:
             raise self._in_words(refused) from None
         side = [*bits, 1, 0] if self._infinite else []  # -2 is the sink and -1 the source
@@ -300,10 +348,11 @@ class Graph:
         capacities: Dict[Tuple[Any, Any], int] = {}
         for place in range(0, len(self._ones), 3):
             node, sink, source = self._ones[place:place + 3]
-            for ends, cap in ((("s", node), source), ((node, "t"), sink)):
+            for ends, cap in ((("s", int(node)), source), ((int(node), "t"), sink)):
                 capacities[ends] = capacities.get(ends, 0) + cap
         for place in range(0, len(self._twos), 5):
             ends_of, _, there, back, _ = self._twos[place:place + 5]
+            ends_of = int(ends_of)
             first, second = ends_of & 0xffffffff, ends_of >> 32
             for ends, cap in (((first, second), there), ((second, first), back)):
                 capacities[ends] = capacities.get(ends, 0) + cap
@@ -316,11 +365,149 @@ class Graph:
 GraphInt = Graph
 
 
-class GraphFloat:
-    """Not there: gco cuts in whole numbers."""
+class GraphFloat(Graph):
+    """Graph[float]: capacities with fractions, which are multiplied by one power of two and rounded
+    to the nearest before the cut.
 
-    def __init__(self, *_numbers: Any) -> None:
-        raise TypeError(f"GraphFloat: {NO_FRACTIONS}")
+    The power is the least from 1 on that leaves no fraction, and else the greatest that keeps each
+    capacity within 1,000,000,000. If an edge has no limit, all others together stay below that. The
+    flow is the capacity of the cut in the caller's own numbers.
+    """
+
+    _code, _fractions = "d", True
+
+    def _capacity(self, cap: Any, ends: Tuple[int, int], words: str) -> Any:
+        if isinstance(cap, (str, bytes, bool)) or not hasattr(cap, "__float__"):
+            raise TypeError(f"{words}: a number is wanted, and not {type(cap).__name__}")
+        number = float(cap)
+        if number != number or number == -INFINITE:
+            raise ValueError(f"{words}: {number} is no capacity")
+        if number == INFINITE:
+            self._infinite.append(ends)
+            return 0.0
+        return number
+
+    def _capacities(self, caps, ids, what, ends):
+        caps = _broadcast(_floats(caps, what), ids.shape, what)
+        infinite = arrays.numpy.isposinf(caps)
+        self._infinite += [ends(int(node)) for node in ids[infinite]]
+        return arrays.numpy.where(infinite, 0.0, caps)
+
+    def _weights(self, weights, shape):
+        weights = _broadcast(_floats(weights, "weights"), shape, "weights")
+        if arrays.numpy.isposinf(weights).any():
+            raise ValueError("weights: one has no limit: write it into the structure, or add that"
+                             " edge by add_edge")
+        return weights
+
+    def _times(self, weights, factor, first, second):
+        if factor == INFINITE:
+            self._infinite += list(zip(first.tolist(), second.tolist()))
+            return 0.0
+        return weights * factor
+
+    def _found(self):
+        caps = self._finite()
+        sizes = [abs(cap) for cap in caps] if arrays.numpy is None else abs(caps)
+        if self._infinite:  # it is to cost more than each cut that takes no such edge
+            scale, exact = _scale(caps, sum(sizes), VALUE_LIMIT // 2)
+        else:
+            scale, exact = _scale(caps, max(sizes, default=0), VALUE_LIMIT)
+        ones, twos = _scaled(self._ones, 3, scale), _scaled(self._twos, 5, scale)
+        for first, second in self._infinite:
+            if second == -2:
+                ones.extend((first, VALUE_LIMIT, 0))
+            elif first == -1:
+                ones.extend((second, 0, VALUE_LIMIT))
+            else:
+                twos.extend((first | second << 32, 0, VALUE_LIMIT, 0, 0))
+        self._least(ones, twos)
+        return self._flow(), scale, exact
+
+    def _finite(self):
+        """All capacities that have a limit."""
+        if arrays.numpy is None:
+            return [*self._ones[1::3], *self._ones[2::3], *self._twos[2::5], *self._twos[3::5]]
+        ones = arrays.numpy.frombuffer(self._ones).reshape(-1, 3)[:, 1:]
+        twos = arrays.numpy.frombuffer(self._twos).reshape(-1, 5)[:, 2:4]
+        return arrays.numpy.concatenate([ones.ravel(), twos.ravel()])
+
+    def _flow(self):
+        """The capacity of the cut that was found, in the caller's numbers."""
+        if arrays.numpy is not None:
+            return self._flow_of_arrays()
+        bits, flow = self._bits, 0.0
+        for place in range(0, len(self._ones), 3):
+            node, sink, source = self._ones[place:place + 3]
+            flow += source if bits[int(node)] else sink
+        for place in range(0, len(self._twos), 5):
+            ends, _, there, back, _ = self._twos[place:place + 5]
+            first, second = bits[int(ends) & 0xffffffff], bits[int(ends) >> 32]
+            flow += there if second > first else back if first > second else 0.0
+        return flow
+
+    def _flow_of_arrays(self):
+        numpy = arrays.numpy
+        side = numpy.frombuffer(self._bits, dtype=numpy.uint8) == 1
+        ones = numpy.frombuffer(self._ones).reshape(-1, 3)
+        twos = numpy.frombuffer(self._twos).reshape(-1, 5)
+        at, ends = side[ones[:, 0].astype(int)], twos[:, 0].astype(int)
+        first, second = side[ends & 0xffffffff], side[ends >> 32]
+        flow = numpy.where(at, ones[:, 2], ones[:, 1]).sum()
+        flow += (twos[:, 2] * (~first & second) + twos[:, 3] * (first & ~second)).sum()
+        return float(flow)
+
+
+def _floats(values, what):
+    """Numbers with fractions as an array of numpy; no number and -inf are refused."""
+    numpy = arrays.numpy
+    table = numpy.asarray(taken(values, what) if hasattr(values, "__iter__") else values)
+    if table.dtype.kind not in "iuf":
+        raise TypeError(f"{what}: numbers are wanted, and not {table.dtype}")
+    table = table.astype(float)
+    if numpy.isnan(table).any() or numpy.isneginf(table).any():
+        raise ValueError(f"{what}: a capacity is no number, or has no limit below 0")
+    return table
+
+
+def _scale(caps, most, limit):
+    """The power of two that capacities are multiplied by so that `most` comes to the limit at most,
+    and whether that leaves no fraction."""
+    if not most > 0:
+        return 1.0, True
+    power = min(math.floor(math.log2(limit / most)), 1000)
+    if not _is_whole(caps, 2.0 ** power):
+        return 2.0 ** power, False
+    least = 0 if power >= 0 else power
+    while not _is_whole(caps, 2.0 ** least):
+        least += 1
+    return 2.0 ** least, True
+
+
+def _is_whole(caps, scale):
+    if arrays.numpy is not None:
+        return bool((caps * scale == arrays.numpy.rint(caps * scale)).all())
+    return all(cap * scale == round(cap * scale) for cap in caps)
+
+
+def _scaled(terms, size, scale):
+    """Terms of whole numbers: what stands first in each names its nodes."""
+    if arrays.numpy is not None:
+        rows = arrays.numpy.frombuffer(terms).reshape(-1, size).copy()
+        rows[:, 1:] = arrays.numpy.rint(rows[:, 1:] * scale)
+        return array.array("q", rows.astype("int64").tobytes())
+    return array.array("q", (int(number) if place % size == 0 else round(number * scale)
+                             for place, number in enumerate(terms)))
+
+
+def _rounds(periodic, count):
+    """For each axis whether the grid's last nodes are beside its first ones."""
+    rounds = [bool(one) for one in periodic] if hasattr(periodic, "__iter__") \
+        else [bool(periodic)] * count
+    if len(rounds) != count:
+        raise ValueError(f"periodic: yes or no for each of {count} sides is wanted, and there are"
+                         f" {len(rounds)}")
+    return rounds
 
 
 def _paired(ways, symmetric) -> Dict[Tuple[int, ...], Tuple[Any, Any]]:

@@ -50,9 +50,9 @@ class GCO:
         if not self._there:
             raise RuntimeError("GCO: create_general_graph or create_grid_graph comes first")
 
-    def _costs(self, values, what):
+    def _costs(self, values, what, never=False):
         self._asked()
-        costs = costs_of(values if hasattr(values, "__iter__") else [values], what)
+        costs = costs_of(values if hasattr(values, "__iter__") else [values], what, never)
         if costs.dtype.kind == "f" and self._kind is int:
             raise TypeError(f"{what}: costs with a fraction want energy_is_float=True when the"
                             " graph is made")
@@ -60,7 +60,7 @@ class GCO:
 
     def set_data_cost(self, unary_cost: Any) -> None:
         """All unary costs, of shape (sites, labels), or of a picture (height, width, labels)."""
-        costs = self._costs(unary_cost, "unary_cost")
+        costs = self._costs(unary_cost, "unary_cost", never=True)
         shape = self._unary.shape
         if costs.ndim < 2 or costs.shape[-1] != shape[1] or costs.size != self._unary.size:
             raise ValueError(f"unary_cost: costs of shape {shape} are wanted, and the shape is"
@@ -69,7 +69,7 @@ class GCO:
 
     def set_site_data_cost(self, site: int, label: int, e: Any) -> None:  # noqa: A002
         """One unary cost."""
-        cost = self._costs(e, "e")
+        cost = self._costs(e, "e", never=True)
         self._unary[self._site(site), self._label(label)] = cost[0]
 
     def set_neighbor_pair(self, s1: int, s2: int, w: Any) -> None:

@@ -34,10 +34,25 @@ class Costs(NamedTuple):
     weights: Any
     scale: float
     exact: bool
+    label_costs: Any = None
+    never: Any = None  # where a unary cost has no limit
+
+    def look_at(self, labels: Any) -> None:
+        """Refuses labels of a settled run of which one is never to be taken."""
+        if self.never is None:
+            return
+        flat = labels.reshape(-1).astype(int)
+        taken_anyway = self.never.reshape(len(flat), -1)[arrays.numpy.arange(len(flat)), flat]
+        if taken_anyway.any():
+            site = int(taken_anyway.argmax())
+            raise OverflowError(f"label {flat[site]} has no limit at site {site} and is taken there"
+                                " all the same: what it saves comes to more than 10,000,000, which"
+                                " stands for no limit")
 
 
-def costs_of(values: Any, what: str) -> Any:
-    """Costs as an array of numpy, whole or with fractions; without numpy as they are given."""
+def costs_of(values: Any, what: str, never: bool = False) -> Any:
+    """Costs as an array of numpy, whole or with fractions; without numpy as they are given. If
+    `never` is given, a cost without limit is a label that is never taken."""
     values = taken(values, what)
     if arrays.numpy is None:
         run_of(values, "q", what)
@@ -47,8 +62,10 @@ def costs_of(values: Any, what: str) -> Any:
     if table.size == 0 and table.dtype.kind == "f" and not arrays.is_array(values):
         table = table.astype(int)
     if table.dtype.kind == "f":
-        if not arrays.numpy.isfinite(table).all():
-            raise ValueError(f"{what}: a cost is no number or has no limit: give a great one")
+        if arrays.numpy.isnan(table).any():
+            raise ValueError(f"{what}: a cost is no number (nan)")
+        if arrays.numpy.isneginf(table).any() or not (never or arrays.numpy.isfinite(table).all()):
+            raise ValueError(f"{what}: a cost has no limit: give a great one")
         return table.astype(float)
     if table.dtype.kind == "O":  # numbers that numpy has no kind for: too large ones, or none
         run_of(values, "q", what)
@@ -57,8 +74,9 @@ def costs_of(values: Any, what: str) -> Any:
 
 
 def whole_costs(unary: Any, pairwise: Any, weights: Any,
-                down_weight_factor: Optional[float] = None) -> Costs:
-    """The whole costs of a problem by the rule above; `weights` may be None, for 1 everywhere."""
+                down_weight_factor: Optional[float] = None, label_costs: Any = None) -> Costs:
+    """The whole costs of a problem by the rule above; `weights` may be None, for 1 everywhere, and
+    `label_costs`, which are scaled as unary costs are, for none."""
     if arrays.numpy is None:
         if down_weight_factor is not None:
             raise TypeError("down_weight_factor: costs with a fraction are scaled with numpy alone:"
@@ -70,20 +88,41 @@ def whole_costs(unary: Any, pairwise: Any, weights: Any,
         if not down_weight_factor > 0:
             raise ValueError(f"down_weight_factor: {down_weight_factor} is not above 0")
         unary, weights = unary / down_weight_factor, weights / down_weight_factor
+    unary, never = _limited(unary)
     unary, pairwise = _shifted(unary, pairwise)
-    if all(table.dtype.kind != "f" for table in (unary, pairwise, weights)):
+    own = numpy.zeros(0, dtype=int) if label_costs is None else label_costs
+    if all(table.dtype.kind != "f" for table in (unary, pairwise, weights, own)):
         pairwise, weights = _balanced(pairwise, weights)
-        return Costs(unary, pairwise, weights, 1.0, True)
-    if weights.size and weights.min() < 0:
-        raise ValueError(f"weights: {weights.min()} is below 0: a weight is from 0 on")
-    by_pairwise, by_weight = _powers(unary, pairwise, weights)
+        return Costs(unary, pairwise, weights, 1.0, True, label_costs)
+    for table, what in ((weights, "weights: {} is below 0: a weight is from 0 on"),
+                        (own, "label_costs: {} is below 0: a label cost is from 0 on")):
+        if table.size and table.min() < 0:
+            raise ValueError(what.format(table.min()))
+    by_site = numpy.concatenate([unary.ravel(), own.ravel()])
+    by_pairwise, by_weight = _powers(by_site, pairwise, weights, never)
     scale = by_pairwise * by_weight
     whole = (numpy.rint(unary * scale), numpy.ceil(pairwise * by_pairwise - 1e-6),
-             numpy.rint(weights * by_weight))
+             numpy.rint(weights * by_weight), numpy.rint(own * scale))
     exact = bool((whole[0] == unary * scale).all() and (whole[1] == pairwise * by_pairwise).all()
-                 and (whole[2] == weights * by_weight).all())
-    data, smooth, weighed = (table.astype(numpy.int64) for table in whole)
-    return Costs(data, smooth, weighed, scale / (down_weight_factor or 1), exact)
+                 and (whole[2] == weights * by_weight).all() and (whole[3] == own * scale).all())
+    data, smooth, weighed, labels = (table.astype(numpy.int64) for table in whole)
+    if never is not None:
+        data[never] = DATA_LIMIT
+    return Costs(data, smooth, weighed, scale / (down_weight_factor or 1), exact,
+                 None if label_costs is None else labels, never)
+
+
+def _limited(unary):
+    """The costs with the least of their site in the place of each that has no limit; and where
+    those are, if there are some."""
+    numpy = arrays.numpy
+    if unary.dtype.kind != "f" or not numpy.isposinf(unary).any():
+        return unary, None
+    never = numpy.isposinf(unary)
+    none_left = never.all(axis=-1).ravel()
+    if none_left.any():
+        raise ValueError(f"unary: each label has no limit at site {int(none_left.argmax())}")
+    return numpy.where(never, unary.min(axis=-1, keepdims=True), unary), never
 
 
 def _shifted(unary, pairwise):
@@ -147,9 +186,11 @@ def _least_exact(table, most):
     return 2.0 ** great
 
 
-def _powers(unary, pairwise, weights):
-    """The powers of two of pairwise costs and of weights."""
-    most = _most(unary, DATA_LIMIT), _most(pairwise, SMOOTH_LIMIT), _most(weights, WEIGHT_LIMIT)
+def _powers(unary, pairwise, weights, never):
+    """The powers of two of pairwise costs and of weights. If some label is `never` to be taken, the
+    unary costs with fractions come to a sixty-fourth of what stands for no limit."""
+    limit = DATA_LIMIT if never is None or _is_whole(unary, 1.0) else DATA_LIMIT // 64
+    most = _most(unary, limit), _most(pairwise, SMOOTH_LIMIT), _most(weights, WEIGHT_LIMIT)
     exact = [_least_exact(table, power)
              for table, power in zip((unary, pairwise, weights), most)]
     scale = min(most[0], most[1] * most[2])

@@ -6,12 +6,13 @@ from . import arrays
 from .arrays import shape_of, taken
 
 INFINITE = float("inf")
+SIDES = 8  # the most that a grid may have
 Offset = Tuple[int, ...]
 
 
 def _table(ndim: int, wanted) -> Any:
     """A table of sides 3 with a 1 at each offset that is wanted."""
-    ndim = arrays.whole(ndim, 1, 3, "ndim")
+    ndim = arrays.whole(ndim, 1, SIDES, "ndim")
     flat = [int(wanted(offset)) for offset in itertools.product((-1, 0, 1), repeat=ndim)]
     if arrays.numpy is not None:
         return arrays.numpy.array(flat).reshape((3,) * ndim)
@@ -45,7 +46,14 @@ def flattened(values: Any) -> List[Any]:
     return [number for row in values for number in flattened(row)]
 
 
-def offsets_of(structure: Any, ndim: int) -> List[Tuple[Offset, Any]]:
+def sides_of(shape: Tuple[int, ...]) -> Tuple[int, ...]:
+    """The sides of a grid, one to eight of them."""
+    if not 1 <= len(shape) <= SIDES:
+        raise ValueError(f"a grid has one to {SIDES} sides, and not {len(shape)}")
+    return shape
+
+
+def offsets_of(structure: Any, ndim: int, fractions: bool) -> List[Tuple[Offset, Any]]:
     """Each offset at which the structure is not 0, and what stands there."""
     structure = taken(structure, "structure")
     shape = shape_of(structure, "structure")
@@ -57,11 +65,13 @@ def offsets_of(structure: Any, ndim: int) -> List[Tuple[Offset, Any]]:
     for place, at in enumerate(itertools.product(*map(range, shape))):
         offset = tuple(one - side // 2 for one, side in zip(at, shape))
         if flat[place] and any(offset):
-            found.append((offset, _value(flat[place], offset)))
+            found.append((offset, _value(flat[place], offset, fractions)))
     return found
 
 
-def _value(value, offset):
+def _value(value, offset, fractions):
+    if fractions and not isinstance(value, bool) and value == value and value != -INFINITE:
+        return float(value)
     if value == INFINITE or (not isinstance(value, bool) and int(value) == value):
         return INFINITE if value == INFINITE else int(value)
     raise TypeError(f"structure: {value} stands at {offset}: whole numbers are wanted (or inf):"
