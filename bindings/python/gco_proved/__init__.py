@@ -5,7 +5,8 @@ whole numbers.
     found = gco.label(data, smooth, pairs)   # sites x labels, labels x labels, [(p, q, weight), ..]
     found.labels, found.energy
 
-Costs are whole numbers: those with a fraction are a TypeError (label takes scale=True), those beyond their bits an
+Costs are whole numbers: those with a fraction are a TypeError (label takes scale=True), those
+beyond their bits an
 OverflowError, those beyond gco's limits a Refused, a wrong shape a ValueError, and none wraps.
 numpy arrays are taken and given where numpy is there, and lists and array.array else. A call holds
 no lock of Python while it runs, and calls in several threads do not meet.

@@ -19,9 +19,13 @@
 //! ```
 
 mod calls;
+mod grids;
 mod refusal;
+mod scaling;
 
+pub use grids::{grid_pairs, Neighbours};
 pub use refusal::Refusal;
+pub use scaling::{scale, Scaled, Unscalable};
 
 /// Two sites, numbered from 0, and the weight of their term. A pair that stands twice counts twice.
 #[repr(C)]
