@@ -9,13 +9,14 @@
 # Others may be named:
 #   GCO=path/of/gco                the built program
 #   CRATE=path/of/gco_c            the folder whose out/ has libgco_c.a
-#   GATE_LOG=path                  what `rt ci` printed: its last line goes into RELEASE.md
+#   GATE_LOG=path                  what `rt ci` printed: its last line goes into RELEASE.md; else
+#                                  gate.log, if it is there
 #   PYTHON=path                    a Python with numpy and Pillow; else that of the path if it has
 #                                  them, and Debian's if not
 VERSION := $(shell cat VERSION)
 GCO ?= crates/gco/out/gco
 CRATE ?=
-GATE_LOG ?=
+GATE_LOG ?= $(wildcard gate.log)
 PREFIX ?= /usr/local
 DESTDIR ?=
 BENCH_OPTIONS ?=

@@ -14,12 +14,15 @@ glibc_wanted() {
         | sed -n 's/.*GLIBC_\([0-9][0-9.]*\).*/\1/p' | sort -Vu | tail -1
 }
 
-# The last line of the gate's log, or that there is none.
+# The last line of the gate's log, or that there is none. Another last line is no answer of a gate.
 gate_said() {
-    if [ -n "$GATE_LOG" ]; then
+    if [ -z "$GATE_LOG" ]; then
+        echo "not run for this release"
+    elif tail -n 1 "$GATE_LOG" | grep -Eqx '[0-9]+ passed, [0-9]+ failed'; then
         tail -n 1 "$GATE_LOG"
     else
-        echo "not run for this release"
+        echo "$GATE_LOG does not end with a line 'N passed, M failed': run rt ci to its end" >&2
+        exit 1
     fi
 }
 
@@ -61,7 +64,7 @@ put_top() {
     cp LICENSE-MIT LICENSE-APACHE VERSION release/install.sh "$stage"
     sed -e "s|@VERSION@|$VERSION|g" -e "s|@COMMIT@|$commit|" -e "s|@DATE@|$date|" \
         -e "s|@KIT@|$(kit_name)|" \
-        -e "s|@GATE@|$(gate_said)|" -e "s|@GLIBC@|$(glibc_wanted)|" \
+        -e "s|@GATE@|$gate|" -e "s|@GLIBC@|$(glibc_wanted)|" \
         -e "s|@WHEEL@|$(cd "$stage" && echo python/*.whl)|" \
         release/RELEASE.md.in > "$stage/RELEASE.md"
 }
@@ -71,6 +74,7 @@ put_sums() {
     find * -type f ! -name SHA256SUMS | LC_ALL=C sort | xargs sha256sum > SHA256SUMS
 }
 
+gate=$(gate_said)
 put_program
 put_pages
 put_top
