@@ -1,0 +1,20 @@
+use Rattle.vision.specs.Faults.{HasStereoError}
+use Rattle.vision.specs.Inputs.{IsStereoJob}
+use Rattle.gco_pictures.specs.Options.{stereo_numbers, stereo_options}
+use Rattle.gco_pictures.specs.Refusals.{alone}
+use Rattle.gco_pictures.proofs.InRange.{stereo_in_range}
+use Rattle.gco_pictures.proofs.Refusing.{command_refused}
+use Rattle.gco_pictures.proofs.making.stereo.Goals as goal
+
+pub run_stereo-requires-clause-options : goal.run_stereo-requires-clause-options
+run_stereo-requires-clause-options c = rw c.options-options.ensures (stereo_in_range c.args.given.now (rw c.numbers.ensures at c.in_default.ensures))
+
+pub returns-in-Ok-clause-within : goal.returns-in-Ok-clause-within
+returns-in-Ok-clause-within c = rw c.numbers.ensures at c.in_default.ensures
+
+pub returns-in-Err-clause-refused : goal.returns-in-Err-clause-refused
+returns-in-Err-clause-refused c =
+    let o = stereo_options c.args.given.now in
+    rw c.refusal_of.ensures
+    (command_refused (stereo_numbers c.args.given.now) (HasStereoError alone o c.args.input.now) (IsStereoJob o c.args.input.now) _ _ c.in-Err.error
+    (rw c.numbers.ensures at c.in_default.ensures) (rw c.options-options.ensures at c.in-Err.ensures.refused))
