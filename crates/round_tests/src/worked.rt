@@ -96,14 +96,25 @@ const THREADS: &[u32] = &[1, 2, 8];
 
 const BLOCKS: &[u32] = &[16, 256];
 
-/// How often workers ask their gate where they cut the net in each way; none where a cut is not the
-/// plain solver's.
-fn count_asked<R: Threads + Wait + Abort + AllocGlobal + Sync>(
+/// Whether workers of these options cut the net as the plain solver does, and ask their gate
+/// exactly where something flows.
+fn is_alike<R: Threads + Wait + Abort + AllocGlobal + Sync>(
     rt: &R,
     compiled: &Compiled,
     wanted: &Solved,
-) -> Result<Option<u32>, ParallelError> {
+    options: &Options,
+) -> Result<bool, ParallelError> {
     let gate = Diary::new(rt.alloc(), 0)?;
+    let is_plain = is_plain(rt, &compiled.net, wanted, options, &gate)?;
+    Ok(is_plain && (gate.count() > 0) == (wanted.value > 0))
+}
+
+/// Whether workers do so by each number of threads, in each number of blocks.
+fn are_alike<R: Threads + Wait + Abort + AllocGlobal + Sync>(
+    rt: &R,
+    compiled: &Compiled,
+    wanted: &Solved,
+) -> Result<bool, ParallelError> {
     for threads in THREADS {
         for blocks in BLOCKS {
             let options = Options {
@@ -111,38 +122,40 @@ fn count_asked<R: Threads + Wait + Abort + AllocGlobal + Sync>(
                 blocks: *blocks,
                 ..TWO
             };
-            if !is_plain(rt, &compiled.net, wanted, &options, &gate)? {
-                return Ok(None);
+            if !is_alike(rt, compiled, wanted, &options)? {
+                return Ok(false);
             }
         }
     }
-    Ok(Some(gate.count()))
+    Ok(true)
 }
 
-/// The same of a case; none where a cut does not show its minimum.
-fn asked_for<R: Threads + Wait + Abort + AllocGlobal + Sync>(
+/// Whether the cuts of a case are alike and show its minimum, and whether something flows in its
+/// net.
+fn is_right<R: Threads + Wait + Abort + AllocGlobal + Sync>(
     rt: &R,
     case: &Case,
-) -> Result<Option<u32>, Fail> {
+) -> Result<(bool, bool), Fail> {
     let energy = energy_of(rt.alloc(), case)?;
     let compiled = compile(rt.alloc(), check(&energy).expect(rt, "regular"))?;
     let wanted = solve(rt.alloc(), &compiled.net)?;
-    if !is_minimum(&compiled, &wanted, case) {
-        return Ok(None);
-    }
-    Ok(count_asked(rt, &compiled, &wanted)?)
+    let is_alike = are_alike(rt, &compiled, &wanted)?;
+    Ok((
+        is_alike && is_minimum(&compiled, &wanted, case),
+        wanted.value > 0,
+    ))
 }
 
-/// Each net has fewer nodes than blocks. Some have excess to move: there workers ask the gate.
+/// Each net has fewer nodes than blocks. In some of them something flows.
 #[test]
 fn worked_nets_end_alike(rt: HostRuntime) -> Result<(), Fail> {
-    let mut all = 0u32;
+    let mut any = false;
     for (place, case) in CASES.iter().enumerate() {
-        let asked = asked_for(&rt, case)?;
-        expect(&rt, "CASES", place, asked.is_some());
-        all = all.saturating_add(asked.unwrap_or(0));
+        let (is_right, flows) = is_right(&rt, case)?;
+        expect(&rt, "CASES", place, is_right);
+        any = any || flows;
     }
-    assert!(rt; all > 0);
+    assert!(rt; any);
     Ok(())
 }
 
