@@ -503,8 +503,6 @@ def impulse(folder):
 
 def fits(folder):
     Image.fromarray(np.tile(np.arange(1200, dtype=np.uint8), (1000, 1))).save(folder / "large.png")
-    text = said(1, "1,200 x 1,000 = 1,200,000 pixels", "--fit", "1,121 x 934", of=("restore", folder / "large.png", folder / "no.png", "--levels", 2))
-    assert text and not (folder / "no.png").exists()
     said(0, of=("restore", folder / "large.png", folder / "fits.png", "--levels", 2, "--cycles", 1, "--fit"))
     assert Image.open(folder / "fits.png").size == (1121, 934)
 

@@ -74,12 +74,17 @@ class Mixture:
 def model_costs(colours: Any, labels: Any) -> Any:
     """What each of the two segments costs each pixel, by the colours of those that are labelled 1
     and 2; the lesser of the two is 0 (Boykov and Jolly 2001)."""
+    flat = colours.reshape(-1, 3)
+    return costs_by_models(colours, [Mixture(flat[labels.ravel() == kind]) for kind in (1, 2)])
+
+
+def costs_by_models(colours: Any, models: List[Mixture]) -> Any:
+    """What each model costs each pixel; the least is 0."""
     numpy, _ = numpy_and_pillow()
     flat = colours.reshape(-1, 3)
-    both = numpy.stack([Mixture(flat[labels.ravel() == kind]).costs(flat) for kind in (1, 2)],
-                       axis=-1)
-    both -= both.min(axis=1, keepdims=True)
-    return both.reshape(*labels.shape, 2)
+    costs = numpy.stack([model.costs(flat) for model in models], axis=-1)
+    costs -= costs.min(axis=1, keepdims=True)
+    return costs.reshape(*colours.shape[:2], len(models))
 
 
 def usual_edge(colours: Any) -> int:
@@ -103,7 +108,13 @@ def contrast_pairs(colours: Any, strong: int, weak: int, edge: int, neighbours: 
     apart = ((flat[pairs[:, 0]] - flat[pairs[:, 1]]) ** 2).sum(axis=1)
     across = (pairs[:, 1] // width > pairs[:, 0] // width) \
         & (pairs[:, 1] % width != pairs[:, 0] % width)
+    pairs[:, 2] = contrast_weights(apart, across, strong, weak, edge)
+    return pairs
+
+
+def contrast_weights(apart: Any, across: Any, strong: int, weak: int, edge: int) -> Any:
+    """The weights of pairs whose colours are so far apart, squared; which of them lead across."""
+    numpy, _ = numpy_and_pillow()
     weights = strong * numpy.exp(-apart / (2.0 * edge * edge))
     weights = numpy.where(across, weights / math.sqrt(2), weights)
-    pairs[:, 2] = numpy.maximum(numpy.rint(weights), weak)
-    return pairs
+    return numpy.maximum(numpy.rint(weights), weak)

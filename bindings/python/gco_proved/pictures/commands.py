@@ -4,7 +4,7 @@ import pathlib
 import sys
 from typing import Any, Callable, List, NamedTuple, Optional, Tuple
 
-from . import colours, costs, plots, reading, running, seeds, writing
+from . import colours, costs, large, plots, reading, running, seeds, writing
 from .options import OF_COMMAND, settle
 from .reading import Picture
 from .words import Undecided, Wrong, numpy_and_pillow
@@ -42,6 +42,7 @@ def _inputs(options: argparse.Namespace, least: int, most: int) -> List[str]:
 def restore(options: argparse.Namespace) -> Task:
     (name,) = _inputs(options, 1, 1)
     picture = reading.fitted(reading.read_pictures(name)[0], options.fit)
+    picture = picture._replace(notes=(*picture.notes, *large.notes_of(options, picture)))
     settle(options)
     levels = options.levels or picture.maxval + 1
     if levels > 256:
@@ -50,9 +51,9 @@ def restore(options: argparse.Namespace) -> Task:
     samples = picture.samples
     if options.levels and levels != picture.maxval + 1:
         samples = costs.quantised(samples, picture.maxval, levels)
-    return Task(costs.restore_costs(samples, levels, options.cap),
+    return Task(large.restore_costs(samples, levels, options.cap),
                 costs.smooth_costs(options.smooth, levels, options.trunc),
-                costs.even_pairs(samples.shape, options.weight, options.neighbours or 4),
+                large.even_pairs(samples.shape, options.weight, options.neighbours or 4),
                 None if options.label_cost is None else [options.label_cost] * levels,
                 levels - 1, 16 if picture.maxval > 255 else 8, *_kept_colours(options, picture))
 
@@ -94,10 +95,11 @@ def stereo(options: argparse.Namespace) -> Task:
     shape = left.samples.shape
     if options.labels is None:
         options.labels = min(256, max(16, shape[1] // 8))
-    return Task(costs.stereo_costs(left.samples, right.samples, options.labels, options.cap),
+    return Task(large.stereo_costs(left.samples, right.samples, options.labels, options.cap),
                 costs.smooth_costs(options.smooth, options.labels, options.trunc),
-                costs.even_pairs(shape, options.weight, options.neighbours or 4), None,
-                options.labels - 1, 8, notes=(*left.notes, *right.notes))
+                large.even_pairs(shape, options.weight, options.neighbours or 4), None,
+                options.labels - 1, 8,
+                notes=(*left.notes, *right.notes, *large.notes_of(options, left)))
 
 
 def _alike(first, shape, second, other):
@@ -118,6 +120,7 @@ def segment(options: argparse.Namespace) -> Task:
     if drawn is not None:
         _alike(picture.name, picture.samples.shape, names[-1], drawn.shape)
     picture = reading.fitted(picture, options.fit)
+    picture = picture._replace(notes=(*picture.notes, *large.notes_of(options, picture)))
     shape = picture.samples.shape
     drawn = numpy.zeros(shape, int) if drawn is None else reading.fitted_seeds(drawn, shape)
     has_colours = picture.colours is not None and not options.grey
@@ -129,9 +132,9 @@ def segment(options: argparse.Namespace) -> Task:
         notes += (f"{picture.name} has colours, which are read as grey: --like colours decides by"
                   " them",)
     _greys(options, picture.samples, drawn)
-    return Task(costs.segment_costs(picture.samples, drawn, options.low, options.high),
+    return Task(large.segment_costs(picture.samples, drawn, options.low, options.high),
                 costs.smooth_costs("potts", 2, 1),
-                costs.edge_pairs(picture.samples, options.strong, options.weak, options.edge,
+                large.edge_pairs(picture.samples, options.strong, options.weak, options.edge,
                                  options.neighbours or 4), None, 1, 8, notes=notes)
 
 
@@ -175,13 +178,10 @@ def _by_colours(options, picture, drawn):
         raise Undecided("--edge is 0, and --like colours divides by it: give 1 or more")
 
     def learned(kinds):
-        data = colours.model_costs(shades, kinds)
-        data[drawn == 1] = (0, costs.SEED_COST)
-        data[drawn == 2] = (costs.SEED_COST, 0)
-        return data
+        return large.model_costs(shades, kinds, drawn)
 
     return Task(learned(drawn), costs.smooth_costs("potts", 2, 1),
-                colours.contrast_pairs(shades, options.strong, options.weak, options.edge,
+                large.contrast_pairs(shades, options.strong, options.weak, options.edge,
                                        options.neighbours or 8),
                 None, 1, 8, None, learned, picture.notes)
 
@@ -224,15 +224,17 @@ def run_picture(options: argparse.Namespace) -> int:
         name = pathlib.Path(options.files[0]).name
         plots.plot(options.plot, ran.steps, f"{options.command} {name}")
     if stopped:
-        print(f"stopped after {max(len(ran.steps) - 1, 0)} moves: {out} is what was found till"
-              " then", file=sys.stderr)
+        done = ran.done or f"{max(len(ran.steps) - 1, 0)} moves"
+        print(f"stopped after {done}: {out} is what was found till then", file=sys.stderr)
         return STOPPED
     return 0
 
 
 def _ran(options, data, smooth, pairs, label_costs, kept):
-    return running.ran(data, smooth, pairs, label_costs, options.moves, options.cycles,
-                       False if options.quiet else options.progress, kept)
+    drawn = False if options.quiet else options.progress
+    if hasattr(data, "piece"):
+        return large.ran(data, smooth, pairs, options, drawn)
+    return running.ran(data, smooth, pairs, label_costs, options.moves, options.cycles, drawn, kept)
 
 
 def _in_rounds(options, task):
@@ -257,9 +259,9 @@ def _coloured(options, picture, luminance, stopped, lines):
     if options.chroma and not stopped:
         for place, plane in enumerate(colours.chroma(picture.colours, picture.samples)):
             levels = colours.Levels(plane, options.levels or picture.maxval + 1)
-            ran = _ran(options, costs.restore_costs(levels.samples, levels.count, options.cap),
+            ran = _ran(options, large.restore_costs(levels.samples, levels.count, options.cap),
                        costs.smooth_costs(options.smooth, levels.count, options.trunc),
-                       costs.even_pairs(plane.shape, options.chroma, options.neighbours or 4),
+                       large.even_pairs(plane.shape, options.chroma, options.neighbours or 4),
                        None, False)
             moved[place] = levels.values(ran.found.labels) - plane
             lines.append(f"{('Cb', 'Cr')[place]} {running.lines(ran.found, False, False)}")

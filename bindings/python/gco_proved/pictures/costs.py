@@ -23,7 +23,7 @@ def quantised(samples: Any, maxval: int, levels: int) -> Any:
 def restore_costs(samples: Any, levels: int, cap: Optional[int]) -> Any:
     """|I - l|, or the cap where that is less."""
     numpy, _ = numpy_and_pillow()
-    every = numpy.arange(levels, dtype=numpy.int64)
+    every = numpy.arange(levels, dtype=numpy.int32)
     table = abs(every[:, None] - every)
     if cap is not None:
         table = numpy.minimum(table, cap)
@@ -34,7 +34,7 @@ def stereo_costs(left: Any, right: Any, count: int, cap: int) -> Any:
     """The lesser of |L(x) - R(x - l)| and the cap; the cap where x < l."""
     numpy, _ = numpy_and_pillow()
     height, width = left.shape
-    data = numpy.full((height, width, count), cap, dtype=numpy.int64)
+    data = numpy.full((height, width, count), cap, dtype=numpy.int32)
     for label in range(min(count, width)):
         apart = abs(left[:, label:] - right[:, :width - label])
         data[:, label:, label] = numpy.minimum(apart, cap)
@@ -53,6 +53,13 @@ def segment_costs(samples: Any, seeds: Any, low: int, high: int) -> Any:
 def even_pairs(shape: Any, weight: int, neighbours: int) -> Any:
     """Pairs of one weight."""
     return grid_pairs(shape[1], shape[0], weight, neighbours)
+
+
+def weighed_pairs(shape: Any, tables: Any) -> Any:
+    """Pairs of the weights of each offset: right, down, and where there are four down across."""
+    height, width = shape
+    names = ("right", "down", "down_right", "down_left")
+    return grid_pairs(width, height, **dict(zip(names, tables)))
 
 
 def edge_pairs(samples: Any, strong: int, weak: int, edge: int, neighbours: int) -> Any:

@@ -90,7 +90,12 @@ def _picture_options(parser: argparse.ArgumentParser, command: str) -> None:
     parser.add_argument("--cycles", type=_ranged(0, 1000), default=100, metavar="N",
                         help="the most cycles of moves (100)")
     parser.add_argument("--fit", action="store_true",
-                        help="make a picture of more than 1,048,576 pixels smaller first")
+                        help="make a picture of more than 1,048,576 pixels smaller first: else it"
+                        " goes by tiles")
+    parser.add_argument("--jobs", type=_ranged(1, 1024), metavar="N",
+                        help="processes for tiles (as many as there are processors)")
+    parser.add_argument("--tile", type=_ranged(1, 1024), metavar="N",
+                        help="the side of a tile (512)")
     scale = parser.add_mutually_exclusive_group()
     scale.add_argument("--scale", dest="scale", action="store_true", default=None,
                        help="spread the labels over all greys"

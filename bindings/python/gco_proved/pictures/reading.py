@@ -219,15 +219,11 @@ def fitted_sides(height: int, width: int) -> Tuple[int, int]:
 
 
 def fitted(picture: Picture, fit: bool) -> Picture:
-    """The picture, made smaller where it is too large and that is asked for."""
+    """The picture, made smaller where one problem does not take it and that is asked for."""
     height, width = picture.samples.shape
-    if height * width <= LIMIT:
+    if height * width <= LIMIT or not fit:
         return picture
     rows, columns = fitted_sides(height, width)
-    if not fit:
-        raise Wrong(f"{picture.name} has {width:,} x {height:,} = {width * height:,} pixels, and at"
-                    f" most {LIMIT:,} are taken: give --fit to make it {columns:,} x {rows:,}"
-                    " first")
     numpy, image_class = numpy_and_pillow()
     image = image_class.fromarray(picture.samples.astype(numpy.float32))
     image = image.resize((columns, rows), image_class.LANCZOS)

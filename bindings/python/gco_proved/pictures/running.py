@@ -1,8 +1,9 @@
 """A run over a picture: its moves and what each leaves, a bar, and Ctrl-C that stops after one."""
+import contextlib
 import signal
 import sys
 import threading
-from typing import Any, List, NamedTuple, Optional, Tuple
+from typing import Any, Iterator, List, NamedTuple, Optional, Tuple
 
 from .. import labelling, progress
 from .._library import MOVES, calls
@@ -10,7 +11,8 @@ from ..refusals import Refused
 from .words import Wrong
 
 WHAT_TO_DO = {
-    1: "the memory does not serve: take fewer --levels or --labels, or a smaller picture (--fit)",
+    1: "the memory does not serve: take fewer --levels or --labels, fewer --jobs, or a smaller"
+       " picture (--fit)",
     24: "the smooth costs are no metric, so an expansion cannot be made: take --moves swap,"
         " --smooth linear or potts, or a lower --trunc",
     27: "swaps take no label cost: leave --label-cost or --moves swap away",
@@ -29,11 +31,13 @@ class Step(NamedTuple):
 
 
 class Ran(NamedTuple):
-    """What a run found, each move of it, and whether Ctrl-C stopped it."""
+    """What a run found, each move of it, and whether Ctrl-C stopped it. Of a run by tiles there are
+    no steps: `done` says how far it came."""
 
     found: labelling.Found
     steps: List[Step]
     stopped: bool
+    done: str = ""
 
 
 def ran(data: Any, smooth: Any, pairs: Any, label_costs: Any, moves: str, cycles: int,
@@ -43,7 +47,7 @@ def ran(data: Any, smooth: Any, pairs: Any, label_costs: Any, moves: str, cycles
     steps: List[Step] = []
     if drawn is None:
         drawn = sys.stderr.isatty()
-    try:
+    with in_words():
         if not drawn and not kept:
             return Ran(_at_once(data, smooth, pairs, label_costs, moves, cycles), steps, False)
         problem = labelling.Problem(data, smooth, pairs, label_costs, None)
@@ -58,12 +62,17 @@ def ran(data: Any, smooth: Any, pairs: Any, label_costs: Any, moves: str, cycles
         problem.make(calls.gco_label, MOVES[moves], 0)
         told = problem.told
         steps.append(Step(0, None, 0, told.data, told.smooth, told.label))
-        return Ran(labelling.run(problem, moves, cycles, step), steps, False)
-    except KeyboardInterrupt as stop:
-        partial = getattr(stop, "partial", None)
-        if partial is None:
-            raise
-        return Ran(partial, steps, True)
+        try:
+            return Ran(labelling.run(problem, moves, cycles, step), steps, False)
+        except KeyboardInterrupt as stop:
+            return Ran(stop.partial, steps, True)  # type: ignore[attr-defined]
+
+
+@contextlib.contextmanager
+def in_words() -> Iterator[None]:
+    """Tells what the library refuses in a sentence that says what to do."""
+    try:
+        yield
     except Refused as refused:
         words = WHAT_TO_DO.get(refused.status, refused)
         raise Wrong(f"refused {refused.status}: {words}") from None

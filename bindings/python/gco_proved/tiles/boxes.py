@@ -127,3 +127,13 @@ def around(places: Any, box: Box) -> Box:
 
 def sides_of_box(box: Box) -> Shape:
     return tuple(part.stop - part.start for part in box)
+
+
+def moved(box: Box, offset: Shape) -> Box:
+    return tuple(slice(part.start + move, part.stop + move) for part, move in zip(box, offset))
+
+
+def ends(sides: Shape, offset: Shape) -> Tuple[Box, Box]:
+    """The first and the second sites of the pairs of an offset in a box that begins at 0."""
+    first = tuple(slice(max(-move, 0), side - max(move, 0)) for side, move in zip(sides, offset))
+    return first, moved(first, offset)

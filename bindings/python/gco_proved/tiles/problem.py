@@ -4,7 +4,7 @@ from typing import Any, Iterator, NamedTuple, Sequence, Tuple
 
 from .. import arrays
 from .._library import DATA_LIMIT
-from .boxes import Box, Shape, sides_of_box, within
+from .boxes import Box, Shape, ends, moved, sides_of_box, within
 
 
 class Border(NamedTuple):
@@ -53,10 +53,6 @@ def slabs(box: Box, window: Box, offset: Shape) -> Iterator[Box]:
             yield slab
 
 
-def moved(box: Box, offset: Shape) -> Box:
-    return tuple(slice(part.start + move, part.stop + move) for part, move in zip(box, offset))
-
-
 @functools.lru_cache(maxsize=4)
 def lattice(sides: Shape, offsets: Tuple[Shape, ...]) -> Tuple[Any, Any]:
     """The pairs of a whole box by their first site, of weight 1; and which of the offsets from
@@ -71,12 +67,6 @@ def lattice(sides: Shape, offsets: Tuple[Shape, ...]) -> Tuple[Any, Any]:
         table[(*first, place, 1)] = ids[second]
         inner[(*first, place)] = True
     return table[inner], inner.reshape(-1, len(offsets))
-
-
-def ends(sides: Shape, offset: Shape) -> Tuple[Box, Box]:
-    """The first and the second sites of the pairs of an offset in a box that begins at 0."""
-    first = tuple(slice(max(-move, 0), side - max(move, 0)) for side, move in zip(sides, offset))
-    return first, moved(first, offset)
 
 
 class Full:

@@ -1,0 +1,150 @@
+"""python -m gco on pictures above the limit of one problem: by tiles, against what is known of made pictures."""
+import contextlib
+import io
+import os
+import pathlib
+import shutil
+import signal
+import subprocess
+import sys
+import tempfile
+
+try:
+    import numpy as np
+    from PIL import Image
+except ImportError:
+    print("python -m gco by tiles: numpy or Pillow is missing, not tried (Debian: apt-get install python3-numpy python3-pil)")
+    sys.exit(0)
+from gco_proved.__main__ import main
+
+SHAPE = (1000, 1100)
+
+
+def said(status, *parts, of=()):
+    """A command that ends with that status and says these words; answers what it said."""
+    told = io.StringIO()
+    with contextlib.redirect_stdout(told), contextlib.redirect_stderr(told):
+        try:
+            got = main([str(word) for word in of])
+        except SystemExit as end:
+            got = end.code
+    assert got == status, (of, got, told.getvalue())
+    for part in parts:
+        assert part in told.getvalue(), (of, part, told.getvalue())
+    return told.getvalue()
+
+
+def line_of(data, smooth):
+    return f"energy {data + smooth} data {data} smooth {smooth}\n"
+
+
+def restored(folder):
+    """Squares of four greys with noise: the energy that is told is that of the labels, from any number of processes."""
+    rng = np.random.default_rng(1)
+    clean = (np.add.outer(np.arange(SHAPE[0]) // 50, np.arange(SHAPE[1]) // 70) % 4).astype(np.uint8)
+    noisy = np.where(rng.random(SHAPE) < 0.2, rng.integers(0, 4, SHAPE), clean).astype(np.uint8)
+    (folder / "noisy.pgm").write_bytes(b"P5\n1100 1000\n3\n" + noisy.tobytes())
+    options = ("--levels", 4, "--smooth", "potts", "--weight", 1, "--no-scale")
+    answers = []
+    for jobs, tile in ((1, 512), (2, 512), (2, 200)):
+        out = folder / f"restored{jobs}-{tile}.png"
+        text = said(0, "1,100 x 1,000 = 1,100,000 pixels: it goes by tiles of", f"{tile} x {tile}, by", "energy",
+                    of=("restore", folder / "noisy.pgm", out, *options, "--jobs", jobs, "--tile", tile))
+        labels = np.asarray(Image.open(out)).astype(int)
+        data = int(abs(labels - noisy).sum())
+        smooth = int((labels[:, 1:] != labels[:, :-1]).sum() + (labels[1:] != labels[:-1]).sum())
+        assert text.endswith(line_of(data, smooth)), (text, data, smooth)
+        wrong = (labels != clean).mean()
+        assert wrong < 0.02 < 0.14 < (noisy != clean).mean(), wrong
+        answers.append(out.read_bytes())
+    assert answers[0] == answers[1] != answers[2]
+    said(0, of=("restore", folder / "noisy.pgm", folder / "swapped.png", "--levels", 4, "--moves", "swap", "--neighbours", 8, "--bound"))
+    said(1, "label-cost", "no sum over tiles", "--fit", of=("restore", folder / "noisy.pgm", folder / "no.png", "--levels", 4, "--label-cost", 5))
+    said(1, "--plot draws moves", "--fit", of=("restore", folder / "noisy.pgm", folder / "no.png", "--levels", 4, "--plot", folder / "no.svg"))
+    assert not (folder / "no.png").exists()
+    said(0, of=("restore", folder / "noisy.pgm", folder / "fits.png", "--levels", 2, "--cycles", 1, "--fit"))
+    assert Image.open(folder / "fits.png").size[0] * Image.open(folder / "fits.png").size[1] <= 1048576
+    said(0, of=("restore", folder / "noisy.pgm", folder / "none.png", "--levels", 4, "--cycles", 0))
+    assert not np.asarray(Image.open(folder / "none.png")).any()
+
+
+def matched(folder):
+    """A texture, of which the upper half is 5 columns further left in the right picture, and the lower half 9."""
+    rng = np.random.default_rng(2)
+    left = rng.integers(0, 256, SHAPE).astype(np.uint8)
+    wanted = np.full(SHAPE, 5)
+    wanted[500:] = 9
+    right = rng.integers(0, 256, SHAPE).astype(np.uint8)
+    right[:500, :-5] = left[:500, 5:]
+    right[500:, :-9] = left[500:, 9:]
+    Image.fromarray(left).save(folder / "left.png")
+    Image.fromarray(right).save(folder / "right.png")
+    text = said(0, "by tiles", of=("stereo", folder / "left.png", folder / "right.png", folder / "disparities.png", "--labels", 12, "--jobs", 2))
+    labels = np.asarray(Image.open(folder / "disparities.png")).astype(int)
+    assert (labels[:, 12:] == wanted[:, 12:]).mean() > 0.999
+    columns = np.arange(SHAPE[1]) - labels
+    apart = np.minimum(abs(left.astype(int) - right[np.arange(SHAPE[0])[:, None], columns.clip(0)]), 30)
+    data = int(np.where(columns < 0, 30, apart).sum())
+    steps = [np.minimum(abs(labels[:, 1:] - labels[:, :-1]), 4), np.minimum(abs(labels[1:] - labels[:-1]), 4)]
+    assert text.endswith(line_of(data, 8 * sum(int(step.sum()) for step in steps))), text
+
+
+def segmented(folder):
+    """A disc on a ground of another grey, by two strokes one pixel wide; in grey and in colour."""
+    rng = np.random.default_rng(3)
+    rows, columns = np.ogrid[:SHAPE[0], :SHAPE[1]]
+    disc = (rows - 470) ** 2 + (columns - 600) ** 2 < 310 ** 2
+    grey = (np.where(disc, 150, 90) + rng.integers(-2, 3, SHAPE)).astype(np.uint8)
+    Image.fromarray(grey).save(folder / "disc.png")
+    strokes = np.zeros((*SHAPE, 3), dtype=np.uint8)
+    strokes[470, 500:700] = (255, 0, 0)
+    strokes[40, 100:900] = strokes[20:980, 40] = (0, 0, 255)
+    Image.fromarray(strokes).save(folder / "strokes.png")
+    text = said(0, "by tiles", of=("segment", folder / "disc.png", folder / "strokes.png", folder / "segments.png", "--jobs", 2))
+    labels = np.asarray(Image.open(folder / "segments.png")) // 255
+    assert ((labels == 0) == disc).all(), ((labels == 0) != disc).sum()
+    drawn = np.where(strokes[..., 0] > 0, 1, np.where(strokes[..., 2] > 0, 2, 0))
+    data = int(np.where(drawn, 0, abs(grey.astype(int) - 128)).sum())
+    smooth = 0
+    for one, other in ((np.s_[:, 1:], np.s_[:, :-1]), (np.s_[1:], np.s_[:-1])):
+        alike = abs(grey[one].astype(int) - grey[other]) <= 8
+        smooth += int((np.where(alike, 100, 3) * (labels[one] != labels[other])).sum())
+    assert text.endswith(line_of(data, smooth)), (text, data, smooth)
+    colours = np.where(disc[..., None], (200, 90, 60), (60, 120, 90)) + rng.integers(-5, 6, (*SHAPE, 3))
+    Image.fromarray(colours.astype(np.uint8)).save(folder / "colours.png")
+    said(0, "--like colours", "by tiles", of=("segment", folder / "colours.png", folder / "strokes.png", folder / "by colours.png", "--rounds", 2))
+    labels = np.asarray(Image.open(folder / "by colours.png")) // 255
+    assert ((labels == 0) == disc).mean() > 0.9999
+    # a colour photograph keeps its colours: its luminance alone changes
+    said(0, "its colours are kept", of=("restore", folder / "colours.png", folder / "kept.png", "--levels", 8))
+    kept = np.asarray(Image.open(folder / "kept.png")).astype(int)
+    assert kept.shape == (*SHAPE, 3)
+    moved = kept - colours
+    inside = ((kept > 0) & (kept < 255)).all(axis=2)
+    assert (np.ptp(moved, axis=2)[inside] <= 1).all()
+
+
+def stopped(folder):
+    """Ctrl-C while tiles are run: what was found is written."""
+    script = "import sys; from gco_proved.__main__ import main; sys.exit(main(sys.argv[1:]))"
+    words = ["restore", folder / "noisy.pgm", folder / "stopped.png", "--levels", "4", "--weight", "3", "--tile", "40", "--progress", "--jobs", "2"]
+    run = subprocess.Popen([sys.executable, "-c", script, *map(str, words)], stderr=subprocess.PIPE, text=True, env=os.environ)
+    told = ""
+    while "sweep 1" not in told:
+        told += run.stderr.read(1)
+        assert run.poll() is None, told
+    run.send_signal(signal.SIGINT)
+    told += run.communicate(timeout=120)[1]
+    assert run.returncode == 130 and "tiles: " in told and "is what was found till then" in told, (run.returncode, told)
+    assert Image.open(folder / "stopped.png").size == SHAPE[::-1]
+
+
+made = pathlib.Path(tempfile.mkdtemp())
+try:
+    restored(made)
+    matched(made)
+    segmented(made)
+    stopped(made)
+    print("python -m gco by tiles: restored, matched, segmented, stopped")
+finally:
+    shutil.rmtree(made)
