@@ -10,7 +10,7 @@ gco's seconds over those of the other, by the clock and by the processor; the me
 one. Memory is the most that was in use at once. The pictures that are written have to be the same,
 byte for byte, and the energies too: else the status is 1.
 
-The tables go to standard output and into the folder --out. `--renew docs/MEASURED.md` puts them
+The tables go to standard output and into the folder --out. `--renew ../docs/MEASURED.md` puts them
 into that page too, between their marks. On a machine that does other work the seconds mean
 nothing, and the ratios little.
 """
@@ -24,6 +24,7 @@ import signal
 import subprocess
 import sys
 import tempfile
+import textwrap
 import threading
 import time
 from pathlib import Path
@@ -281,13 +282,14 @@ def where_table(options, pictures):
 
 
 def machine_line(options, rounds):
-    """One line on the machine, its load and the program."""
+    """What is said of the machine, its load and the program."""
     cpu = re.search(r"model name\s*: (.*)", Path("/proc/cpuinfo").read_text(encoding="utf-8"))
     digest = hashlib.sha256(Path(options.gco).read_bytes()).hexdigest()[:12]
-    return (
+    return textwrap.fill(
         f"{time.strftime('%d %B %Y').lstrip('0')}. {cpu.group(1) if cpu else 'A machine'}, "
         f"{os.cpu_count()} cores, load {os.getloadavg()[0]:.1f} at the start. "
-        f"At most {rounds} runs of each program in turn. The program's sha256 begins with {digest}."
+        f"At most {rounds} runs of each program in turn. The program's sha256 begins with {digest}.",
+        100,
     )
 
 
@@ -298,7 +300,8 @@ def put_into(page, tables):
         mark = re.compile(rf"(<!-- bench {name} -->\n).*?(<!-- end -->)", re.DOTALL)
         if not mark.search(text):
             sys.exit(f"{page} has no mark for the table {name}")
-        text = mark.sub(lambda m: m.group(1) + "\n".join(lines) + "\n" + m.group(2), text)
+        made = "\n".join(["", *lines, "", ""])
+        text = mark.sub(lambda found: found.group(1) + made + found.group(2), text)
     page.write_text(text, encoding="utf-8")
 
 
