@@ -288,7 +288,8 @@ def machine_line(options, rounds):
     return textwrap.fill(
         f"{time.strftime('%d %B %Y').lstrip('0')}. {cpu.group(1) if cpu else 'A machine'}, "
         f"{os.cpu_count()} cores, load {os.getloadavg()[0]:.1f} at the start. "
-        f"At most {rounds} runs of each program in turn. The program's sha256 begins with {digest}.",
+        f"At most {rounds} runs of each program in turn. "
+        f"The program's sha256 begins with {digest}.",
         100,
     )
 
