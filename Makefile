@@ -67,9 +67,7 @@ check: check-pages check-program check-bindings release
 
 # What the pages say of the sources and of each other.
 check-pages: check-packages
-	$(PYTHON) tools/check_quotes.py
-	$(PYTHON) tools/check_refused.py
-	$(PYTHON) tools/check_links.py
+	$(PYTHON) tools/check.py --quick
 
 # The built program: against the definitions, on damaged inputs, and with each allocation refused.
 check-program: check-packages $(GCO)

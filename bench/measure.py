@@ -10,11 +10,12 @@ gco's seconds over those of the other, by the clock and by the processor; the me
 one. Memory is the most that was in use at once. The pictures that are written have to be the same,
 byte for byte, and the energies too: else the status is 1.
 
-The tables go to standard output and into the folder --out. `--renew docs/MEASURED.md` puts them
+The tables go to standard output and into the folder --out. `--renew ../docs/MEASURED.md` puts them
 into that page too, between their marks. On a machine that does other work the seconds mean
 nothing, and the ratios little.
 """
 import argparse
+import collections
 import hashlib
 import math
 import os
@@ -23,11 +24,16 @@ import signal
 import subprocess
 import sys
 import tempfile
+import textwrap
 import threading
 import time
 from pathlib import Path
 
 from inputs import make_inputs
+
+HERE = Path(__file__).resolve().parent
+sys.path.insert(0, str(HERE.parent / "tools"))
+import where_time_goes  # noqa: E402
 
 # What the pages call the run, the picture, the words, whether --quick has it.
 BESIDE = [
@@ -102,6 +108,16 @@ BESIDE = [
 # The runs of that table that are measured by threads too: those of 16,384 pixels or more.
 THREADED = [case for case in BESIDE if not re.search(r" 64 x 64|741|256 levels", case[0])]
 THREADS = [1, 2, 4]
+# Sizes whose memory is told, with 4 and with 8 neighbours.
+MEMORY = ["256 x 256", "512 x 512", "1024 x 1024"]
+# Runs of the first table of which is told where the time goes.
+SAMPLED = [
+    "`restore` 1024 x 1024, 4 levels",
+    "the same, weight 4",
+    "`restore` 256 x 256, 64 levels, linear",
+    "`stereo` 370 x 250, 32 labels",
+    "`segment` 1024 x 1024",
+]
 # Seconds: a run that takes longer is made once, and one that takes this long is stopped.
 ONCE_FROM = 15
 STOPPED_FROM = 120
@@ -215,14 +231,66 @@ def threads_table(cases, found):
     return lines, differ
 
 
+def memory_table(options, pictures):
+    """Peak memory of `restore` of 4 levels, by size and neighbours."""
+    lines = [
+        "| pixels | 4 neighbours | 8 neighbours | maxflow, 4 neighbours |",
+        "|---|---|---|---|",
+    ]
+    for title in MEMORY:
+        file = pictures / f"camera{title.split()[0]}_4.pgm"
+        commands = [
+            [options.gco, "restore"],
+            [options.gco, "restore", "--neighbours", "8"],
+            [os.path.abspath(options.peer), "restore"],
+        ]
+        peaks = [run_once(command, file)["memory"] for command in commands]
+        lines.append(f"| {title} |" + "".join(f" {peak:.0f} MB |" for peak in peaks))
+    return lines
+
+
+def shares_of(options, picture, words):
+    """Of each part of the work its percentage of a run's samples; None if perf gives none."""
+    with tempfile.TemporaryDirectory() as folder:
+        found = where_time_goes.by_perf([options.gco, *words.split()], picture, Path(folder))
+    if not found:
+        return None
+    total = sum(found[0].values())
+    parts = collections.Counter()
+    for function, samples in found[0].items():
+        parts[where_time_goes.part_of(function)] += 100 * samples / total
+    return parts
+
+
+def where_table(options, pictures):
+    """Where the time of some runs goes, by samples; nothing where perf gives none."""
+    cases = {case[0]: case for case in BESIDE}
+    columns = [
+        shares_of(options, pictures / f"{picture}.pgm", words)
+        for picture, words in (cases[title][1:3] for title in SAMPLED)
+    ]
+    if not all(columns):
+        return []
+    parts = {part for column in columns for part in column}
+    lines = ["| part |" + "".join(f" {title} |" for title in SAMPLED)]
+    lines.append("|---" * (len(SAMPLED) + 1) + "|")
+    for part in sorted(parts, key=lambda part: -columns[0][part]):
+        if max(column[part] for column in columns) >= 1:
+            cells = "".join(f" {column[part]:.0f} % |" for column in columns)
+            lines.append(f"| {part} |{cells}")
+    return lines
+
+
 def machine_line(options, rounds):
-    """One line on the machine, its load and the program."""
+    """What is said of the machine, its load and the program."""
     cpu = re.search(r"model name\s*: (.*)", Path("/proc/cpuinfo").read_text(encoding="utf-8"))
     digest = hashlib.sha256(Path(options.gco).read_bytes()).hexdigest()[:12]
-    return (
+    return textwrap.fill(
         f"{time.strftime('%d %B %Y').lstrip('0')}. {cpu.group(1) if cpu else 'A machine'}, "
         f"{os.cpu_count()} cores, load {os.getloadavg()[0]:.1f} at the start. "
-        f"At most {rounds} runs of each program in turn. The program's sha256 begins with {digest}."
+        f"At most {rounds} runs of each program in turn. "
+        f"The program's sha256 begins with {digest}.",
+        100,
     )
 
 
@@ -233,7 +301,8 @@ def put_into(page, tables):
         mark = re.compile(rf"(<!-- bench {name} -->\n).*?(<!-- end -->)", re.DOTALL)
         if not mark.search(text):
             sys.exit(f"{page} has no mark for the table {name}")
-        text = mark.sub(lambda m: m.group(1) + "\n".join(lines) + "\n" + m.group(2), text)
+        made = "\n".join(["", *lines, "", ""])
+        text = mark.sub(lambda found: found.group(1) + made + found.group(2), text)
     page.write_text(text, encoding="utf-8")
 
 
@@ -241,14 +310,13 @@ def parsed():
     parser = argparse.ArgumentParser(
         description=__doc__, formatter_class=argparse.RawDescriptionHelpFormatter
     )
-    here = Path(__file__).resolve().parent
     parser.add_argument("--gco", required=True)
-    parser.add_argument("--peer", default=here / "out/peer", type=Path)
+    parser.add_argument("--peer", default=HERE / "out/peer", type=Path)
     parser.add_argument("--quick", action="store_true")
     parser.add_argument("--rounds", type=int, help="3, or 2 of the quick ones")
     parser.add_argument("--minutes", type=float, default=9, help="no round is begun after these")
     parser.add_argument("--only", default="", help="the runs whose name has this text")
-    parser.add_argument("--out", default=here / "out", type=Path)
+    parser.add_argument("--out", default=HERE / "out", type=Path)
     parser.add_argument("--renew", type=Path, metavar="PAGE")
     options = parser.parse_args()
     options.gco = os.path.abspath(options.gco)
@@ -282,8 +350,12 @@ def main():
     if kept:
         tables["threads"], unlike = threads_table(
             [wanted[place] for place in kept],
-            {(name, kept.index(place)): run for (name, place), run in found.items() if place in kept},
+            {(name, kept.index(at)): run for (name, at), run in found.items() if at in kept},
         )
+    if not options.quick and not options.only:
+        tables["memory"] = memory_table(options, pictures)
+        tables["where"] = where_table(options, pictures)
+    tables = {name: lines for name, lines in tables.items() if lines}
     text = "\n\n".join("\n".join(lines) for lines in tables.values()) + "\n"
     print(text, end="")
     (options.out / "tables.md").write_text(text, encoding="utf-8")

@@ -45,9 +45,9 @@ def faults():
             if not file.exists():
                 yield f"{page.relative_to(TOP)}: there is no {target}"
     told = (TOP / "tools/README.md").read_text(encoding="utf-8")
-    for script in sorted((TOP / "tools").glob("*.py")):
-        if f"`{script.name}`" not in told:
-            yield f"tools/README.md does not say what {script.name} does"
+    scripts = {script.name for script in (TOP / "tools").glob("*.py")}
+    for name in sorted(scripts ^ set(re.findall(r"`(\w+\.py)`", told))):
+        yield f"tools/README.md and tools/ do not both have {name}"
     for picture in sorted((TOP / "docs").glob("*.png")):
         if picture not in shown:
             yield f"docs/{picture.name} is shown by no page"
