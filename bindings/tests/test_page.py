@@ -30,13 +30,25 @@ def first_ones():
     assert space["found"].energy == 27
 
 
+def fractions():
+    """The program of fractions, where numpy is there: what it prints stands behind its last line."""
+    text, said = programs()[3][1], io.StringIO()
+    try:
+        import numpy
+    except ImportError:
+        return
+    with contextlib.redirect_stdout(said):
+        exec(compile(text, "PYTHON.md", "exec"), {"numpy": numpy})
+    assert said.getvalue().strip() == text.strip().rsplit("# ", 1)[1] == "2.75 [0, 1, 0] 4.0 True", said.getvalue()
+
+
 def many_pictures():
     """many.py by itself and by threads: the same energies of two files."""
-    name, text = programs()[3]
+    name, text = programs()[4]
     assert name == "many.py", name
     with tempfile.TemporaryDirectory() as folder:
         pathlib.Path(folder, name).write_text(text)
-        pathlib.Path(folder, "threads.py").write_text(programs()[4][1])
+        pathlib.Path(folder, "threads.py").write_text(programs()[5][1])
         for number in (1, 2):
             side = range(256)
             pathlib.Path(folder, f"picture{number}.raw").write_bytes(bytes((x * number + y * y // 64) % 256 // (1 + (x ^ y) % 3) for y in side for x in side))
@@ -48,5 +60,6 @@ def many_pictures():
 
 
 first_ones()
+fractions()
 many_pictures()
 print("the programs of docs/PYTHON.md")

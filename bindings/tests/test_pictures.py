@@ -408,6 +408,8 @@ def colour_pictures(folder):
     Image.open(folder / "field.png").convert("L").save(folder / "field-grey.png")
     assert said(0, of=("segment", folder / "field-grey.png", folder / "marks.png", folder / "f.png")) == text
     assert (folder / "e.png").read_bytes() == (folder / "f.png").read_bytes()
+    said(0, "--rounds changes nothing without --like colours", of=("segment", folder / "field.png", folder / "marks.png", folder / "e.png", "--grey", "--rounds", 3))
+    said(0, "is read as grey, so --chroma changes nothing", of=("restore", folder / "field.png", folder / "e.png", "--grey", "--chroma", 3))
     said(2, "leave --low and --high away", of=("segment", folder / "field.png", folder / "marks.png", folder / "no.png", "--like", "colours", "--low", 3))
     said(2, "divides by it", of=("segment", folder / "field.png", folder / "marks.png", folder / "no.png", "--like", "colours", "--edge", 0))
 

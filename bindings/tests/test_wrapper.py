@@ -192,10 +192,28 @@ def by_class(count):
     refused(ValueError, g.set_all_neighbors, [0, 1], [1], [1], says="three rows")
 
 
+def never():
+    """A label without limit: by hand, the middle one of three sites alone keeps label 0, whose borders cost 2."""
+    unary, pairwise = np.array([[9, 0], [0, np.inf], [9, 0]]), [[0, 2], [2, 0]]
+    for step in (1, 0.7):
+        told = gco.cut_general_graph([(0, 1), (1, 2)], [1, 1], unary * step, np.array(pairwise) * step, return_scale=True)
+        assert flat(told.labels) == [1, 0, 1] and abs(told.energy - 4 * step) < 1e-9
+        assert flat(gco.cut_grid_graph_simple(unary.reshape(1, 3, 2) * step, np.array(pairwise) * step)) == [1, 0, 1]
+    g = gco.GCO()
+    g.create_general_graph(3, 2, energy_is_float=True)
+    g.set_data_cost(unary)
+    g.set_smooth_cost(pairwise)
+    g.set_all_neighbors([0, 1], [1, 2], [1, 1])
+    g.init_label_at_site(1, 1)
+    assert g.compute_energy() == np.inf and g.expansion() == 4 and flat(g.get_labels()) == [1, 0, 1]
+    refused(ValueError, gco.cut_general_graph, [(0, 1)], [np.inf], [[1, 2], [2, 1]], [[0, 1], [1, 0]], says="edge_weights: a cost has no limit")
+
+
 general_graph()
 grid_graphs(120)
 if np is not None:
     fractions(200)
+    never()
     pygco()
     by_class(100)
 else:

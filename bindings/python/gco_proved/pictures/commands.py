@@ -61,11 +61,10 @@ def restore(options: argparse.Namespace) -> Task:
 def _kept_colours(options, picture):
     """The picture if its colours are to stay, nothing to learn, and what is to be said."""
     name, out = picture.name, options.files[-1]
-    if picture.colours is None:
-        unused = f"{name} has no colours, so --chroma changes nothing"
+    if picture.colours is None or options.grey:
+        reason = "is read as grey" if picture.colours is not None else "has no colours"
+        unused = f"{name} {reason}, so --chroma changes nothing"
         return None, None, (*picture.notes, *([unused] if options.chroma else []))
-    if options.grey:
-        return None, None, picture.notes
     why = None
     if pathlib.Path(out).suffix.lower() == ".pgm":
         why = f"{out} holds greys alone"
@@ -128,6 +127,8 @@ def segment(options: argparse.Namespace) -> Task:
     if options.like == "colours":
         return _by_colours(options, picture, drawn)
     notes = picture.notes
+    if options.rounds is not None:
+        notes += ("--rounds changes nothing without --like colours",)
     if has_colours:
         notes += (f"{picture.name} has colours, which are read as grey: --like colours decides by"
                   " them",)
