@@ -1,6 +1,6 @@
 #!/usr/bin/env python3
 """Tests that each file that a page names is there, that each picture of docs/ is shown by a page,
-and that tools/README.md has each script:
+that tools/README.md has each script, and docs/ARCHITECTURE.md each crate:
 
     python3 tools/check_links.py
 """
@@ -48,6 +48,10 @@ def faults():
     scripts = {script.name for script in (TOP / "tools").glob("*.py")}
     for name in sorted(scripts ^ set(re.findall(r"`(\w+\.py)`", told))):
         yield f"tools/README.md and tools/ do not both have {name}"
+    told = (TOP / "docs/ARCHITECTURE.md").read_text(encoding="utf-8")
+    for crate in re.findall(r"^(\w+)[\w ]*:", (TOP / "crates.txt").read_text(), re.MULTILINE):
+        if f"`{crate}`" not in told:
+            yield f"docs/ARCHITECTURE.md does not say what {crate} does"
     for picture in sorted((TOP / "docs").glob("*.png")):
         if picture not in shown:
             yield f"docs/{picture.name} is shown by no page"
