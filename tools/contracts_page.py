@@ -32,6 +32,7 @@ FUNCTION = re.compile(r"(?:pub )?(?:const )?fn ")
 IMPL = re.compile(r"impl(?:<.*?>)? (?!.* for )")
 MODEL = re.compile(r"impl(?:<.*?>)? Model for (\w+)")
 CLOSERS = {"}", "};", "];", ")", ");", "}];", "{}"}
+TEXT = re.compile(r"(pub const \w+: &(?:'static )?str =)")
 CLAUSE = re.compile(r"\s*(?:requires|ensures|decreases|where)\b")
 
 
@@ -55,6 +56,8 @@ def indent_of(line):
 def block_end(lines, start):
     """The line behind an item that ends with its closing brace, or with a semicolon."""
     indent = indent_of(lines[start])
+    if TEXT.match(lines[start]):
+        return next(at for at in range(start, len(lines)) if lines[at].endswith('";')) + 1
     for index in range(start, len(lines)):
         line = lines[index].rstrip()
         if index == start and (line.endswith(";") or line.endswith("}")):
@@ -96,7 +99,9 @@ def with_comment(lines, start):
 
 
 def public_fields(lines):
-    """A struct without its private fields, or any other item as it is."""
+    """A struct without its private fields, a text without its words, or another item as it is."""
+    if TEXT.match(lines[0]):
+        return [TEXT.match(lines[0]).group() + ' "..";']
     if not lines[0].startswith("pub struct") or len(lines) == 1:
         return lines
     kept, comment = [lines[0]], []
@@ -198,13 +203,21 @@ def section_of(crate):
     return f"### `{crate}`\n\n{said}\n\n" + "\n".join(parts)
 
 
+def contents_line(heading, crates):
+    """A group and links to its crates."""
+    return f"- {heading}: " + ", ".join(f"[`{crate}`](#{crate})" for crate in crates)
+
+
 def page():
-    sections = []
+    contents, sections = [], []
     for heading, crates in groups():
-        found = [section_of(crate) for crate in crates if not crate.endswith("_tests")]
-        if any(found):
-            sections.append(f"## {heading}\n\n" + "\n".join(part for part in found if part))
-    return HEAD + "\n" + "\n".join(sections)
+        shown = [crate for crate in crates if not crate.endswith("_tests")]
+        found = {crate: section_of(crate) for crate in shown}
+        kept = [crate for crate in shown if found[crate]]
+        if kept:
+            contents.append(contents_line(heading, kept))
+            sections.append(f"## {heading}\n\n" + "\n".join(found[crate] for crate in kept))
+    return "\n".join([HEAD, *contents, "", *sections])
 
 
 def is_current():
