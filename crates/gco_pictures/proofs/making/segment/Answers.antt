@@ -2,6 +2,7 @@ use Rattle.vision.specs.Faults.{HasSegmentError}
 use Rattle.vision.specs.Inputs.{IsSegmentJob}
 use Rattle.gco_pictures.specs.Options.{segment_numbers, segment_options}
 use Rattle.gco_pictures.specs.Refusals.{alone}
+use Rattle.gco_pictures.proofs.Handing.{picture_made}
 use Rattle.gco_pictures.proofs.InRange.{segment_in_range}
 use Rattle.gco_pictures.proofs.Refusing.{command_refused}
 use Rattle.gco_pictures.proofs.making.segment.Goals as goal
@@ -18,3 +19,9 @@ returns-in-Err-clause-refused c =
     rw c.refusal_of.ensures
     (command_refused (segment_numbers c.args.given.now) (HasSegmentError alone o c.args.input.now) (IsSegmentJob o c.args.input.now) _ _ c.in-Err.error
     (rw c.numbers.ensures at c.in_default.ensures) (rw c.options-options.ensures at c.in-Err.ensures.refused))
+
+pub returns-in-Ok-clause-made : goal.returns-in-Ok-clause-made
+returns-in-Ok-clause-made c =
+    picture_made (IsSegmentJob (segment_options c.args.given.now) c.args.input.now) c.new-held.result.bytes.items c.run_segment.new.sink.bytes.items
+    c.new-held.result.failures c.run_segment.new.sink.failures c.in-Ok.report c.new-held.ensures
+    (rw c.options-options.ensures at c.in-Ok.ensures.done)

@@ -2,6 +2,7 @@ use Rattle.vision.specs.Faults.{HasStereoError}
 use Rattle.vision.specs.Inputs.{IsStereoJob}
 use Rattle.gco_pictures.specs.Options.{stereo_numbers, stereo_options}
 use Rattle.gco_pictures.specs.Refusals.{alone}
+use Rattle.gco_pictures.proofs.Handing.{picture_made}
 use Rattle.gco_pictures.proofs.InRange.{stereo_in_range}
 use Rattle.gco_pictures.proofs.Refusing.{command_refused}
 use Rattle.gco_pictures.proofs.making.stereo.Goals as goal
@@ -18,3 +19,9 @@ returns-in-Err-clause-refused c =
     rw c.refusal_of.ensures
     (command_refused (stereo_numbers c.args.given.now) (HasStereoError alone o c.args.input.now) (IsStereoJob o c.args.input.now) _ _ c.in-Err.error
     (rw c.numbers.ensures at c.in_default.ensures) (rw c.options-options.ensures at c.in-Err.ensures.refused))
+
+pub returns-in-Ok-clause-made : goal.returns-in-Ok-clause-made
+returns-in-Ok-clause-made c =
+    picture_made (IsStereoJob (stereo_options c.args.given.now) c.args.input.now) c.new-held.result.bytes.items c.run_stereo.new.sink.bytes.items
+    c.new-held.result.failures c.run_stereo.new.sink.failures c.in-Ok.report c.new-held.ensures
+    (rw c.options-options.ensures at c.in-Ok.ensures.done)
