@@ -1,116 +1,130 @@
 //! What reaches labels by costs that grow with the square of the distance: the lower envelope of
 //! parabolas, one for each label (Felzenszwalb, Huttenlocher, Theory of Computing 2012).
 //!
-//! As of all that makes messages, nothing is promised of it but that it is safe.
+//! All parabolas open alike, so the ones that are lowest somewhere are the corners of the lower
+//! hull of the points at which they would meet label 0. As of all that makes messages, nothing is
+//! promised but that it is safe.
 ghost use Rattle.std.specs.Prelude.{◌≡◌, ◌*◌, ◌^◌, ◌<◌, ◌≤◌, All, length};
 
 use crate::rows::least;
 
-/// How high the parabola of a label would be at label 0, if it went on there.
-fn height(own: &[u64], step: u64, label: usize) -> u64
-    requires { label < length own.now }
-{
-    let square = (label as u64).wrapping_mul(label as u64);
-    own[label].wrapping_add(step.wrapping_mul(square))
-}
-
-/// The first label at which the parabola of the later of two labels is not above that of the
-/// earlier.
-fn takeover(own: &[u64], step: u64, earlier: usize, later: usize) -> u64
-    requires { (earlier < length own.now) × (later < length own.now) }
-{
-    let rise = height(own, step, later).saturating_sub(height(own, step, earlier));
-    let apart = later.saturating_sub(earlier) as u64;
-    let closing = step.wrapping_mul(apart.wrapping_mul(2)).max(1);
-    let whole = rise / closing;
-    if rise % closing == 0 {
-        whole
-    } else {
-        whole.wrapping_add(1)
+/// Puts in place of each number how high the parabola of its label is at label 0.
+fn raise_to_zero(own: &mut [u64], step: u64) {
+    for label in 0..own.len() {
+        let square = (label as u64).wrapping_mul(label as u64);
+        own[label] = own[label].wrapping_add(step.wrapping_mul(square));
     }
 }
 
-/// The place in the list of the last parabola that the one of a later label does not hide.
-fn last_seen(
-    own: &[u64],
-    step: u64,
-    apexes: &[u32],
-    starts: &[u64],
-    top: usize,
-    later: usize,
-) -> usize
-    requires later { later < length own.now }
-    requires apexes { All (λ apex. apex < length own.now) apexes.now }
-    requires sizes { (length apexes.now ≡ length own.now) × (length starts.now ≡ length own.now) }
-    requires top { top < length own.now }
+/// Whether the middle one of three labels in rising order is not below the line of the others.
+fn is_hidden(heights: &[u64], first: usize, middle: usize, last: usize) -> bool
+    requires ends { (first < length heights.now) × (last < length heights.now) }
+    requires middle { middle < length heights.now }
+{
+    let behind = last.wrapping_sub(middle) as u64;
+    let before = middle.wrapping_sub(first) as u64;
+    let line = heights[first]
+        .wrapping_mul(behind)
+        .wrapping_add(heights[last].wrapping_mul(before));
+    line <= heights[middle].wrapping_mul(behind.wrapping_add(before))
+}
+
+/// The place of the last corner that a later label leaves.
+fn last_left(heights: &[u64], corners: &[u32], top: usize, later: usize) -> usize
+    requires later { later < length heights.now }
+    requires corners { All (λ corner. corner < length heights.now) corners.now }
+    requires size { length corners.now ≡ length heights.now }
+    requires top { top < length heights.now }
     ensures { result ≤ top }
 {
-    let mut seen = top;
-    while seen > 0 && takeover(own, step, apexes[seen] as usize, later) <= starts[seen] {
-        seen -= 1;
+    let mut left = top;
+    while left > 0
+        && is_hidden(
+            heights,
+            corners[left - 1] as usize,
+            corners[left] as usize,
+            later,
+        )
+    {
+        left -= 1;
     }
-    seen
+    left
 }
 
-/// Lists the parabolas that are lowest somewhere: the label of each, and the label at which it
-/// begins to be lowest. The answer is the place of the last.
-fn list_parabolas(own: &[u64], step: u64, apexes: &mut [u32], starts: &mut [u64]) -> usize
-    requires some { (0 < length own.now) × (length own.now < 2 ^ 32) }
-    requires sizes { (length apexes.old ≡ length own.now) × (length starts.old ≡ length own.now) }
-    ensures apexes { All (λ apex. apex < length own.now) apexes.new }
-    ensures top { result < length own.now }
+/// Lists the corners of the lower hull of the heights over their labels. The answer is the place of
+/// the last.
+fn list_corners(heights: &[u64], corners: &mut [u32]) -> usize
+    requires some { (0 < length heights.now) × (length heights.now < 2 ^ 32) }
+    requires size { length corners.old ≡ length heights.now }
+    ensures corners { All (λ corner. corner < length heights.now) corners.new }
+    ensures top { result < length heights.now }
 {
-    apexes.fill(0);
-    starts.fill(0);
+    corners.fill(0);
     let mut top = 0usize;
-    for later in 1..own.len() {
-        top = last_seen(own, step, apexes, starts, top, later);
-        let start = takeover(own, step, apexes[top] as usize, later);
-        if start <= starts[top] {
-            apexes[top] = later as u32;
-        } else if start < own.len() as u64 {
-            top += 1;
-            apexes[top] = later as u32;
-            starts[top] = start;
-        }
+    for later in 1..heights.len() {
+        top = last_left(heights, corners, top, later) + 1;
+        corners[top] = later as u32;
     }
     top
 }
 
-/// What the listed parabolas are at each label, from the last label to the first, in place of where
-/// they begin: a place is read before it is written.
-fn read_parabolas(own: &[u64], step: u64, most: u64, apexes: &[u32], out: &mut [u64], top: usize)
-    requires apexes { All (λ apex. apex < length own.now) apexes.now }
-    requires sizes { (length apexes.now ≡ length own.now) × (length out.old ≡ length own.now) }
-    requires top { top < length own.now }
+/// How high the parabola of a label is at another.
+fn height_at(heights: &[u64], step: u64, apex: u32, label: usize) -> u64
+    requires { apex < length heights.now }
 {
-    let mut place = top;
-    for label in (0..own.len()).rev() {
-        let start = out[place];
-        let apex = apexes[place] as usize;
-        let apart = label.abs_diff(apex) as u64;
-        let square = apart.wrapping_mul(apart);
-        out[label] = own[apex].wrapping_add(step.wrapping_mul(square)).min(most);
-        if place > 0 && label as u64 <= start {
-            place -= 1;
-        }
+    let label = label as u64;
+    let twice = u64::from(apex).wrapping_mul(2);
+    heights[apex as usize].wrapping_add(
+        step.wrapping_mul(label)
+            .wrapping_mul(label.wrapping_sub(twice)),
+    )
+}
+
+/// The place of the corner whose parabola is lowest at a label, from the place of an earlier
+/// label's.
+fn lowest_from(
+    heights: &[u64],
+    step: u64,
+    corners: &[u32],
+    top: usize,
+    from: usize,
+    label: usize,
+) -> usize
+    requires corners { All (λ corner. corner < length heights.now) corners.now }
+    requires top { (from ≤ top) × (top < length corners.now) }
+    ensures { result ≤ top }
+{
+    let mut place = from;
+    while place < top
+        && height_at(heights, step, corners[place + 1], label)
+            <= height_at(heights, step, corners[place], label)
+    {
+        place += 1;
     }
+    place
 }
 
 /// The least that reaches each label from any, by costs of this step for the square of the distance
-/// and of at most `most`. `apexes` is room for one number a label.
-pub(crate) fn spread_squares(own: &[u64], step: u64, most: u64, out: &mut [u64], apexes: &mut [u32])
-    requires few { length own.now < 2 ^ 32 }
-    requires sizes { (length apexes.old ≡ length own.now) × (length out.old ≡ length own.now) }
+/// and of at most `most`. The numbers are lost; `corners` is room for one number a label.
+pub(crate) fn spread_squares(
+    own: &mut [u64],
+    step: u64,
+    most: u64,
+    out: &mut [u64],
+    corners: &mut [u32],
+)
+    requires few { length own.old < 2 ^ 32 }
+    requires sizes { (length corners.old ≡ length own.old) × (length out.old ≡ length own.old) }
 {
     if own.is_empty() {
         return;
     }
-    let least = least(own);
-    if step == 0 {
-        out.fill(least);
-        return;
+    let cap = least(own).wrapping_add(most);
+    raise_to_zero(own, step);
+    let top = list_corners(own, corners);
+    let mut place = 0usize;
+    for label in 0..own.len() {
+        place = lowest_from(own, step, corners, top, place, label);
+        out[label] = height_at(own, step, corners[place], label).min(cap);
     }
-    let top = list_parabolas(own, step, apexes, out);
-    read_parabolas(own, step, least.wrapping_add(most), apexes, out, top);
 }

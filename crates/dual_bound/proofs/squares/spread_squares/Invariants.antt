@@ -1,5 +1,5 @@
 use Rattle.std.proofs.Common.{◌≤◌}
-use Rattle.dual_bound.proofs.squares.read_parabolas.Given as goal
+use Rattle.dual_bound.proofs.squares.spread_squares.Given as goal
 
 abbrev pub invariant-loop-label : goal.invariant-loop-label
 invariant-loop-label l = l.place ≤ l.top
