@@ -232,6 +232,64 @@ static int minimised(void) {
     return 0;
 }
 
+static gco_bound bound;
+
+/* a call whose bound was filled with ones before; and one that is refused and tells a place */
+#define BFRESH(call) (memset(&bound, 0xff, sizeof bound), (call))
+#define UNBOUND(call, status, at) WANT(BFRESH(call) == (status) && bound.low == 0 && bound.place == (at))
+
+/* (8 * 5 + 4 * 6) * 3 bytes are what the worked example takes */
+static uint32_t bound_of(uint32_t label_count, size_t data_count, size_t smooth_count, size_t cost_count, uint64_t allowed) {
+    return gco_lower_bound(label_count, data, data_count, smooth, smooth_count, costs, cost_count, pairs, 6, 50, allowed, labels, 5, &bound);
+}
+
+static int bounded(void) {
+    gco_pair chain[] = {{1, 0, 2}, {2, 1, 3}};
+    int64_t at[] = {0, 5, 9, 7, 0, 7, 9, 4, 0}, prices[] = {0, 3, 8, 1, 0, 2, 6, 5, 0};
+    uint32_t three[3] = {0};
+    /* a chain whose pairs stand backwards: the least energy is 6, of the labels 0 1 1, and the bound is that */
+    WANT(BFRESH(gco_lower_bound(3, at, 9, prices, 9, NULL, 0, chain, 2, 20, GCO_ANY_SIZE, three, 3, &bound)) == GCO_OK);
+    WANT(bound.low == 6 && bound.place == 0);
+    WANT(gco_label(3, at, 9, prices, 9, NULL, 0, chain, 2, GCO_SWAP, 0, three, 3, &told) == GCO_OK);
+    WANT(told.data + told.smooth == 6 && three[0] == 0 && three[1] == 1 && three[2] == 1);
+    memset(labels, 0, sizeof labels);
+    /* the least energy is 27, and the cheapest labels of the sites cost 21 */
+    WANT(BFRESH(bound_of(3, 15, 9, 0, 192)) == GCO_OK && bound.low <= 27 && bound.low >= 21 && bound.place == 0);
+    memset(labels, 0, sizeof labels);
+    UNBOUND(bound_of(3, 15, 9, 0, 191), GCO_TOO_LARGE, 0);
+    UNBOUND(gco_lower_bound(3, data, 15, smooth, 9, costs, 0, pairs, 6, 1, 192, labels, (size_t)GCO_SITE_LIMIT + 1, &bound), GCO_TOO_MANY_SITES, 0);
+    UNBOUND(bound_of(0, 15, 9, 0, 192), GCO_LABEL_COUNT, 0);
+    UNBOUND(bound_of(3, 14, 9, 0, 192), GCO_DATA_COUNT, 0);
+    UNBOUND(bound_of(3, 15, 8, 0, 192), GCO_SMOOTH_COUNT, 0);
+    UNBOUND(bound_of(3, 15, 9, 2, 192), GCO_LABEL_COST_COUNT, 0);
+    data[7] = -1;
+    UNBOUND(bound_of(3, 15, 9, 0, 192), GCO_DATA_RANGE, 7);
+    data[7] = 4;
+    smooth[5] = GCO_SMOOTH_LIMIT + 1;
+    UNBOUND(bound_of(3, 15, 9, 0, 192), GCO_SMOOTH_RANGE, 5);
+    smooth[5] = 1;
+    costs[1] = -1;
+    UNBOUND(bound_of(3, 15, 9, 3, 192), GCO_LABEL_COST_RANGE, 1);
+    costs[1] = 0;
+    pairs[4].second = 5;
+    UNBOUND(bound_of(3, 15, 9, 0, 192), GCO_NO_SUCH_SITE, 4);
+    pairs[4].second = 1;
+    UNBOUND(bound_of(3, 15, 9, 0, 192), GCO_SAME_SITE, 4);
+    pairs[4].second = 3;
+    pairs[2].weight = GCO_WEIGHT_LIMIT + 1;
+    UNBOUND(bound_of(3, 15, 9, 0, 192), GCO_WEIGHT_RANGE, 2);
+    pairs[2].weight = 2;
+    WANT(!memcmp(labels, zero, sizeof labels));
+    labels[3] = 3;
+    UNBOUND(bound_of(3, 15, 9, 0, 192), GCO_NO_SUCH_LABEL, 3);
+    WANT(labels[3] == 3);
+    labels[3] = 0;
+    /* nothing at all */
+    WANT(BFRESH(gco_lower_bound(1, NULL, 0, smooth, 1, NULL, 0, NULL, 0, GCO_ALL_PASSES, 0, NULL, 0, &bound)) == GCO_OK);
+    WANT(bound.low == 0 && bound.place == 0);
+    return 0;
+}
+
 enum { W = 60, H = 60, K = 4, N = W * H, T = 4 };
 
 struct job {
@@ -281,7 +339,7 @@ static int at_once(void) {
 }
 
 int main(void) {
-    if (worked() || refused() || narrow() || minimised() || at_once()) return 1;
+    if (worked() || refused() || narrow() || bounded() || minimised() || at_once()) return 1;
     printf("c: every call, every status, four threads\n");
     return 0;
 }

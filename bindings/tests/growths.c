@@ -48,6 +48,7 @@ static uint8_t bits[3];
 static uint32_t call(int which) {
     gco_outcome told;
     gco_minimum found;
+    gco_bound bound;
     switch (which) {
     case 0:
         return gco_label(3, data, 15, smooth, 9, NULL, 0, pairs, 6, GCO_EXPANSION, GCO_ALL_CYCLES,
@@ -60,13 +61,16 @@ static uint32_t call(int which) {
     case 4:
         return gco_label_int32(3, data32, 15, smooth32, 9, costs32, 3, pairs, 6, GCO_EXPANSION,
                                GCO_ALL_CYCLES, labels, 5, &told);
+    case 5:
+        return gco_lower_bound(3, data, 15, smooth, 9, costs, 3, pairs, 6, 9, GCO_ANY_SIZE, labels,
+                               5, &bound);
     default: return gco_minimise(10, ones, 1, twos, 1, threes, 1, bits, 3, &found);
     }
 }
 
 int main(void) {
     long refused = 0, answered = 0;
-    for (int which = 0; which < 6; which++) {
+    for (int which = 0; which < 7; which++) {
         uint32_t right[5] = {0};
         uint8_t right_bits[3] = {0};
         long growths = 0;

@@ -13,6 +13,9 @@ use Rattle.single_moves.specs.declared.error.MoveError.{MoveError}
 use Rattle.cost_store.specs.LabelCosts.{AreLabelCosts, costs_of}
 use Rattle.labellings.specs.declared.cycles.Moves.{Moves}
 use Rattle.gco_c.specs.Calls.{CallArrays, AreCostsInRange, AreLong, ArePartsOf, instance_given, list_given}
+use Rattle.dual_bound.specs.declared.bound.LowerBound.{LowerBound}
+use Rattle.dual_bound.specs.declared.error.BoundError.{BoundError}
+use Rattle.gco_c.specs.Bounds.{AnswersBound}
 use Rattle.gco_c.specs.Moved.{IsMovedTo}
 use Rattle.gco_c.specs.declared.moving.Moved.{Moved}
 use Rattle.gco_c.specs.declared.ready.Ready.{Ready}
@@ -59,6 +62,16 @@ move_given a ready is move r h =
     move ready.start.at r in
     let S : LabelField → Type 0 = λ s. IsMovedTo (instance_of pairs s.labels (cost_in s.labels a.data_costs) a.smooth_costs (costs_of ready.label_costs)) move s.at r in
     let C : List ℤ → Type 0 = λ costs. IsMovedTo (instance_of pairs a.label_count (cost_in a.label_count a.data_costs) a.smooth_costs costs) move a.start r in
+    subst C is.costs_are (subst S is.start_is (subst P is.pairs_are h))
+
+pub bound_given : (a : CallArrays) (ready : Ready) → ArePartsOf a ready → (allowed : ℕ) (r : Result LowerBound BoundError)
+    → AnswersBound (instance_of ready.pairs ready.start.labels (cost_in ready.start.labels a.data_costs) a.smooth_costs (costs_of ready.label_costs)) allowed r
+    → AnswersBound (instance_given a) allowed r
+bound_given a ready is allowed r h =
+    let pairs = list_given (length a.start) a.pairs in
+    let P : PairList → Type 0 = λ p. AnswersBound (instance_of p ready.start.labels (cost_in ready.start.labels a.data_costs) a.smooth_costs (costs_of ready.label_costs)) allowed r in
+    let S : LabelField → Type 0 = λ s. AnswersBound (instance_of pairs s.labels (cost_in s.labels a.data_costs) a.smooth_costs (costs_of ready.label_costs)) allowed r in
+    let C : List ℤ → Type 0 = λ costs. AnswersBound (instance_of pairs a.label_count (cost_in a.label_count a.data_costs) a.smooth_costs costs) allowed r in
     subst C is.costs_are (subst S is.start_is (subst P is.pairs_are h))
 
 kept_costs : (labels : ℕ) (costs : Option (Vec ℤ)) (given : List ℤ) → costs_of costs ≡ given → (length given ≡ 0 → costs ≡ None)

@@ -13,6 +13,7 @@ status_of why.SmoothCount = 5
 status_of why.NoSuchMoves = 6
 status_of why.LabelCostCount = 7
 status_of why.NoSuchMove = 8
+status_of why.TooLarge = 9
 status_of (why.NoSuchSite _) = 10
 status_of (why.NoSuchLabel _) = 11
 status_of (why.SameSite _) = 12

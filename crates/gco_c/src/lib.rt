@@ -2,6 +2,7 @@
 //! returns. A call is the test of all that it is given, since nothing checks its caller.
 #![tactic(auto)]
 
+mod bound;
 mod checks;
 mod cost;
 mod label;
@@ -17,6 +18,7 @@ mod terms;
 #[cfg(test)]
 mod tests;
 
+pub use bound::{GcoBound, gco_lower_bound};
 pub use label::{gco_label, gco_label_int32};
 pub use minimise::{GcoMinimum, gco_minimise};
 pub use moving::{gco_expand, gco_swap};

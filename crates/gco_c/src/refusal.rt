@@ -24,6 +24,8 @@ pub(crate) enum Refusal {
     LabelCostCount,
     /// A label of the move is not there.
     NoSuchMove,
+    /// The search for a bound takes more memory than is allowed.
+    TooLarge,
     /// A pair or a term names a site or a variable that is not there.
     NoSuchSite(usize),
     /// A site starts with a label that is not there.
@@ -72,6 +74,7 @@ impl Refusal {
             Refusal::NoSuchMoves => 6,
             Refusal::LabelCostCount => 7,
             Refusal::NoSuchMove => 8,
+            Refusal::TooLarge => 9,
             Refusal::NoSuchSite(_) => 10,
             Refusal::NoSuchLabel(_) => 11,
             Refusal::SameSite(_) => 12,

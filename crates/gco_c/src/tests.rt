@@ -1,7 +1,7 @@
 //! Each call of C once, with a worked example.
 use crate::{
-    GcoMinimum, GcoOne, GcoOutcome, GcoPair, GcoThree, GcoTwo, gco_expand, gco_label,
-    gco_label_int32, gco_minimise, gco_swap,
+    GcoBound, GcoMinimum, GcoOne, GcoOutcome, GcoPair, GcoThree, GcoTwo, gco_expand, gco_label,
+    gco_label_int32, gco_lower_bound, gco_minimise, gco_swap,
 };
 use std::test::Fail;
 
@@ -296,5 +296,46 @@ fn three_variables(rt: HostRuntime) -> Result<(), Fail> {
     assert_eq!(rt; assignment, [1, 1, 1]);
     assert_eq!(rt; told.value, 12);
     assert_eq!(rt; [told.place, told.fixed, told.fixed_at], [0, 3, 0]);
+    Ok(())
+}
+
+/// Three sites in a row, whose pairs stand backwards, with costs of two labels that are not the same
+/// both ways: the labels 0 1 1 cost 6, and all others more. It takes 96 bytes.
+#[test]
+fn bound_of_a_chain(rt: HostRuntime) -> Result<(), Fail> {
+    let pairs = [
+        GcoPair {
+            first: 1,
+            second: 0,
+            weight: 2,
+        },
+        GcoPair {
+            first: 2,
+            second: 1,
+            weight: 3,
+        },
+    ];
+    let data = [0i64, 5, 9, 7, 0, 7, 9, 4, 0];
+    let prices = [0i64, 3, 8, 1, 0, 2, 6, 5, 0];
+    let mut labels = [0u32; 3];
+    let mut told = GcoBound { low: 9, place: 9 };
+    let mut status = [9u32; 2];
+    for (place, allowed) in [95u64, 96].iter().enumerate() {
+        status[place] = gco_lower_bound(
+            rt.alloc(),
+            3,
+            &data,
+            &prices,
+            &[],
+            &pairs,
+            20,
+            *allowed,
+            &mut labels,
+            &mut told,
+        );
+    }
+    assert_eq!(rt; status, [9, 0]);
+    assert_eq!(rt; [told.low, told.place as i64], [6, 0]);
+    assert_eq!(rt; labels, [0, 1, 1]);
     Ok(())
 }

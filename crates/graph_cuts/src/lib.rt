@@ -6,6 +6,7 @@ pub use compile_cut::{Compiled, compile};
 pub use cost_store::{
     CostError, DataCost, LabelCostError, Problem, SmoothCost, check_table, is_metric, laws as costs,
 };
+pub use dual_bound::{BoundError, LowerBound, laws as duality, lower_bound, search_bytes};
 pub use flow_network::{Arc, Net, Solved, check_cut};
 pub use label_field::{LabelFieldError, Labelling, Pair, Pairs};
 pub use labellings::{Move, Moves};
