@@ -299,8 +299,8 @@ fn three_variables(rt: HostRuntime) -> Result<(), Fail> {
     Ok(())
 }
 
-/// Three sites in a row, whose pairs stand backwards, with costs of two labels that are not the same
-/// both ways: the labels 0 1 1 cost 6, and all others more. It takes 96 bytes.
+/// Three sites in a row, whose pairs stand backwards, with costs of two labels that are not the
+/// same both ways: the labels 0 1 1 cost 6, and all others more. It takes 96 bytes.
 #[test]
 fn bound_of_a_chain(rt: HostRuntime) -> Result<(), Fail> {
     let pairs = [
