@@ -24,7 +24,7 @@ and `tools/check_quotes.py` tests that it is up to date. For a caller, `docs/CAL
 - `x.old` is what `x` was at the call, and `x.new` what it is at the return. `x.now` is said of what a
   call cannot change.
 - The words are defined in `specs/` of the crate that the `ghost use` lines of the file name.
-  `docs/DEFINITIONS.md` has them in prose.
+  `docs/DEFINITIONS.md` has them in words.
 - A function that ends in `{}` has no code. It is a law: its contract is proved, and a proof may cite it.
 """
 ITEM = re.compile(r"pub (?:const fn|fn|struct|enum|trait|const|type|static)\b")
