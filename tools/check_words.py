@@ -3,12 +3,10 @@
 
     python3 tools/check_words.py                   lists what is wrong; the status is then 1
     python3 tools/check_words.py --wrap [CRATE ..] first breaks wide lines, then `rt fmt` is due
-    python3 tools/check_words.py --renew           first writes the list of what still stands
 
 A comment, a clause and a definition of specs/ are at most 100 columns wide, and so are the imports
 of specs/ and src/. The name of a definition stands in one crate. The name of a definition or a function is not a bare participle.
-The file wide_crates.txt lists the crates that still have wide lines. It may only lose lines: an
-entry that breaks no rule is told, too. ALLOWED and BARE have the names that stay for good.
+ALLOWED and BARE have the names that stay for good.
 """
 
 import re
@@ -17,7 +15,6 @@ from collections import defaultdict
 from pathlib import Path
 
 TOP = Path(__file__).resolve().parent.parent
-WIDE = TOP / "tools" / "wide_crates.txt"
 COLUMNS = 100
 
 # Names that stay in two crates, each with its reason.
@@ -298,10 +295,6 @@ def faults_of_participles(crates):
         yield f"{at}: {name} is a bare participle, which says nothing of what it is"
 
 
-def listed_in(path):
-    return set(path.read_text(encoding="utf-8").split()) if path.exists() else set()
-
-
 def faults_of_names(double):
     """The names that stand in two crates and are not allowed to."""
     for name, own in sorted(double.items()):
@@ -310,44 +303,29 @@ def faults_of_names(double):
             yield f"{name} is defined in two crates: {places_of}"
 
 
-def faults_of_widths(wide):
-    """What is wrong with the widths, and with the list of the crates that still have wide lines."""
-    listed = listed_in(WIDE)
-    for crate, places_of in sorted(wide.items()):
-        if crate not in listed:
-            for at, kind in places_of:
-                yield f"{at}: this {kind} is wider than {COLUMNS} columns"
-    for crate in sorted(listed - set(wide)):
-        yield f"{WIDE.relative_to(TOP)}: {crate} has no wide line, so the list has to lose it"
+def faults_of_widths(crates):
+    for at, kind in wide_places(crates):
+        yield f"{at}: this {kind} is wider than {COLUMNS} columns"
 
 
 def wide_places(crates):
-    """The wide lines of each crate that has some."""
-    found = defaultdict(list)
+    """The wide lines: where each is, and what it is."""
     for crate in crates:
         for path in all_sources(crate):
-            at = path.relative_to(TOP)
-            found[crate] += [(f"{at}:{line}", kind) for line, kind in wide_lines(path)]
-    return {crate: own for crate, own in found.items() if own}
-
-
-def write_list(path, names):
-    path.write_text("".join(name + "\n" for name in sorted(names)), encoding="utf-8")
+            for line, kind in wide_lines(path):
+                yield f"{path.relative_to(TOP)}:{line}", kind
 
 
 def main():
     crates = sorted(path.name for path in (TOP / "crates").iterdir() if (path / "src").is_dir())
     asked = sys.argv[1:]
-    if asked and asked[0] not in ("--wrap", "--renew"):
+    if asked and asked[0] != "--wrap":
         sys.exit(__doc__)
     if asked[:1] == ["--wrap"]:
         for crate in asked[1:] or crates:
             for path in all_sources(crate):
                 wrap(path)
-    double, wide = double_names(crates), wide_places(crates)
-    if asked == ["--renew"]:
-        write_list(WIDE, wide)
-    faults = list(faults_of_widths(wide)) + list(faults_of_names(double))
+    faults = [*faults_of_widths(crates), *faults_of_names(double_names(crates))]
     faults += faults_of_participles(crates)
     for fault in faults:
         print(fault)
