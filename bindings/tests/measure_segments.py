@@ -78,14 +78,14 @@ def runs(folder, name, photograph, seeds):
             "colours 10 rounds": ["--like", "colours", "--rounds", "10"]}
     for way, words in ways.items():
         out = folder / f"{name}-{way.replace(' ', '-')}.png"
-        began = time.time()
+        began = time.process_time()
         subprocess.run([sys.executable, "-m", "gco_proved", "segment", folder / f"{name}.png", folder / f"{name}-strokes.png", out, *words], check=True,
                        capture_output=True)
         yield way, numpy.asarray(Image.open(out)) == 0, time.time() - began
     for way, unknown in (("grabCut, the rest probably around", cv2.GC_PR_BGD), ("grabCut, the rest probably figure", cv2.GC_PR_FGD)):
-        began = time.time()
+        began = time.process_time()
         found = by_grabcut(photograph, seeds, unknown)
-        seconds = time.time() - began
+        seconds = time.process_time() - began
         Image.fromarray(numpy.where(found, 0, 255).astype(numpy.uint8)).save(folder / f"{name}-{way[:7]}-{unknown}.png")
         yield way, found, seconds
 
