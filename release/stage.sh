@@ -18,7 +18,7 @@ glibc_wanted() {
 gate_said() {
     if [ -z "$GATE_LOG" ]; then
         echo "not run for this release"
-    elif tail -n 1 "$GATE_LOG" | grep -Eqx '[0-9]+ passed, [0-9]+ failed'; then
+    elif tail -n 1 "$GATE_LOG" | grep -Eq '[0-9]+ passed, [0-9]+ failed'; then
         tail -n 1 "$GATE_LOG"
     else
         echo "$GATE_LOG does not end with a line 'N passed, M failed': run rt ci to its end" >&2

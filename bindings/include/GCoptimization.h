@@ -1,6 +1,6 @@
 // gco under the names of gco-v3 (GCoptimization.h), over gco.h: a program written for gco-v3's
-// grids and graphs is compiled again with this header and linked with libgco. C++11, this header
-// and gco.h alone.
+// grids and graphs is compiled again with this header and linked with libgco. C++11; this header,
+// gco_smooth.h and gco.h alone.
 //
 // As in gco-v3: labels start at 0; costs are int; expansion and swap answer the energy; whatever
 // the class throws is a GCException. Functions and functors of costs are asked anew in each call
@@ -42,6 +42,7 @@
 #include <vector>
 
 #include "gco.h"
+#include "gco_smooth.h"
 
 #ifndef GCO_MAX_ENERGYTERM
 #define GCO_MAX_ENERGYTERM 10000000
@@ -58,20 +59,6 @@ static_assert(
     std::is_integral<GCO_ENERGYTYPE>::value,
     "gco counts energies in long long: scale the costs, round them, and leave GCO_ENERGYTYPE away");
 #endif
-
-struct GCException {
-    explicit GCException(const std::string &m)
-        : text(std::make_shared<std::string>(m)), message(text->c_str()) {}
-    explicit GCException(const char *literal) : message(literal) {}
-    void Report() const { std::printf("\n%s\n", message); }
-
-private:
-    // kept by each copy, since the graph may be gone when it is caught
-    std::shared_ptr<std::string> text;
-
-public:
-    const char *message;
-};
 
 class GCoptimization {
 public:
@@ -337,7 +324,7 @@ protected:
                               std::to_string(sites_));
     }
     static std::string names(std::int64_t p, std::int64_t q) {
-        return "sites " + std::to_string(p) + " and " + std::to_string(q);
+        return gco_smooth::names(p, q);
     }
     // what is done without memory is told as all else is
     template <typename Work> static auto in_memory(Work work) -> decltype(work()) {
@@ -353,7 +340,7 @@ private:
     template <typename...> struct Absent : std::false_type {};
     enum class DataKind { none, dense, sparse };
     typedef std::function<EnergyTermType(SiteID, LabelID)> DataFunction;
-    typedef std::function<EnergyTermType(SiteID, SiteID, LabelID, LabelID)> SmoothFunction;
+    typedef gco_smooth::Function SmoothFunction;
 
     std::size_t label_total() const { return std::size_t(label_count_); }
     std::size_t place(SiteID site, LabelID label) const {
@@ -402,171 +389,12 @@ private:
             throw GCException(refusal);
     }
 
-    static std::uint64_t common(std::uint64_t a, std::uint64_t b) {
-        while (b != 0) {
-            const std::uint64_t rest = a % b;
-            a = b;
-            b = rest;
-        }
-        return a;
-    }
-
-    // the smooth costs of a call: pairs within the limit of weights, and a table with a row for
-    // each label of the first site
-    struct Laid {
-        explicit Laid(const GCoptimization &given)
-            : of(given), k(given.label_total()), pairs(&given.pairs_), table(k * k) {
-            if (of.smooth_function_) {
-                ask_function();
-                return;
-            }
-            for (std::size_t a = 0; a < k; a++)
-                for (std::size_t b = 0; b < k; b++) table[a * k + b] = of.smooth_[a + b * k];
-            check_table();
-            if (is_within()) return;
-            const std::uint64_t factor = divide_by_common(table);
-            weights.reserve(of.pairs_.size());
-            for (const gco_pair &pair : of.pairs_) weights.push_back(factor * pair.weight);
-            lay(of.pairs_);
-        }
-        Laid(const Laid &) = delete;
-        Laid &operator=(const Laid &) = delete;
-
-        void check_table() const {
-            for (std::size_t at = 0; at < table.size(); at++)
-                if (table[at] < 0)
-                    throw GCException(cost_name(at) + " is " + std::to_string(table[at]) +
-                                      ", below 0");
-        }
-        std::string cost_name(std::size_t at) const {
-            return "the smooth cost of labels " + std::to_string(at / k) + " and " +
-                   std::to_string(at % k);
-        }
-        bool is_within() const {
-            for (std::int32_t cost : table)
-                if (cost > GCO_SMOOTH_LIMIT) return false;
-            for (const gco_pair &pair : *pairs)
-                if (pair.weight > GCO_WEIGHT_LIMIT) return false;
-            return true;
-        }
-        static std::uint64_t divide_by_common(std::vector<std::int32_t> &costs) {
-            std::uint64_t factor = 0;
-            for (std::int32_t cost : costs) factor = common(factor, std::uint64_t(cost));
-            if (factor > 1)
-                for (std::int32_t &cost : costs) cost = std::int32_t(std::uint64_t(cost) / factor);
-            return factor;
-        }
-        // gives the table as much of the weights' common factor as it can take, and lays down what
-        // is left of each weight
-        void lay(const std::vector<gco_pair> &sites) {
-            const std::int64_t most = *std::max_element(table.begin(), table.end());
-            if (most > GCO_SMOOTH_LIMIT) throw GCException(too_much(most));
-            std::uint64_t all = 0, factor = 1;
-            for (std::uint64_t weight : weights) all = common(all, weight);
-            if (most > 0 && all > 0) {
-                factor = std::uint64_t(GCO_SMOOTH_LIMIT / most);
-                while (all % factor != 0) factor--;
-            }
-            for (std::int32_t &cost : table) cost = std::int32_t(std::uint64_t(cost) * factor);
-            check_count(sites, factor);
-            for (std::size_t i = 0; i < sites.size(); i++) {
-                std::uint64_t rest = weights[i] / factor;
-                for (; rest > GCO_WEIGHT_LIMIT; rest -= GCO_WEIGHT_LIMIT)
-                    add(sites[i], GCO_WEIGHT_LIMIT);
-                add(sites[i], std::uint32_t(rest));
-            }
-            pairs = &own;
-        }
-        void add(const gco_pair &sites, std::uint32_t weight) {
-            const gco_pair pair = {sites.first, sites.second, weight};
-            if (weight != 0) own.push_back(pair);
-        }
-        std::string too_much(std::int64_t most) const {
-            const std::ptrdiff_t at = std::max_element(table.begin(), table.end()) - table.begin();
-            return cost_name(std::size_t(at)) + " is " + std::to_string(most) +
-                   " without the common factor of all smooth costs, and at most 10,000 is taken";
-        }
-        // how many pairs are to be laid down, before memory is asked for them
-        void check_count(const std::vector<gco_pair> &sites, std::uint64_t factor) {
-            std::uint64_t count = 0;
-            std::size_t greatest = 0;
-            for (std::size_t i = 0; i < sites.size(); i++) {
-                if (weights[i] > weights[greatest]) greatest = i;
-                const std::uint64_t parts = (weights[i] / factor + GCO_WEIGHT_LIMIT - 1) /
-                                            GCO_WEIGHT_LIMIT;
-                count += std::min<std::uint64_t>(parts, GCO_PAIR_LIMIT + 1);
-            }
-            if (count > GCO_PAIR_LIMIT)
-                throw GCException("the weights come to more than 4,194,304 pairs of a weight of at "
-                                  "most 1,000, and the greatest "
-                                  "is that of " +
-                                  names(sites[greatest].first, sites[greatest].second) +
-                                  ": scale the weights down");
-            own.reserve(std::size_t(count));
-        }
-
-        // the costs of one pair, as gco-v3 asks for them: the greater site first
-        void ask_pair(const gco_pair &pair, std::vector<std::int32_t> &costs) const {
-            for (std::size_t a = 0; a < k; a++)
-                for (std::size_t b = 0; b < k; b++) {
-                    const EnergyTermType cost = of.smooth_function_(
-                        SiteID(pair.first), SiteID(pair.second), LabelID(a), LabelID(b));
-                    if (cost < 0)
-                        throw GCException("the smooth cost of " + names(pair.first, pair.second) +
-                                          " at labels " + std::to_string(a) + " and " +
-                                          std::to_string(b) + " is " + std::to_string(cost) +
-                                          ", below 0");
-                    costs[a * k + b] = cost;
-                }
-        }
-        // finds the table that all pairs share, and each pair's multiple of it
-        void ask_function() {
-            std::vector<gco_pair> sites(of.pairs_);
-            std::vector<std::int32_t> costs(table.size());
-            bool is_found = false;
-            std::size_t
-                mark = 0,
-                from = 0;   // a cost of the table that is not 0, and the pair that the table is of
-            for (std::size_t i = 0; i < sites.size(); i++) {
-                if (sites[i].first < sites[i].second) std::swap(sites[i].first, sites[i].second);
-                ask_pair(sites[i], costs);
-                if (!is_found) {
-                    for (mark = 0; mark < costs.size() && costs[mark] == 0; mark++) {}
-                    is_found = mark < costs.size();
-                    from = i;
-                    if (is_found) {
-                        table = costs;
-                        divide_by_common(table);
-                    }
-                }
-                const std::int64_t times = is_found ? costs[mark] / table[mark] : 0;
-                for (std::size_t at = 0; at < costs.size(); at++)
-                    if (costs[at] != times * table[at])
-                        throw GCException(no_proportion(sites[i], sites[from]));
-                weights.push_back(std::uint64_t(times) * sites[i].weight);
-            }
-            lay(sites);
-        }
-        static std::string no_proportion(const gco_pair &pair, const gco_pair &other) {
-            return "the smooth costs of " + names(pair.first, pair.second) +
-                   " are not in proportion to those of " + names(other.first, other.second) +
-                   ": gco takes smooth costs that are a weight of the two sites times "
-                   "one table of the labels. If the product is rounded, round the weight first: "
-                   "(int)(lambda * exp(-d * d / s)) * min(abs(a - b), T)";
-        }
-
-        const GCoptimization &of;
-        const std::size_t k;
-        const std::vector<gco_pair> *pairs;
-        std::vector<std::int32_t> table;
-        std::vector<std::uint64_t> weights;   // of each pair, before they are laid down
-        std::vector<gco_pair> own;
-    };
-
     // the arrays of a call; the data costs and the pairs are the class's own where nothing is to be
     // changed in them
     struct Arrays {
-        explicit Arrays(GCoptimization &given) : of(given), laid(given) {
+        explicit Arrays(GCoptimization &given)
+            : of(given),
+              laid(given.label_total(), given.pairs_, given.smooth_, given.smooth_function_) {
             of.ask_data();
             of.shift_ = 0;
             const std::size_t k = of.label_total();
@@ -623,7 +451,7 @@ private:
         }
 
         GCoptimization &of;
-        const Laid laid;
+        const gco_smooth::Laid laid;
         std::vector<std::int32_t> shifted;
     };
 

@@ -224,6 +224,10 @@ def fractions(count):
         refused(ValueError, g.add_grid_edges, ids, np.array([[1, np.nan], [1, 1]]), says="no number")
         refused(ValueError, g.add_grid_edges, ids, np.array([[1, np.inf], [1, 1]]), says="no limit")
         refused(ValueError, g.add_grid_tedges, ids, np.nan, 1, says="no number")
+        narrow = maxflow.Graph[int]()
+        narrow.add_nodes(1)
+        narrow.add_tedge(0, np.float32(inf), 7)
+        assert narrow.maxflow() == 7 and narrow.get_segment(0) == 0
         h = maxflow.Graph[float]()
         ids = h.add_grid_nodes((1, 3))
         h.add_grid_edges(ids, 0.5)

@@ -112,7 +112,7 @@ class Graph:
         self._bits = None
 
     def _capacity(self, cap: Any, ends: Tuple[int, int], words: str) -> int:
-        if isinstance(cap, float) and cap == INFINITE:
+        if not hasattr(cap, "__index__") and cap == INFINITE:
             self._infinite.append(ends)
             return VALUE_LIMIT
         if not hasattr(cap, "__index__"):

@@ -50,7 +50,8 @@ class Mixture:
     def __init__(self, colours: Any) -> None:
         numpy, image_class = numpy_and_pillow()
         row = image_class.fromarray(numpy.ascontiguousarray(colours[None]))
-        parts = numpy.asarray(row.quantize(PARTS, kmeans=1))[0]
+        # until at most a hundredth of the colours change their part
+        parts = numpy.asarray(row.quantize(PARTS, kmeans=1 + len(colours) // 100))[0]
         self.gaussians = []
         for part in numpy.unique(parts):
             inside = colours[parts == part].astype(float)
