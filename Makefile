@@ -27,7 +27,7 @@ NAME := gco-$(VERSION)-linux-x86_64
 STAGE := dist/$(NAME)
 ARCHIVE := dist/$(NAME).tar.gz
 DEB := dist/gco_$(VERSION)_amd64.deb
-PAGES := README.md docs/IMAGES.md docs/LABEL.md docs/ENERGY.md docs/SLOW.md docs/REFUSED.md
+PAGES := README.md docs/IMAGES.md docs/LABEL.md docs/ENERGY.md docs/SLOW.md docs/REFUSED.md docs/LARGE.md
 BINDINGS := $(MAKE) -C bindings VERSION=$(VERSION) PYTHON=$(PYTHON) \
 	$(if $(CRATE),CRATE=$(abspath $(CRATE)))
 

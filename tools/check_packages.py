@@ -25,7 +25,12 @@ COMMANDS = {
     "jpegtopnm": "netpbm",
     "pamdepth": "netpbm",
 }
-MODULES = {"numpy": "python3-numpy", "PIL": "python3-pil", "ensurepip": "python3-venv"}
+MODULES = {
+    "numpy": "python3-numpy",
+    "PIL": "python3-pil",
+    "ensurepip": "python3-venv",
+    "distributed": "python3-distributed",
+}
 # Tried only if they are there: the command or module, its package, what is left untried.
 OPTIONAL_COMMANDS = {
     "clang++": ("clang", "the headers and programs by a second compiler"),
@@ -38,6 +43,7 @@ OPTIONAL_MODULES = {
     "tqdm": ("python3-tqdm", "the progress bar"),
     "matplotlib": ("python3-matplotlib", "--plot"),
     "networkx": ("python3-networkx", "get_nx_graph"),
+    "zarr": ("python3-zarr", "tiles over zarr arrays"),
 }
 
 

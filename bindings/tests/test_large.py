@@ -46,7 +46,7 @@ def restored(folder):
     (folder / "noisy.pgm").write_bytes(b"P5\n1100 1000\n3\n" + noisy.tobytes())
     options = ("--levels", 4, "--smooth", "potts", "--weight", 1, "--no-scale")
     answers = []
-    for jobs, tile in ((1, 512), (2, 512), (2, 200)):
+    for jobs, tile in ((1, 256), (2, 256), (2, 500)):
         out = folder / f"restored{jobs}-{tile}.png"
         text = said(0, "1,100 x 1,000 = 1,100,000 pixels: it goes by tiles of", f"{tile} x {tile}, by", "energy",
                     of=("restore", folder / "noisy.pgm", out, *options, "--jobs", jobs, "--tile", tile))

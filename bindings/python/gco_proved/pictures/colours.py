@@ -9,6 +9,7 @@ UNIT = 20           # the costs of one nat: at --strong 1000 two like pixels cos
 PARTS = 5           # Gaussians for the colours of one kind (Rother, Kolmogorov and Blake 2004)
 SPREAD = 25.0       # the least variance of a colour in a Gaussian: five of 255
 ELSEWHERE = 0.01    # how much of a kind's colours may be any colour
+ROWS = 256          # rows whose colours are moved at a time
 
 
 def with_luminance(colours: Any, luminance: Any, restored: Any, blue: Any = 0,
@@ -16,10 +17,15 @@ def with_luminance(colours: Any, luminance: Any, restored: Any, blue: Any = 0,
     """The colours after their luminance has become `restored`, by as much in red, green and blue,
     so that Cb and Cr stay; `blue` and `red` are what is added to Cb and Cr (ITU-R BT.601)."""
     numpy, _ = numpy_and_pillow()
-    added = restored.astype(int) - luminance
-    parts = [added + 1.402 * red, added - 0.344136 * blue - 0.714136 * red, added + 1.772 * blue]
-    moved = colours + numpy.stack(parts, axis=-1)
-    return numpy.clip(numpy.rint(moved), 0, 255).astype(numpy.uint8)
+    blues, reds = (numpy.broadcast_to(plane, luminance.shape) for plane in (blue, red))
+    moved = numpy.empty(colours.shape, dtype=numpy.uint8)
+    for row in range(0, len(colours), ROWS):
+        at = slice(row, row + ROWS)
+        added = restored[at].astype(int) - luminance[at]
+        parts = [added + 1.402 * reds[at], added - 0.344136 * blues[at] - 0.714136 * reds[at],
+                 added + 1.772 * blues[at]]
+        moved[at] = numpy.clip(numpy.rint(colours[at] + numpy.stack(parts, axis=-1)), 0, 255)
+    return moved
 
 
 def chroma(colours: Any, luminance: Any) -> List[Any]:

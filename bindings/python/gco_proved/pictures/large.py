@@ -17,7 +17,7 @@ from .reading import LIMIT
 from .running import Ran, in_words
 from .words import Wrong, numpy_and_pillow
 
-SIDE = 512           # of a tile
+SIDE = 256           # of a tile
 FIRST = LIMIT // 4   # pixels of the shrunken picture of restore and stereo
 BAND = 8             # how far from the shrunken segments' border a pixel is free, in its pixels
 LEAST_GAIN = 0.001   # a sweep that lowers the energy by less than this part of it is the last

@@ -95,7 +95,7 @@ def _picture_options(parser: argparse.ArgumentParser, command: str) -> None:
     parser.add_argument("--jobs", type=_ranged(1, 1024), metavar="N",
                         help="processes for tiles (as many as there are processors)")
     parser.add_argument("--tile", type=_ranged(1, 1024), metavar="N",
-                        help="the side of a tile (512)")
+                        help="the side of a tile (256)")
     scale = parser.add_mutually_exclusive_group()
     scale.add_argument("--scale", dest="scale", action="store_true", default=None,
                        help="spread the labels over all greys"

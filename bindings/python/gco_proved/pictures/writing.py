@@ -2,10 +2,11 @@
 import os
 import pathlib
 import tempfile
-from typing import Any, Optional
+from typing import Any, Dict, Optional
 
 from .words import Wrong, numpy_and_pillow
 
+QUICK = 1 << 22  # a PNG of so many samples is compressed as fast as can be: else it takes longest
 WIDE = {".png", ".pgm", ".tif", ".tiff"}
 LOSSY = {".jpg", ".jpeg", ".webp", ".jp2"}
 
@@ -50,7 +51,9 @@ def write_picture(name: str, samples: Any, bits: int, profile: Optional[bytes] =
                 file.write(samples.astype(">u2" if bits == 16 else "u1").tobytes())
             else:
                 image = image_class.fromarray(samples)
-                more = {} if profile is None else {"icc_profile": profile}
+                more: Dict[str, Any] = {} if profile is None else {"icc_profile": profile}
+                if path.suffix.lower() == ".png" and samples.size > QUICK:
+                    more["compress_level"] = 1
                 image.save(file, format=image_class.EXTENSION[path.suffix.lower()], **more)
         os.chmod(file.name, 0o666 & ~_mask())
         os.replace(file.name, path)

@@ -2,7 +2,7 @@
 cluster.
 
     from gco_proved.tiles import label_tiles
-    found = label_tiles(data, smooth, weights, tile=(512, 512), executor=4)
+    found = label_tiles(data, smooth, weights, tile=256, executor=4)
 
 A tile whose surroundings are fixed is a problem of its own: a pair over the border goes into the
 data cost of the site inside. So a run over a tile never raises the energy of the whole.

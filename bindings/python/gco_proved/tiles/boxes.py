@@ -6,7 +6,7 @@ from .._library import PAIR_LIMIT, SITE_LIMIT
 
 Shape = Tuple[int, ...]
 Box = Tuple[slice, ...]
-USUAL = {2: (512, 512), 3: (64, 64, 64)}
+USUAL = {2: (256, 256), 3: (64, 64, 64)}
 OFFSETS: Dict[Tuple[int, int], List[Shape]] = {
     (2, 4): [(0, 1), (1, 0)],
     (2, 8): [(0, 1), (1, 0), (1, 1), (1, -1)],

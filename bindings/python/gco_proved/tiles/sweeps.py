@@ -99,7 +99,7 @@ def label_tiles(data: Any, smooth: Any, weights: Any = 1, *, shape: Any = None, 
     `smooth` and `moves` are those of gco_proved.label. Each tile's run makes so many `cycles` in a
     sweep, or all with None: one is quickest in the whole.
 
-    `tile` has the sides of a tile, by default 512 x 512 or 64 x 64 x 64. Each tile's run also looks
+    `tile` has the sides of a tile, by default 256 x 256 or 64 x 64 x 64. Each tile's run also looks
     at so many sites as `overlap` says beside it. `free` is an array of yes and no: the other sites
     keep their labels. Free sites that one problem can take are one tile by default. `start` is each
     site's cheapest label where none is given. `out` is where labels are written, as a memory map or
