@@ -134,16 +134,19 @@ def costs_below(unary: Any, pairwise: Any, weights: Any) -> Tuple[Costs, Fractio
     numpy = arrays.numpy
     if weights.size and weights.min() < 0:
         raise ValueError(f"weights: {weights.min()} is below 0: a weight is from 0 on")
+    unary, never = _limited(unary)
     least = numpy.minimum(unary.min(axis=-1, keepdims=True), 0) if unary.size else unary[..., :1]
     lowest = min(pairwise.min(), 0) if pairwise.size else 0
     shift = -_sum_up(-least) + Fraction(lowest.item() if lowest else 0) * _sum_up(weights)
     unary, pairwise = _less(unary, least), _less(pairwise, lowest)
     if all(table.dtype.kind != "f" for table in (unary, pairwise, weights)):
         return Costs(unary, *_balanced(pairwise, weights), 1.0, True), shift
-    by_pairwise, by_weight = _powers(unary, pairwise, weights)
+    by_pairwise, by_weight = _powers(unary, pairwise, weights, never)
     whole = (numpy.floor(unary * (by_pairwise * by_weight)), numpy.floor(pairwise * by_pairwise),
              numpy.floor(weights * by_weight))
     data, smooth, weighed = (table.astype(numpy.int64) for table in whole)
+    if never is not None:
+        data[never] = DATA_LIMIT
     return Costs(data, smooth, weighed, by_pairwise * by_weight, False), shift
 
 
