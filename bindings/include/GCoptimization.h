@@ -244,6 +244,23 @@ public:
         });
         alpha_beta_swap(alpha, beta);
     }
+    // beyond gco-v3: a number that no labelling's energy is below, after at most so many passes over
+    // the sites (-1: until it rises little). Nothing is promised of how near it comes
+    EnergyType lowerBound(int passes = -1) {
+        return in_memory([&] {
+            std::vector<std::uint32_t> told(labels_.size());
+            return Moves(*this).bound(passes, told);
+        });
+    }
+    // the same, and the labels become those that the passes tell: a run often ends lower from there
+    EnergyType startFromBound(int passes = -1) {
+        return in_memory([&] {
+            std::vector<std::uint32_t> told(labels_.size());
+            const EnergyType low = Moves(*this).bound(passes, told);
+            labels_.swap(told);
+            return low;
+        });
+    }
     EnergyType compute_energy() {
         return in_memory([&] { return Run(*this).make(GCO_EXPANSION, 0); });
     }
@@ -494,6 +511,18 @@ private:
                              std::to_string(beta),
                          energy());
             return of.outcome_.changed != 0;
+        }
+        EnergyType bound(int passes, std::vector<std::uint32_t> &labels) {
+            gco_bound told;
+            const std::uint32_t status = gco_lower_bound(
+                std::uint32_t(of.label_count_), costs.data(), costs.size(), smooth.data(),
+                smooth.size(), own.data(), own.size(), laid.pairs->data(), laid.pairs->size(),
+                passes < 0 ? GCO_ALL_PASSES : std::uint32_t(passes), GCO_ANY_SIZE, labels.data(),
+                labels.size(), &told);
+            of.outcome_ = gco_outcome();
+            of.outcome_.place = told.place;
+            check(status);
+            return told.low + of.shift_;
         }
         // a cycle of moves; yes where one changed a label
         bool cycle(std::uint32_t moves) {

@@ -34,6 +34,11 @@ int main() {
     for (int i = 0; i < sites; i++)
         WANT(result[i] == (i < 25 ? 0 : 5) && grid.whatLabel(i) == result[i]);
     WANT(grid.numSites() == sites && grid.numLabels() == labels);
+    // the bound is the least energy, which the labels that it tells have; a bound leaves the labels
+    for (int i = 0; i < sites; i++) grid.setLabel(i, 3);
+    WANT(grid.lowerBound() == 22 && grid.lowerBound(0) == 0 && grid.whatLabel(7) == 3);
+    WANT(grid.startFromBound(50) == 22 && grid.compute_energy() == 22 && grid.expansion() == 22);
+    for (int i = 0; i < sites; i++) grid.setLabel(i, 0);
     // the same by single moves, and by a function with a word of its own, which adds 1 at each site
     int extra = 1;
     grid.setDataCost(data_with, &extra);

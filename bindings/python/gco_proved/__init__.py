@@ -12,6 +12,7 @@ numpy arrays are taken and given where numpy is there, and lists and array.array
 no lock of Python while it runs, and calls in several threads do not meet.
 
 label, expand, swap              labels of sites; potts, linear and quadratic make smooth costs
+lower_bound, Found.gap           how near the least energy they are
 GCO, cut_general_graph, cut_grid_graph, cut_grid_graph_simple    the same, by gco-wrapper's names
 cut_simple, cut_simple_vh, cut_from_graph    the same, by pygco's names
 maxflow.Graph, maxflow.fastmin   a minimum cut and moves on grids, by PyMaxflow's names
@@ -24,6 +25,7 @@ from .cuts import cut_from_graph, cut_general_graph, cut_grid_graph, cut_grid_gr
 from .cuts import cut_simple, cut_simple_vh
 from .grids import grid_pairs
 from .labelling import Found, expand, label, linear, potts, quadratic, swap
+from .lower_bound import LowerBound, lower_bound
 from .maxflow import Graph, GraphFloat, GraphInt, abswap_grid, aexpansion_grid
 from .maxflow import energy_of_grid_labeling, fastmin, moore_structure, vonNeumann_structure
 from .minimum import minimise
@@ -36,8 +38,8 @@ try:
 except ImportError:  # the package as it lies in the repository, not laid out by make
     __version__ = "0+source"
 
-__all__ = ["Found", "GCO", "Graph", "GraphFloat", "GraphInt", "Refused", "Scaled", "abswap_grid",
+__all__ = ["Found", "GCO", "Graph", "GraphFloat", "GraphInt", "LowerBound", "Refused", "Scaled", "abswap_grid",
            "aexpansion_grid", "cut_from_graph", "cut_general_graph", "cut_grid_graph",
            "cut_grid_graph_simple", "cut_simple", "cut_simple_vh", "energy_of_grid_labeling",
-           "expand", "fastmin", "grid_pairs", "label", "linear", "maxflow", "minimise",
+           "expand", "fastmin", "grid_pairs", "label", "linear", "lower_bound", "maxflow", "minimise",
            "moore_structure", "potts", "quadratic", "swap", "vonNeumann_structure", "__version__"]

@@ -13,7 +13,8 @@ def main(words: Optional[List[str]] = None) -> int:
     options = command_line(__version__).parse_args(words)
     try:
         if options.command == "label":
-            sys.stdout.write(problems.label_lines(options.file, options.bound))
+            sys.stdout.write(problems.label_lines(
+                options.file, options.bound, options.gap, options.refine, options.passes))
             return 0
         if options.command == "energy":
             sys.stdout.write(problems.energy_lines(options.file))

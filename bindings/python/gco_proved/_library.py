@@ -1,9 +1,10 @@
-"""The shared library: where it is found, its structures and its five calls."""
+"""The shared library: where it is found, its structures and its six calls."""
 import ctypes
 import os
 import pathlib
 
 ALL_CYCLES = 2**32 - 1
+ANY_SIZE = 2**64 - 1
 SITE_LIMIT, LABEL_LIMIT, PAIR_LIMIT = 1048576, 256, 4194304
 WEIGHT_LIMIT, DATA_LIMIT, SMOOTH_LIMIT, LABEL_COST_LIMIT = 1000, 10000000, 10000, 10000000
 VARIABLE_LIMIT, TERM_LIMIT, VALUE_LIMIT = 2097152, 8388608, 1000000000
@@ -24,6 +25,12 @@ class Minimum(ctypes.Structure):
 
     _fields_ = [("value", ctypes.c_int64), ("place", ctypes.c_uint64),
                 ("fixed", ctypes.c_uint64), ("fixed_at", ctypes.c_uint64)]
+
+
+class Bound(ctypes.Structure):
+    """gco_bound of gco.h."""
+
+    _fields_ = [("low", ctypes.c_int64), ("place", ctypes.c_uint64)]
 
 
 def _open() -> ctypes.CDLL:
@@ -49,6 +56,7 @@ for _call, _types in [
     (calls.gco_label_int32, [*_TABLES, _U32, _U32, *_SLICE, _OUT]),
     (calls.gco_expand, [*_TABLES, _U32, *_SLICE, _OUT]),
     (calls.gco_swap, [*_TABLES, _U32, _U32, *_SLICE, _OUT]),
+    (calls.gco_lower_bound, [*_TABLES, _U32, ctypes.c_uint64, *_SLICE, _OUT]),
     (calls.gco_minimise, [ctypes.c_int64, *_SLICE, *_SLICE, *_SLICE, *_SLICE, _OUT]),
 ]:
     _call.restype, _call.argtypes = _U32, _types

@@ -3,6 +3,7 @@ from typing import Any, Optional
 
 from . import arrays
 from .cuts import energy_of, solved
+from .lower_bound import PASSES, LowerBound, bound_in_units
 from .scaling import costs_of
 
 
@@ -72,6 +73,14 @@ def abswap_grid(unary: Any, binary: Any, max_cycles: Optional[int] = None, label
                 return_scale: bool = False) -> Any:
     """As aexpansion_grid, by swaps of two labels."""
     return _minimised(unary, binary, max_cycles, labels, "swap", return_scale)
+
+
+def lower_bound_grid(unary: Any, binary: Any, passes: int = PASSES) -> LowerBound:
+    """A number that no labelling's energy is below, in the caller's own costs and rounded down, and
+    labels in the grid's shape to start from: see gco_proved.lower_bound."""
+    unary, binary, _ = _tables(unary, binary, None)
+    rows = _pairs_of_grid(unary.shape[:-1])
+    return bound_in_units(unary, binary, rows[:, :2], rows[:, 2], passes)
 
 
 def energy_of_grid_labeling(unary: Any, binary: Any, labels: Any) -> Any:

@@ -16,13 +16,7 @@ from .refusals import Refused
 LONG = 1 << 22
 
 
-class Found(NamedTuple):
-    """Labels as they ended: energy = data + smooth + label.
-
-    `cycles` says how many were made, and `settled` whether the last changed nothing. `bound` is
-    (vmin, vmax) where it is known: vmin * energy is at most 2 * vmax times the least energy.
-    """
-
+class _Found(NamedTuple):
     labels: Any
     energy: int
     data: int
@@ -31,6 +25,29 @@ class Found(NamedTuple):
     cycles: int
     settled: bool
     bound: Optional[Tuple[int, int]]
+
+
+class Found(_Found):
+    """Labels as they ended: energy = data + smooth + label.
+
+    `cycles` says how many were made, and `settled` whether the last changed nothing. `bound` is
+    (vmin, vmax) where it is known: vmin * energy is at most 2 * vmax times the least energy.
+    It keeps the arrays of its problem for `gap`; a pickled one does not.
+    """
+
+    given: Optional[Tuple[Any, Any, Any, Any]] = None
+
+    def gap(self, passes: int = 50) -> float:
+        """By what share the energy is above the least energy of all labellings, at most: 0.001
+        stands for 0.1 %. It is energy / low - 1, where `low` is what lower_bound tells; 0.0 tells
+        that there is no better labelling. Raises ValueError if the arrays of the problem are not
+        there any more, or were changed since.
+        """
+        from .lower_bound import gap_of
+        return gap_of(self, passes)
+
+    def __getstate__(self) -> None:
+        return None
 
 
 class Problem:
@@ -42,6 +59,7 @@ class Problem:
 
     def __init__(self, data: Any, smooth: Any, pairs: Any, label_costs: Any, start: Any,
                  narrow: bool = False) -> None:
+        self.given = (data, smooth, pairs, label_costs)
         tables = [taken(data, "data"), taken(smooth, "smooth"),
                   taken(() if label_costs is None else label_costs, "label_costs")]
         self._look(*tables)
@@ -161,8 +179,10 @@ class Problem:
         told, labels = self.told, self.labels
         if arrays.is_array(labels):
             labels = labels.reshape(self.shape)
-        return Found(labels, self.energy(), told.data, told.smooth, told.label, cycles, settled,
-                     bound)
+        found = Found(labels, self.energy(), told.data, told.smooth, told.label, cycles, settled,
+                      bound)
+        found.given = self.given
+        return found
 
 
 def _sides(values, what, status):

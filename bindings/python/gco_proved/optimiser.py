@@ -6,6 +6,7 @@ from .arrays import whole
 from .cuts import cycles_of
 from .grids import grid_pairs
 from .labelling import expand, label, swap
+from .lower_bound import PASSES, bound_in_units
 from .scaling import costs_of, whole_costs
 
 
@@ -148,6 +149,12 @@ class GCO:
     def alpha_beta_swap(self, l1: int, l2: int) -> Any:
         """One swap. Answers the energy."""
         return self._moved(swap, self._label(l1), self._label(l2))
+
+    def lower_bound(self, passes: int = PASSES) -> Any:
+        """A number that no labelling's energy is below, in the caller's own costs and rounded down:
+        see gco_proved.lower_bound. The labels stay as they are."""
+        self._asked()
+        return bound_in_units(self._unary, self._pairwise, *self._pairs(), passes).low
 
     def compute_energy(self) -> Any:
         """The energy of the labels."""

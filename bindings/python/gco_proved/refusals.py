@@ -10,6 +10,7 @@ WORDS = {
     6: "no such moves",
     7: "label_costs: there is not one cost for each label",
     8: "a label of the move is not there",
+    9: "the bound takes more bytes than most_bytes",
     10: "no such site in pair {place} (no such variable in term {place})",
     11: "no such label at site {place} of the start",
     12: "the same site twice in pair {place} (variable in term {place})",

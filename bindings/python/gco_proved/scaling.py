@@ -7,7 +7,8 @@ rounded up, which keeps a metric one, and the latter to the nearest. The powers 
 leave no fraction, where there are such within gco's limits, and else the greatest within them.
 """
 import math
-from typing import Any, NamedTuple, Optional
+from fractions import Fraction
+from typing import Any, NamedTuple, Optional, Tuple
 
 from . import arrays
 from ._library import DATA_LIMIT, SMOOTH_LIMIT, WEIGHT_LIMIT
@@ -123,6 +124,49 @@ def _limited(unary):
     if none_left.any():
         raise ValueError(f"unary: each label has no limit at site {int(none_left.argmax())}")
     return numpy.where(never, unary.min(axis=-1, keepdims=True), unary), never
+
+
+def costs_below(unary: Any, pairwise: Any, weights: Any) -> Tuple[Costs, Fraction]:
+    """Whole costs by the rule above, but each rounded down, and the energy that is to be added.
+
+    An energy of the caller's is not below that of the whole costs by `scale`, and the shift.
+    """
+    numpy = arrays.numpy
+    if weights.size and weights.min() < 0:
+        raise ValueError(f"weights: {weights.min()} is below 0: a weight is from 0 on")
+    unary, never = _limited(unary)
+    least = numpy.minimum(unary.min(axis=-1, keepdims=True), 0) if unary.size else unary[..., :1]
+    lowest = min(pairwise.min(), 0) if pairwise.size else 0
+    shift = -_sum_up(-least) + Fraction(lowest.item() if lowest else 0) * _sum_up(weights)
+    unary, pairwise = _less(unary, least), _less(pairwise, lowest)
+    if all(table.dtype.kind != "f" for table in (unary, pairwise, weights)):
+        return Costs(unary, *_balanced(pairwise, weights), 1.0, True), shift
+    by_pairwise, by_weight = _powers(unary, pairwise, weights, never)
+    whole = (numpy.floor(unary * (by_pairwise * by_weight)), numpy.floor(pairwise * by_pairwise),
+             numpy.floor(weights * by_weight))
+    data, smooth, weighed = (table.astype(numpy.int64) for table in whole)
+    if never is not None:
+        data[never] = DATA_LIMIT
+    return Costs(data, smooth, weighed, by_pairwise * by_weight, False), shift
+
+
+def _less(table, least):
+    """The table less what is below 0 in it; of fractions rounded down, where it cannot be exact."""
+    numpy = arrays.numpy
+    taken_off = table - least
+    if taken_off.dtype.kind != "f":
+        return taken_off
+    part = taken_off - table
+    lost = (table - (taken_off - part)) + (-least - part)  # what the difference is short of
+    return numpy.where(lost < 0, numpy.nextafter(taken_off, -numpy.inf), taken_off)
+
+
+def _sum_up(numbers):
+    """The sum of numbers from 0 on: of fractions not less than it."""
+    if numbers.dtype.kind != "f":
+        return Fraction(int(numbers.sum()))
+    total = math.fsum(numbers.ravel().tolist())
+    return Fraction(total) * (1 if total == 0 else 1 + Fraction(1, 2**52))
 
 
 def _shifted(unary, pairwise):

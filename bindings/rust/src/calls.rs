@@ -26,6 +26,13 @@ pub struct Minimum {
     pub fixed_at: u64,
 }
 
+#[repr(C)]
+#[derive(Clone, Copy, Default)]
+pub struct Bound {
+    pub low: i64,
+    pub place: u64,
+}
+
 /// `gco_label` and `gco_label_int32`, by the type of the costs.
 pub type Label<Cost> = unsafe extern "C" fn(
     u32,
@@ -107,6 +114,22 @@ extern "C" {
         labels: *mut u32,
         site_count: usize,
         told: *mut Outcome,
+    ) -> u32;
+    pub fn gco_lower_bound(
+        label_count: u32,
+        data: *const i64,
+        data_count: usize,
+        smooth: *const i64,
+        smooth_count: usize,
+        label_costs: *const i64,
+        label_cost_count: usize,
+        pairs: *const Pair,
+        pair_count: usize,
+        passes: u32,
+        allowed: u64,
+        labels: *mut u32,
+        site_count: usize,
+        told: *mut Bound,
     ) -> u32;
     pub fn gco_minimise(
         constant: i64,

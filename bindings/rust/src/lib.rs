@@ -117,8 +117,8 @@ impl Cost for i32 {}
 
 /// The status of a call over the arrays of a problem, with the call's own numbers, and what it told.
 macro_rules! call_over {
-    ($call:expr, $problem:expr, $labels:expr, $($number:expr),+) => {{
-        let mut told = calls::Outcome::default();
+    ($told:ty, $call:expr, $problem:expr, $labels:expr, $($number:expr),+) => {{
+        let mut told = <$told>::default();
         // Safety: each pointer is of a slice with its length, and the labels and `told` are
         // borrowed by this call alone.
         let status = unsafe {
@@ -152,7 +152,7 @@ impl<C: Cost> Problem<'_, C> {
         labels: &mut [u32],
     ) -> Result<Run, Refusal> {
         let cycles = cycles.unwrap_or(u32::MAX);
-        let (status, told) = call_over!(C::call(), self, labels, moves as u32, cycles);
+        let (status, told) = call_over!(calls::Outcome, C::call(), self, labels, moves as u32, cycles);
         if status != 0 {
             return Err(Refusal::of_outcome(status, &told));
         }
@@ -184,15 +184,41 @@ fn moved(status: u32, told: &calls::Outcome) -> Result<Move, Refusal> {
 }
 
 impl Problem<'_, i64> {
+    /// A number that no labelling's energy is below, after at most so many passes over the sites,
+    /// `None` for as many as raise it by a part in 10,000. Writes labels from which a run may start,
+    /// whose energy is mostly near the bound. Nothing is promised of how near the bound comes.
+    ///
+    /// It takes 8 bytes a site and label and 4 a pair and label, and is refused if these are more
+    /// than `allowed`. The labels that stand there before are tested, and play no other part.
+    pub fn lower_bound(
+        &self,
+        passes: Option<u32>,
+        allowed: Option<u64>,
+        labels: &mut [u32],
+    ) -> Result<i64, Refusal> {
+        let (status, told) = call_over!(
+            calls::Bound,
+            calls::gco_lower_bound,
+            self,
+            labels,
+            passes.unwrap_or(u32::MAX),
+            allowed.unwrap_or(u64::MAX)
+        );
+        if status != 0 {
+            return Err(Refusal::of_place(status, told.place as usize));
+        }
+        Ok(told.low)
+    }
+
     /// One move: every site keeps its label or takes `alpha`.
     pub fn expand(&self, alpha: u32, labels: &mut [u32]) -> Result<Move, Refusal> {
-        let (status, told) = call_over!(calls::gco_expand, self, labels, alpha);
+        let (status, told) = call_over!(calls::Outcome, calls::gco_expand, self, labels, alpha);
         moved(status, &told)
     }
 
     /// One move: every site that has `alpha` or `beta` takes either.
     pub fn swap(&self, alpha: u32, beta: u32, labels: &mut [u32]) -> Result<Move, Refusal> {
-        let (status, told) = call_over!(calls::gco_swap, self, labels, alpha, beta);
+        let (status, told) = call_over!(calls::Outcome, calls::gco_swap, self, labels, alpha, beta);
         moved(status, &told)
     }
 }

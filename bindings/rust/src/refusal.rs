@@ -20,6 +20,8 @@ pub enum Refusal {
     LabelCostCount,
     /// A label of the move is not there.
     NoSuchMove,
+    /// The bound takes more bytes than are allowed.
+    TooLarge,
     /// A pair (a term) names a site (a variable) that is not there.
     NoSuchSite {
         place: usize,
@@ -103,7 +105,7 @@ impl Refusal {
         }
     }
 
-    fn of_place(status: u32, place: usize) -> Refusal {
+    pub(crate) fn of_place(status: u32, place: usize) -> Refusal {
         match status {
             1 => Refusal::OutOfMemory,
             2 => Refusal::TooManySites,
@@ -111,6 +113,7 @@ impl Refusal {
             4 => Refusal::DataCount,
             5 => Refusal::SmoothCount,
             7 => Refusal::LabelCostCount,
+            9 => Refusal::TooLarge,
             10 => Refusal::NoSuchSite { place },
             11 => Refusal::NoSuchLabel { site: place },
             12 => Refusal::SameSite { place },
@@ -136,6 +139,7 @@ impl fmt::Display for Refusal {
             Refusal::SmoothCount => write!(f, "there is not one smooth cost for each two labels"),
             Refusal::LabelCostCount => write!(f, "there is not one label cost for each label"),
             Refusal::NoSuchMove => write!(f, "a label of the move is not there"),
+            Refusal::TooLarge => write!(f, "the bound takes more bytes than are allowed"),
             Refusal::NoSuchSite { place } => {
                 write!(
                     f,

@@ -170,7 +170,7 @@ impl Definition {
 #[test]
 fn labels() {
     let mut random = Random(88172645463325252);
-    let (mut answered, mut irregular, mut costly) = (0, 0, 0);
+    let (mut answered, mut irregular, mut costly, mut met) = (0, 0, 0, 0);
     for _ in 0..2000 {
         let definition = Definition::random(&mut random);
         let sites = definition.data.len() / definition.labels as usize;
@@ -227,11 +227,36 @@ fn labels() {
             }
         }
         single_moves(&definition, &problem, &start, &mut random);
+        met += usize::from(is_bound_met(&definition, &problem, &start));
     }
+    assert!(met > 1000, "{met}");
     assert!(
         answered > 1000 && irregular > 50 && costly > 100,
         "{answered} {irregular} {costly}"
     );
+}
+
+/// Whether the bound is the least energy of all labellings; it is never above that, nor below what
+/// the cheapest labels cost.
+fn is_bound_met(definition: &Definition, problem: &Problem, start: &[u32]) -> bool {
+    let mut labels = start.to_vec();
+    let low = problem.lower_bound(None, None, &mut labels).unwrap();
+    let k = definition.labels as usize;
+    let least = (0..k.pow(start.len() as u32))
+        .map(|number| {
+            let label = |site: usize| (number / k.pow(site as u32) % k) as u32;
+            definition.energy(&(0..start.len()).map(label).collect::<Vec<u32>>())
+        })
+        .min()
+        .unwrap();
+    let cheapest: i64 = definition
+        .data
+        .chunks(k)
+        .map(|costs| costs.iter().min().unwrap())
+        .sum();
+    assert!(cheapest <= low && low <= least, "{cheapest} {low} {least}");
+    assert!(labels.iter().all(|label| *label < definition.labels));
+    low == least
 }
 
 fn single_moves(definition: &Definition, problem: &Problem, start: &[u32], random: &mut Random) {

@@ -251,3 +251,31 @@ fn terms() {
         Err(Refusal::TooManySites)
     );
 }
+
+#[test]
+fn bounds() {
+    let start = [0; 5];
+    let mut labels = start;
+    let bytes = (8 * 5 + 4 * 2) * 3;
+    let low = districts().lower_bound(Some(20), Some(bytes), &mut labels);
+    assert!(low.unwrap() >= 21);
+    labels = start;
+    assert_eq!(
+        districts().lower_bound(Some(20), Some(bytes - 1), &mut labels),
+        Err(Refusal::TooLarge)
+    );
+    let bad = Problem {
+        data: &DATA[1..],
+        ..districts()
+    };
+    assert_eq!(
+        bad.lower_bound(None, None, &mut labels),
+        Err(Refusal::DataCount)
+    );
+    assert_eq!(labels, start);
+    let mut beyond = [0, 0, 3, 0, 0];
+    assert_eq!(
+        districts().lower_bound(None, None, &mut beyond),
+        Err(Refusal::NoSuchLabel { site: 2 })
+    );
+}

@@ -214,7 +214,8 @@ def run_picture(options: argparse.Namespace) -> int:
     ran = _in_rounds(options, task)
     labels = writing.spread(ran.found.labels, task.greatest, bits, scale)
     tells_labels = options.command == "restore" and options.label_cost is not None
-    lines = [running.lines(ran.found, tells_labels, options.bound)]
+    low = ran.low if options.gap else None
+    lines = [running.lines(ran.found, tells_labels, options.bound, low)]
     stopped, profile = ran.stopped, None
     if task.coloured is not None:
         labels, stopped = _coloured(options, task.coloured, labels, stopped, lines)
@@ -223,7 +224,7 @@ def run_picture(options: argparse.Namespace) -> int:
     _say(options, "\n".join(lines))
     if options.plot:
         name = pathlib.Path(options.files[0]).name
-        plots.plot(options.plot, ran.steps, f"{options.command} {name}")
+        plots.plot(options.plot, ran.steps, f"{options.command} {name}", ran.low)
     if stopped:
         done = ran.done or f"{max(len(ran.steps) - 1, 0)} moves"
         print(f"stopped after {done}: {out} is what was found till then", file=sys.stderr)
@@ -233,9 +234,14 @@ def run_picture(options: argparse.Namespace) -> int:
 
 def _ran(options, data, smooth, pairs, label_costs, kept):
     drawn = False if options.quiet else options.progress
+    bounded = options.gap or options.refine
     if hasattr(data, "piece"):
+        if bounded:
+            raise Wrong("--gap and --refine take a picture of at most 1,048,576 pixels: make it"
+                        " smaller with --fit")
         return large.ran(data, smooth, pairs, options, drawn)
-    return running.ran(data, smooth, pairs, label_costs, options.moves, options.cycles, drawn, kept)
+    return running.ran(data, smooth, pairs, label_costs, options.moves, options.cycles, drawn, kept,
+                       options.passes if bounded else 0, options.refine)
 
 
 def _in_rounds(options, task):
@@ -265,7 +271,8 @@ def _coloured(options, picture, luminance, stopped, lines):
                        large.even_pairs(plane.shape, options.chroma, options.neighbours or 4),
                        None, False)
             moved[place] = levels.values(ran.found.labels) - plane
-            lines.append(f"{('Cb', 'Cr')[place]} {running.lines(ran.found, False, False)}")
+            low = ran.low if options.gap else None
+            lines.append(f"{('Cb', 'Cr')[place]} {running.lines(ran.found, False, False, low)}")
             stopped = ran.stopped
             if stopped:
                 break

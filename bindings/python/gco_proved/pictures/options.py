@@ -87,6 +87,7 @@ def _picture_options(parser: argparse.ArgumentParser, command: str) -> None:
         parser.add_argument("--moves", choices=["expansion", "swap"], default="expansion",
                             help="of one label, or of two (expansion)")
         parser.add_argument("--bound", action="store_true", help="say how near the energy is")
+    _gap_options(parser)
     parser.add_argument("--cycles", type=_ranged(0, 1000), default=100, metavar="N",
                         help="the most cycles of moves (100)")
     parser.add_argument("--fit", action="store_true",
@@ -111,6 +112,16 @@ def _picture_options(parser: argparse.ArgumentParser, command: str) -> None:
     parser.add_argument("--quiet", action="store_true", help="say nothing but what went wrong")
 
 
+def _gap_options(parser: argparse.ArgumentParser) -> None:
+    parser.add_argument("--gap", action="store_true",
+                        help="say how far above the least energy it is at most")
+    parser.add_argument("--refine", action="store_true",
+                        help="start from the labels that the bound of --gap tells: it mostly ends"
+                        " lower")
+    parser.add_argument("--passes", type=_ranged(1, 1000), default=50, metavar="N",
+                        help="the most passes of --gap and --refine (50)")
+
+
 def command_line(version: str) -> argparse.ArgumentParser:
     """The parser of `python -m gco`."""
     parser = argparse.ArgumentParser(
@@ -129,6 +140,7 @@ def command_line(version: str) -> argparse.ArgumentParser:
         one.add_argument("file", nargs="?", default="-", help="a TOML file, else standard input")
         if name == "label":
             one.add_argument("--bound", action="store_true", help="say how near the energy is")
+            _gap_options(one)
     return parser
 
 

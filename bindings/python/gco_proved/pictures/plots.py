@@ -1,5 +1,5 @@
 """--plot: the energy over the moves, and its parts."""
-from typing import Any, List
+from typing import Any, List, Optional
 
 from .words import Wrong
 
@@ -16,8 +16,9 @@ def look_at_plot() -> Any:
     return pyplot
 
 
-def plot(name: str, steps: List[Any], title: str) -> None:
-    """Draws the energy, and the parts of the pixels, the pairs and the labels, over the moves."""
+def plot(name: str, steps: List[Any], title: str, low: Optional[int] = None) -> None:
+    """Draws the energy, and the parts of the pixels, the pairs and the labels, over the moves; and
+    under it the bound, if there is one."""
     pyplot = look_at_plot()
     figure, axes = pyplot.subplots(figsize=(9, 5), constrained_layout=True)
     over = range(len(steps))
@@ -27,6 +28,8 @@ def plot(name: str, steps: List[Any], title: str) -> None:
     for name_of_part, values in parts.items():
         if any(values) or name_of_part != "label":
             axes.plot(over, values, label=name_of_part)
+    if low is not None:
+        axes.axhline(low, label="least at least", color="black", linestyle="dotted")
     for place in range(1, len(steps)):
         if steps[place].cycle != steps[place - 1].cycle and place > 1:
             axes.axvline(place - 1, color="lightgrey", linewidth=0.8, zorder=0)

@@ -5,9 +5,10 @@ from typing import Any, Dict, List, Tuple
 from .. import labelling, minimum
 from .._library import DATA_LIMIT, LABEL_COST_LIMIT, PAIR_LIMIT, SITE_LIMIT, SMOOTH_LIMIT
 from .._library import TERM_LIMIT, VALUE_LIMIT, VARIABLE_LIMIT, WEIGHT_LIMIT
+from ..lower_bound import lower_bound
 from ..refusals import Refused
 from .reading import bytes_of
-from .running import bound_line
+from .running import bound_line, gap_line
 from .words import Wrong
 
 BYTES = 268435456
@@ -117,8 +118,9 @@ def _pairs(read: Dict[str, Any], sites: int) -> List[Tuple[int, ...]]:
     return pairs
 
 
-def label_lines(name: str, bound: bool) -> str:
-    """What `gco label` prints of a problem file."""
+def label_lines(name: str, bound: bool, gap: bool = False, refine: bool = False,
+                passes: int = 50) -> str:
+    """What `gco label` prints of a problem file, and with `gap` a line more."""
     read = document(name)
     sites = _number(read, "sites", 0, SITE_LIMIT, None)
     labels = _number(read, "labels", 1, 256, None)
@@ -143,7 +145,14 @@ def label_lines(name: str, bound: bool) -> str:
                         "label_costs")
     if isinstance(smooth, str):
         smooth = TABLES[smooth](labels, trunc)
+    if refine and start is not None:
+        raise Wrong("--refine starts from labels of its own, and the file has a start: leave one of"
+                    " the two away")
+    low = None
     try:
+        if gap or refine:
+            low, told = lower_bound(data, smooth, pairs, label_costs=costs, passes=passes)
+            start = told if refine else start
         found = labelling.label(data, smooth, pairs, label_costs=costs, moves=moves, cycles=cycles,
                                 start=start)
     except Refused as refused:
@@ -151,7 +160,8 @@ def label_lines(name: str, bound: bool) -> str:
     text = f"energy {found.energy} data {found.data} smooth {found.smooth}"
     text += f" label {found.label}\n" if costs is not None else "\n"
     text += " ".join(["labels", *map(str, list(found.labels))]) + "\n"
-    return text + bound_line(found.bound) + "\n" if bound else text
+    text += bound_line(found.bound) + "\n" if bound else ""
+    return text + gap_line(found.energy, low) + "\n" if gap else text
 
 
 def _line_of(refused: Refused, moves: str) -> Exception:
