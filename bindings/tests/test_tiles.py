@@ -309,6 +309,44 @@ def free_sites():
     assert kept.settled and not kept.labels.any() and len(kept.energies) == 1
 
 
+def bounds():
+    """The parts of the tiles add up to each labelling's energy, and no labelling is below the bound."""
+    from gco_proved.tiles import bound
+    rng = random.Random(11)
+    told = bound.lower_bound
+    equal = 0
+    for _ in range(150):
+        dimensions = rng.choice([2, 2, 3])
+        shape = tuple(rng.randrange(1, 4 if dimensions == 2 else 3) for _ in range(dimensions))
+        connect = rng.choice([2 * dimensions, 8 if dimensions == 2 else 26])
+        steps = STEPS[dimensions, connect]
+        data, smooth, weights = costs_of(rng, shape, steps, 2)
+        even = isinstance(weights, int)
+        problem = Problem(data.reshape(-1, 2).tolist(), smooth.tolist(), pairs_of(shape, steps, [weights] * len(steps) if even else weights), [])
+        tile = tuple(rng.randrange(1, most + 1) for most in shape)
+        least = min(map(problem.energy, itertools.product(range(2), repeat=problem.sites)))
+        low = bound.lower_bound_tiles(data, smooth, weights, tile=tile, connect=connect)
+        assert low <= least, (low, least, shape, tile)
+        equal += low == least
+        labels = np.array([rng.randrange(2) for _ in range(problem.sites)]).reshape(shape)
+        boxes = bound.shared_boxes(shape, tile)
+
+        def paid(part, table, pairs, passes):
+            box, _ = next(boxes)
+            one = Problem(part.reshape(-1, 2).tolist(), table.tolist(), pairs.tolist(), [])
+            return gco.LowerBound(one.energy(labels[box].reshape(-1).tolist()), None)
+
+        try:
+            bound.lower_bound = paid
+            total = bound.lower_bound_tiles(data, smooth, weights, tile=tile, connect=connect)
+        finally:
+            bound.lower_bound = told
+        assert total == problem.energy(labels.reshape(-1).tolist()), (shape, tile, connect)
+    assert equal > 50, equal
+    found = wanted()
+    assert 0.9 * found.energy < bound.lower_bound_tiles(DATA, SMOOTH, WEIGHTS, tile=TILE, executor=2) <= found.energy
+
+
 def mistakes():
     def wrong(kind, *words, says, of=DATA, smooth=SMOOTH, **more):
         return refused(kind, label_tiles, of, smooth, *words, says=says, **more)
@@ -377,6 +415,7 @@ if __name__ == "__main__":
         near_the_whole()
         stops(made)
         free_sites()
+        bounds()
         mistakes()
         threads_side_by_side()
         print("gco_proved.tiles:", ", ".join(said))

@@ -7,6 +7,7 @@ cluster.
 A tile whose surroundings are fixed is a problem of its own: a pair over the border goes into the
 data cost of the site inside. So a run over a tile never raises the energy of the whole.
 """
+from .bound import lower_bound_tiles
 from .sweeps import Tiled, label_tiles
 
-__all__ = ["Tiled", "label_tiles"]
+__all__ = ["Tiled", "label_tiles", "lower_bound_tiles"]
