@@ -22,17 +22,18 @@ def first_ones():
     """The programs before "Many pictures", one after another."""
     space, said = {}, io.StringIO()
     with contextlib.redirect_stdout(said):
-        for _, text in programs()[:3]:
+        for _, text in programs()[:4]:
             exec(compile(text, "PYTHON.md", "exec"), space)
     lines = said.getvalue().splitlines()
     assert lines[0] == "27 [1, 1, 1, 2, 2] bound (1, 1)", lines
-    assert lines[1].startswith("cycle 1 label 0: ") and lines[-1].endswith("energy 27"), lines
+    assert lines[1] == "27 27 0.0", lines
+    assert lines[2].startswith("cycle 1 label 0: ") and lines[-1].endswith("energy 27"), lines
     assert space["found"].energy == 27
 
 
 def fractions():
     """The program of fractions, where numpy is there: what it prints stands behind its last line."""
-    text, said = programs()[3][1], io.StringIO()
+    text, said = programs()[4][1], io.StringIO()
     try:
         import numpy
     except ImportError:
@@ -44,11 +45,11 @@ def fractions():
 
 def many_pictures():
     """many.py by itself and by threads: the same energies of two files."""
-    name, text = programs()[4]
+    name, text = programs()[5]
     assert name == "many.py", name
     with tempfile.TemporaryDirectory() as folder:
         pathlib.Path(folder, name).write_text(text)
-        pathlib.Path(folder, "threads.py").write_text(programs()[5][1])
+        pathlib.Path(folder, "threads.py").write_text(programs()[6][1])
         for number in (1, 2):
             side = range(256)
             pathlib.Path(folder, f"picture{number}.raw").write_bytes(bytes((x * number + y * y // 64) % 256 // (1 + (x ^ y) % 3) for y in side for x in side))
