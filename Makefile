@@ -2,6 +2,10 @@
 #   make release                   dist/: an archive, a Debian package, the wheel, checksums
 #   make install PREFIX=/usr/local DESTDIR=
 #   make uninstall PREFIX=/usr/local DESTDIR=
+#   make web                       dist/gco.html: the page for a browser, with the library in it
+#                                  (made before a release, it is part of that)
+#   make npm                       dist/gco-proved-VERSION.tgz: the same library for node
+#   make check-web                 tries both in real browsers, beside the program
 #   make check                     tries the program, the bindings, the release, the manuals, the
 #                                  completions and the pages
 #   make bench                     measures the program beside another: bench/README.md
@@ -30,6 +34,9 @@ DEB := dist/gco_$(VERSION)_amd64.deb
 PAGES := README.md docs/IMAGES.md docs/LABEL.md docs/ENERGY.md docs/SLOW.md docs/REFUSED.md docs/LARGE.md
 BINDINGS := $(MAKE) -C bindings VERSION=$(VERSION) PYTHON=$(PYTHON) \
 	$(if $(CRATE),CRATE=$(abspath $(CRATE)))
+
+PICTURES := $(if $(CRATE),$(dir $(abspath $(CRATE))),$(abspath crates)/)gco_pictures
+WEB := $(MAKE) -C web PYTHON=$(PYTHON) CRATE=$(PICTURES)
 
 release: $(ARCHIVE) $(DEB)
 	cp $(STAGE)/python/*.whl dist
@@ -79,6 +86,16 @@ check-program: check-packages $(GCO)
 check-bindings: check-packages $(GCO)
 	GCO_PROGRAM=$(abspath $(GCO)) $(BINDINGS) test
 
+web:
+	$(WEB) all
+
+npm:
+	$(WEB) npm
+
+check-web: $(GCO)
+	$(BINDINGS) IMAGES_CRATE=$(PICTURES) test_images
+	$(WEB) test GCO=$(abspath $(GCO)) LIBRARY=$(abspath bindings/dist/lib/libgco_pictures.so)
+
 check-packages:
 	@$(PYTHON) tools/check_packages.py
 
@@ -92,7 +109,8 @@ clean:
 
 FORCE:
 
-.PHONY: release install uninstall check check-pages check-program check-bindings check-packages \
+.PHONY: web npm check-web \
+	release install uninstall check check-pages check-program check-bindings check-packages \
 	bench clean FORCE
 .DELETE_ON_ERROR:
 .NOTPARALLEL:

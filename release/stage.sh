@@ -54,6 +54,9 @@ put_pages() {
     cp LICENSE-MIT LICENSE-APACHE "$doc"
     cp docs/* "$doc/docs"
     cp examples/* "$doc/examples"
+    # The page for a browser, if `make web` made it: here, and on top of the archive.
+    [ ! -f dist/gco.html ] || cp dist/gco.html "$doc"
+    [ ! -f dist/gco.html ] || cp dist/gco.html "$stage"
     # What the pages have a user run.
     cp tools/where_time_goes.py tools/picture_energy.py tools/show_assignment.py "$doc/tools"
 }

@@ -86,7 +86,7 @@ export class Gco {
 
   segment(picture, seeds, options = {}) {
     return isBytes(picture) ? this.run("segment", picture, seeds ?? {})
-      : this.run("segment", writePgm(picture, { ...picture, maxval: 2, samples: seeds }), options);
+      : this.run("segment", writePgm(picture, { ...picture, maxval: 255, samples: seeds }), options);
   }
 
   /** A command over the bytes of PGM. */

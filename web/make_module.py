@@ -11,18 +11,18 @@ is trusted. --kept takes the LLVM module of (1) from an earlier run's folder, if
 """
 import argparse
 import os
-import shutil
-import subprocess
 import sys
 import tempfile
 from pathlib import Path
 
+HERE = Path(__file__).resolve().parent
+TOP = HERE.parent
+sys.path.insert(0, str(TOP / "tools"))
+
+from build_for import build, kit_folder, run
 from to_wasm64 import to_wasm64
 from wasm_module import with_narrow_table
 
-TOP = Path(__file__).resolve().parent.parent
-HERE = TOP / "web"
-CRATE = "gco_pictures"
 EXPORTS = ["gco_restore_pgm", "gco_stereo_pgm", "gco_segment_pgm"]
 WASM64 = """--target=wasm64-unknown-unknown -mcpu=lime1 -ffunction-sections -fdata-sections --no-default-config
     -no-canonical-prefixes -fintegrated-cc1 -fno-crash-diagnostics -Werror -mllvm -expand-div-rem-bits=64
@@ -32,49 +32,6 @@ KEEPING = """#!/bin/sh
 for word in "$@"; do case "$word" in *.bc) cp "$word" "{kept}/module.bc" ;; esac; done
 exec "{clang}" "$@"
 """
-
-
-def kit_folder():
-    rt = shutil.which("rt")
-    if not rt:
-        sys.exit("rt is missing: put the toolchain's bin on the PATH")
-    return Path(rt).resolve().parent.parent
-
-
-def run(*words, **more):
-    done = subprocess.run([str(word) for word in words], **more)
-    if done.returncode:
-        sys.exit(f"{Path(str(words[0])).name} ended with status {done.returncode}")
-
-
-def crates():
-    """Of each crate of the repository what it stands on."""
-    lines = (line.split("#")[0].strip() for line in (TOP / "crates.txt").read_text().splitlines())
-    return {line.split(":")[0].split()[0]: line.split(":")[1].split() for line in lines if ":" in line}
-
-
-def below(name, known):
-    """The crates of the repository that a crate stands on, near or far."""
-    found, due = [], list(known[name])
-    while due:
-        crate = due.pop()
-        if crate in known and crate not in found:
-            found.append(crate)
-            due += known[crate]
-    return found
-
-
-def libraries(kit, folder):
-    """The words that name the libraries of the crate: those of the kit, and what `rt lib` left beside the crate."""
-    known = crates()
-
-    def place(name):
-        return folder.parent / name / "out/rlib" / f"{name}.rlib" if name in known else kit / "rlibs" / f"{name}.rlib"
-
-    for name in ("core", "std", *known[CRATE]):
-        yield from ("--extern", f"{name}={place(name)}")
-    for at in [kit / "rlibs", *(place(name).parent for name in below(CRATE, known))]:
-        yield from ("-L", f"dependency={at}")
 
 
 def keeping_toolchain(kit, room, kept):
@@ -97,11 +54,8 @@ def proved_module(kit, folder, room, kept):
     """The LLVM module that the toolchain makes of the crate. It makes none unless the crate is proved."""
     kept.mkdir(parents=True, exist_ok=True)
     if not (kept / "module.bc").exists():
-        run(kit / "bin/rattle", "build", "--crate-name", CRATE, "src/lib.rt", *libraries(kit, folder),
-            "--antt-project", kit / "rattle/logic/antt-project.json", "--logic-built", kit / "logic_built",
-            "--incremental", "out/incremental", "--links", f"{CRATE}=", "--target", "x86_64-unknown-linux-gnu",
-            "--crate-type", "staticlib", "--toolchain", keeping_toolchain(kit, room, kept),
-            "-o", room / f"lib{CRATE}.a", cwd=folder)
+        tools = keeping_toolchain(kit, room, kept)
+        build(folder, "x86_64-unknown-linux-gnu", room / f"lib{folder.name}.a", tools)
     return kept / "module.bc"
 
 
@@ -130,7 +84,7 @@ def lowered(module, room, out):
 def main():
     parser = argparse.ArgumentParser(description=__doc__.split("\n")[0])
     parser.add_argument("out", type=Path)
-    parser.add_argument("--crate", type=Path, default=TOP / "crates" / CRATE)
+    parser.add_argument("--crate", type=Path, default=TOP / "crates/gco_pictures")
     parser.add_argument("--kept", type=Path)
     parser.add_argument("--wide", type=Path, help="where the module of 64-bit memory goes, too")
     options = parser.parse_args()

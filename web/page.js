@@ -97,7 +97,8 @@ const CYCLES = 100;
 const JOBS = {
   segment() {
     const { picture } = state, scaled = (id) => Math.round(value(id) * picture.maxval / 255);
-    const [low, high] = $("byGrey").checked ? [scaled("low"), scaled("high")] : [0, 0];
+    const middle = Math.round(128 * picture.maxval / 255); // the same for both labels: then strokes and edges alone decide
+    const [low, high] = $("byGrey").checked ? [scaled("low"), scaled("high")] : [middle, middle];
     return { input: writePgm(picture, { ...picture, maxval: 2, samples: state.seeds }),
       options: { low, high, strong: value("strong"), weak: value("weak"), edge: scaled("edge") } };
   },
@@ -231,6 +232,7 @@ function choose(values) {
 function listenToSettings() {
   for (const label of document.querySelectorAll("fieldset label:has(output)")) {
     const input = label.querySelector("input"), show = () => { label.querySelector("output").textContent = input.value; };
+    label.htmlFor = input.id; // and not the output, which stands before it
     input.addEventListener("input", show);
     input.addEventListener("change", () => { if (state.mode === "segment" && state.last) run(); });
     show();

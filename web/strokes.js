@@ -37,8 +37,7 @@ function showUndo() {
 function strokesChanged() {
   showUndo();
   draw();
-  if (!$("live").checked) return;
-  if (hasBothStrokes()) run();
+  if ($("live").checked && hasBothStrokes()) run();
   else say(wantedNext());
 }
 

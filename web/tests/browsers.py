@@ -147,7 +147,7 @@ class Firefox(Browser):
     def run(self, script, *values):
         # by the page's own eval: a sandbox does not see what a script of the page declares
         text = f"JSON.stringify((function () {{ {script} }}).apply(null, {json.dumps(values)}) ?? null)"
-        words = "return window.wrappedJSObject.eval(arguments[0])"
+        words = "return (window.wrappedJSObject ?? window).eval(arguments[0])"
         return json.loads(self.ask("WebDriver:ExecuteScript", script=words, args=[text])["value"])
 
     def shot(self, path):

@@ -64,7 +64,14 @@ def any_picture(drawn, width, height, maxval):
     return (drawn.choice(["P5"] * 30 + ["P6"]) + head + "\n").encode() + body
 
 
+# Costs that are no metric, beside data costs that part neighbours: most such runs meet a pair that is not regular.
+ROUGH = {"labels": 8, "cap": 300, "smooth": "quadratic", "trunc": 10_000, "weight": 1, "neighbours": 4,
+         "moves": "expansion", "cycles": 100}
+
+
 def any_call(drawn):
+    if drawn.random() < 0.05:
+        return "stereo", ROUGH, any_picture(drawn, 12, 12, 255) + any_picture(drawn, 12, 12, 255)
     command = drawn.choice(list(COMMANDS))
     width, height = drawn.randint(1, 14), drawn.randint(1, 14)
     maxval = drawn.choice([1, 3, 7, 31, 255, 255, 256, 65_535] if command != "restore" else [1, 3, 7, 15, 15, 300])

@@ -30,7 +30,7 @@ def main():
         folder = Path(room)
         (folder / "node_modules").mkdir()
         with tarfile.open(options.package) as archive:
-            archive.extractall(folder, filter="data")
+            archive.extractall(folder)
         (folder / "package").rename(folder / "node_modules/gco-proved")
         for name in ("package.mjs", "compare.js"):
             shutil.copy(HERE / name, folder)

@@ -1,7 +1,7 @@
 #!/usr/bin/env python3
 """Tries the page in real browsers, by its own buttons, beside the built program and the native library.
 
-    python3 tests/test_page.py --page gco.html --module gco.wasm --gco PATH --library PATH [--shots FOLDER]
+    python3 tests/test_page.py --page gco.html --module gco.wasm --library PATH [--gco PATH] [--shots FOLDER]
 
 Wants Debian's chromium, chromium-driver, python3-selenium and firefox-esr. The first thing that is not as it should be
 ends the run in status 1.
@@ -19,7 +19,7 @@ HERE = Path(__file__).resolve().parent
 sys.path[:0] = [str(HERE), str(HERE.parent)]
 
 from browsers import Chromium, Firefox
-from cases import WANTED_STATUSES, random_cases, statuses
+from cases import WANTED_STATUSES, Native, random_cases, statuses
 from wasm_module import edited, with_memory_of
 
 EXAMPLES = HERE.parent.parent / "examples"
@@ -35,7 +35,7 @@ PICTURES = [
     ("stereo", ["dots.pgm"], {"labels": 8, "cap": 80, "stereoWeight": 30, "stereoSmooth": "potts"},
      "--labels 8 --cap 80 --weight 30"),
     ("segment", ["camera.jpg", "painted.png"], {"byGrey": False, "strong": 100, "weak": 3, "edge": 8},
-     "--low 0 --high 0 --strong 100 --weak 3 --edge 8"),
+     "--low 128 --high 128 --strong 100 --weak 3 --edge 8"),
     ("restore", ["photo.jpg"], {"most": 65536, "levels": 8, "smooth": "linear", "weight": 1, "trunc": 2},
      "--smooth linear --trunc 2"),
     ("restore", ["photo.jpg"], {"most": 262144, "levels": 8, "smooth": "linear", "weight": 1, "trunc": 2},
@@ -117,17 +117,23 @@ def try_random_calls(browser, cases):
         " library = await instantiate(await unpacked(data.module));"
         " postMessage(differing(library, Refused, data.cases)); };`;"
         "const tried = new Worker(URL.createObjectURL(new Blob([own], { type: 'text/javascript' })));"
-        "tried.onerror = (event) => { window.told = [String(event.message)]; };"
-        "tried.onmessage = ({ data }) => { window.told = data; tried.terminate(); };"
+        "tried.onerror = (event) => { window.told = { wrong: [String(event.message)] }; };"
+        "tried.onmessage = ({ data }) => { window.told = { wrong: data }; tried.terminate(); };"
         "tried.postMessage({ module: bytesOf(MODULE), cases: arguments[1] })",
         (HERE / "compare.js").read_text(), cases)
-    wrong = browser.wait("return window.told", 250)
+    wrong = browser.wait("return window.told", 250)["wrong"]
     wants(wrong == [], f"{browser.name} answers otherwise than the native library: {wrong}")
 
 
 # --- The page's own buttons ---
 
-def try_pictures(browser, gco):
+def same_by_program(gco, words, asked, found):
+    ran = subprocess.run([gco, *words], input=asked, capture_output=True)
+    wants(ran.returncode == 0, f"gco {' '.join(words)} says {ran.stderr.decode()}")
+    wants(ran.stdout == found, f"the page's bytes are not those of gco {' '.join(words)}")
+
+
+def try_pictures(browser, native, gco):
     for mode, names, settings, words in PICTURES:
         begun = time.time()
         browser.click(f"[data-mode={mode}]")
@@ -141,14 +147,14 @@ def try_pictures(browser, gco):
         page_seconds = browser.run("return state.last.seconds")
         asked, found = bytes_of(browser, "state.last.job.input"), bytes_of(browser, "state.last.pgm")
         start = time.time()
-        ran = subprocess.run([gco, mode, *words.split()], input=asked, capture_output=True)
-        native = time.time() - start
-        wants(ran.returncode == 0, f"the program says {ran.stderr.decode()}")
-        wants(ran.stdout == found, f"{mode} of {names}: the page's bytes are not the program's")
-        shown = browser.run("return wordsOf(state.last.job)")
-        again = subprocess.run([gco, *shown.split()[1:]], input=asked, capture_output=True)
-        wants(again.stdout == found, f"the command that the page shows makes other bytes: {shown}")
-        told(f"  {mode} {'+'.join(names)}: the same bytes; {page_seconds:.2f} s in the Worker, the program {native:.2f} s", begun)
+        options = {"moves": "expansion", "labelCost": 0, **browser.run("return state.last.job.options")}
+        wanted = native.answer(mode, options, asked)
+        seconds = time.time() - start
+        wants(wanted["pgm"] == found.hex(), f"{mode} of {names}: the page's bytes are not the native library's")
+        if gco:
+            same_by_program(gco, [mode, *words.split()], asked, found)
+            same_by_program(gco, browser.run("return wordsOf(state.last.job)").split()[1:], asked, found)
+        told(f"  {mode} {'+'.join(names)}: the same bytes; {page_seconds:.2f} s in the Worker, natively {seconds:.2f} s", begun)
 
 
 def try_strokes(browser):
@@ -224,7 +230,7 @@ def try_sentences(browser, folder):
     browser.click("#run")
     said = answered(browser)
     wants(said == "Refused: the option low is out of its range.", f"an option out of its range: {said}")
-    browser.run("JOBS.segment = () => ({ input: null, options: {} })")
+    browser.run("JOBS.segment = () => ({ input: null, options: { low: 0, high: 0 } })")
     browser.click("#run")
     said = answered(browser)
     wants(said.startswith("The run ended by an error that is no refusal"), f"an error: {said}")
@@ -310,7 +316,7 @@ def missing():
 def main():
     parser = argparse.ArgumentParser(description=__doc__.split("\n")[0])
     for name in ("page", "module", "gco", "library", "shots"):
-        parser.add_argument(f"--{name}", type=Path, required=name != "shots")
+        parser.add_argument(f"--{name}", type=Path, required=name in ("page", "module", "library"))
     parser.add_argument("--count", type=int, default=2000)
     options = parser.parse_args()
     if missing():
@@ -323,12 +329,13 @@ def main():
         folder = Path(room)
         shots = options.shots or folder
         shots.mkdir(parents=True, exist_ok=True)
-        in_chromium(page, module, options.gco.resolve(), cases, folder, shots)
+        gco = options.gco and options.gco.resolve()
+        in_chromium(page, module, Native(options.library.resolve()), gco, cases, folder, shots)
         in_firefox(page, cases, shots)
     print("test_page: all passed")
 
 
-def in_chromium(page, module, gco, cases, folder, shots):
+def in_chromium(page, module, native, gco, cases, folder, shots):
     browser = Chromium()
     try:
         begun = time.time()
@@ -336,7 +343,7 @@ def in_chromium(page, module, gco, cases, folder, shots):
         try_module(browser, page)
         try_random_calls(browser, cases)
         told("Chromium: the module, and the random calls", begun)
-        try_pictures(browser, gco)
+        try_pictures(browser, native, gco)
         try_strokes(browser)
         try_stop(browser)
         try_sentences(browser, folder)

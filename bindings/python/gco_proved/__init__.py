@@ -17,6 +17,7 @@ GCO, cut_general_graph, cut_grid_graph, cut_grid_graph_simple    the same, by gc
 cut_simple, cut_simple_vh, cut_from_graph    the same, by pygco's names
 maxflow.Graph, maxflow.fastmin   a minimum cut and moves on grids, by PyMaxflow's names
 minimise                         the least assignment of yes-no variables
+restore_pgm, stereo_pgm, segment_pgm    the picture commands, from bytes of PGM to bytes of PGM
 
 `python -m gco` restores, matches and segments pictures: `python -m gco --help`.
 """
@@ -30,6 +31,7 @@ from .maxflow import Graph, GraphFloat, GraphInt, abswap_grid, aexpansion_grid
 from .maxflow import energy_of_grid_labeling, fastmin, moore_structure, vonNeumann_structure
 from .minimum import minimise
 from .optimiser import GCO
+from .pgm import Labelled, restore_pgm, segment_pgm, stereo_pgm
 from .refusals import Refused
 from .scaling import Scaled
 
@@ -38,8 +40,10 @@ try:
 except ImportError:  # the package as it lies in the repository, not laid out by make
     __version__ = "0+source"
 
-__all__ = ["Found", "GCO", "Graph", "GraphFloat", "GraphInt", "LowerBound", "Refused", "Scaled", "abswap_grid",
-           "aexpansion_grid", "cut_from_graph", "cut_general_graph", "cut_grid_graph",
-           "cut_grid_graph_simple", "cut_simple", "cut_simple_vh", "energy_of_grid_labeling",
-           "expand", "fastmin", "grid_pairs", "label", "linear", "lower_bound", "maxflow", "minimise",
-           "moore_structure", "potts", "quadratic", "swap", "vonNeumann_structure", "__version__"]
+__all__ = ["Found", "GCO", "Graph", "GraphFloat", "GraphInt", "Labelled", "LowerBound",
+           "Refused", "Scaled", "abswap_grid", "aexpansion_grid", "cut_from_graph", "cut_general_graph",
+           "cut_grid_graph", "cut_grid_graph_simple", "cut_simple", "cut_simple_vh",
+           "energy_of_grid_labeling", "expand", "fastmin", "grid_pairs", "label", "linear",
+           "lower_bound", "maxflow", "minimise", "moore_structure", "potts", "quadratic",
+           "restore_pgm", "segment_pgm", "stereo_pgm", "swap", "vonNeumann_structure",
+           "__version__"]

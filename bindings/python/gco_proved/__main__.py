@@ -7,11 +7,13 @@ def main(words: Optional[List[str]] = None) -> int:
     """Runs a command; answers 0, 1 where it was refused, 2 where seeds or words do not say what is
     wanted, and 130 where Ctrl-C stopped it."""
     from gco_proved import __version__
-    from gco_proved.pictures import commands, problems
+    from gco_proved.pictures import browser, commands, problems
     from gco_proved.pictures.options import command_line
     from gco_proved.pictures.words import Wrong
     options = command_line(__version__).parse_args(words)
     try:
+        if options.command == "page":
+            return browser.open_page()
         if options.command == "label":
             sys.stdout.write(problems.label_lines(
                 options.file, options.bound, options.gap, options.refine, options.passes))

@@ -134,6 +134,8 @@ def command_line(version: str) -> argparse.ArgumentParser:
                                   epilog=f"{_likes(name)}\n\nexample: {example}",
                                   formatter_class=argparse.RawDescriptionHelpFormatter)
         _picture_options(one, name)
+    words = "opens the page for a browser, where pictures are cut, restored and matched"
+    commands.add_parser("page", help=words, description=words)
     for name, words in (("label", "solves a problem of labels (docs/LABEL.md)"),
                         ("energy", "solves a yes-no energy (docs/ENERGY.md)")):
         one = commands.add_parser(name, help=words, description=words)
