@@ -151,8 +151,7 @@ fn refused_segments(rt: HostRuntime) -> Result<(), Fail> {
     for (place, row) in REFUSED.iter().enumerate() {
         let mut out = [7u8; 12];
         let mut told = NO_OUTCOME;
-        let room = row.2.min(12);
-        let status = gco_segment_pgm(rt.alloc(), &row.0, row.1, &mut out[..room], &mut told);
+        let status = gco_segment_pgm(rt.alloc(), &row.0, row.1, &mut out[..row.2], &mut told);
         assert!(rt; status == row.3, "row {place}: status {status}");
         assert!(rt; out == [7; 12], "row {place}: the buffer is another");
         assert!(rt;
