@@ -4,7 +4,8 @@
     python3 tools/check_quotes.py           lists what is wrong, and ends in status 1 if anything is
     python3 tools/check_quotes.py --renew   first writes the right lines and quotes, where a name leads to them
 
-docs/CONTRACTS.md and the last part of docs/DEFINITIONS.md are made of the sources: they have to be up to date.
+docs/CONTRACTS.md and the last part of docs/DEFINITIONS.md are made of the sources: they have to be up to date. So
+have the sizes of the proof in docs/PROVED.md.
 
 A place is told as `name` (`crates/NAME/specs/File.antt:12`): line 12 of that file must define the name. A quote is a
 block of code after a paragraph with a place: its lines must stand in that file, from that line on. A block after a
@@ -17,6 +18,7 @@ from pathlib import Path
 
 import contracts_page
 import definitions_page
+import proof_size
 
 TOP = Path(__file__).resolve().parent.parent
 PAGES = ["README.md", "docs/PROVED.md", "docs/CALLING.md"]
@@ -129,10 +131,12 @@ def main():
             (TOP / page).write_text(renewed(page), encoding="utf-8")
         for made in MADE:
             made.PAGE.write_text(made.page(), encoding="utf-8")
+        proof_size.renew()
     elif sys.argv[1:]:
         sys.exit(__doc__)
     faults = [fault for page in PAGES for fault in faults_of(page)]
     faults += [f"docs/{made.PAGE.name} is not up to date" for made in MADE if not made.is_current()]
+    faults += proof_size.faults()
     for fault in faults:
         print(fault)
     places = 0
