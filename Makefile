@@ -8,7 +8,8 @@
 #   make check-web                 tries both in real browsers, beside the program
 #   make check                     tries the program, the bindings, the release, the manuals, the
 #                                  completions and the pages
-#   make bench                     measures the program beside another: bench/README.md
+#   make bench                     measures the program beside another: bench/README.md;
+#                                  BENCH_OPTIONS=--renew writes the figures into the pages
 # The program and the library are what `rt run` in crates/gco and `make -C bindings` leave.
 # Others may be named:
 #   GCO=path/of/gco                the built program
@@ -75,6 +76,7 @@ check: check-pages check-program check-bindings release
 # What the pages say of the sources and of each other.
 check-pages: check-packages
 	$(PYTHON) tools/check.py --quick
+	$(PYTHON) bench/test_measure.py
 
 # The built program: against the definitions, on damaged inputs, and with each allocation refused.
 check-program: check-packages $(GCO)

@@ -3,6 +3,7 @@
 
     make bench GCO=path/of/gco                          all runs: at most 10 minutes
     make bench GCO=path/of/gco BENCH_OPTIONS=--quick    small pictures: under a minute
+    make bench GCO=path/of/gco BENCH_OPTIONS=--renew    all runs, and their figures into the pages
 
 Each program is run in turn, so that what else the machine does falls on all alike. Of each the best
 of the runs counts. Seconds are those of the whole program, with reading and writing. "Times" is
@@ -10,9 +11,9 @@ gco's seconds over those of the other, by the clock and by the processor; the me
 one. Memory is the most that was in use at once. The pictures that are written have to be the same,
 byte for byte, and the energies too: else the status is 1.
 
-The tables go to standard output and into the folder --out. `--renew ../docs/MEASURED.md` puts them
-into that page too, between their marks. On a machine that does other work the seconds mean
-nothing, and the ratios little.
+The tables go to standard output and into the folder --out. `--renew` puts them into docs/MEASURED.md
+too, between their marks, and the mean into the pages that tell it (tools/check_figures.py). On a
+machine that does other work the seconds mean nothing, and the ratios little.
 """
 import argparse
 import collections
@@ -32,7 +33,9 @@ from pathlib import Path
 from inputs import make_inputs
 
 HERE = Path(__file__).resolve().parent
-sys.path.insert(0, str(HERE.parent / "tools"))
+TOP = HERE.parent
+sys.path.insert(0, str(TOP / "tools"))
+import check_figures  # noqa: E402
 import where_time_goes  # noqa: E402
 
 # What the pages call the run, the picture, the words, whether --quick has it.
@@ -263,14 +266,14 @@ def shares_of(options, picture, words):
 
 
 def where_table(options, pictures):
-    """Where the time of some runs goes, by samples; nothing where perf gives none."""
+    """Where the time of some runs goes, by samples of perf."""
     cases = {case[0]: case for case in BESIDE}
     columns = [
         shares_of(options, pictures / f"{picture}.pgm", words)
         for picture, words in (cases[title][1:3] for title in SAMPLED)
     ]
     if not all(columns):
-        return []
+        return ["Not measured: `perf` gave no samples on this machine."]
     parts = {part for column in columns for part in column}
     lines = ["| part |" + "".join(f" {title} |" for title in SAMPLED)]
     lines.append("|---" * (len(SAMPLED) + 1) + "|")
@@ -294,8 +297,10 @@ def machine_line(options, rounds):
     )
 
 
-def put_into(page, tables):
-    """Puts each table between its marks, `<!-- bench NAME -->` and `<!-- end -->`."""
+def put_into(top, tables):
+    """Puts each table between its marks, `<!-- bench NAME -->` and `<!-- end -->`, and the mean into
+    the pages that tell it."""
+    page = top / check_figures.MEASURED
     text = page.read_text(encoding="utf-8")
     for name, lines in tables.items():
         mark = re.compile(rf"(<!-- bench {name} -->\n).*?(<!-- end -->)", re.DOTALL)
@@ -304,6 +309,7 @@ def put_into(page, tables):
         made = "\n".join(["", *lines, "", ""])
         text = mark.sub(lambda found: found.group(1) + made + found.group(2), text)
     page.write_text(text, encoding="utf-8")
+    check_figures.renew(top)
 
 
 def parsed():
@@ -317,8 +323,10 @@ def parsed():
     parser.add_argument("--minutes", type=float, default=9, help="no round is begun after these")
     parser.add_argument("--only", default="", help="the runs whose name has this text")
     parser.add_argument("--out", default=HERE / "out", type=Path)
-    parser.add_argument("--renew", type=Path, metavar="PAGE")
+    parser.add_argument("--renew", action="store_true", help="the tables go into the pages, too")
     options = parser.parse_args()
+    if options.renew and (options.quick or options.only):
+        parser.error("--renew wants all runs")
     options.gco = os.path.abspath(options.gco)
     return options
 
@@ -360,7 +368,7 @@ def main():
     print(text, end="")
     (options.out / "tables.md").write_text(text, encoding="utf-8")
     if options.renew:
-        put_into(options.renew, tables)
+        put_into(TOP, tables)
     sys.exit(1 if differ or unlike else 0)
 
 

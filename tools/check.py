@@ -12,7 +12,7 @@ import sys
 from pathlib import Path
 
 TOOLS = Path(__file__).resolve().parent
-CHECKS = ["words", "edits", "quotes", "links", "refused", "format"]
+CHECKS = ["words", "edits", "quotes", "links", "pages", "refused", "figures", "format"]
 SLOW = {"format"}
 
 
