@@ -3,8 +3,8 @@
 
     python3 tools/check_refused.py
 
-The lines are taken from crates/program_texts/src/fault_line.rt, which prints them, and from the tables of
-docs/LABEL.md and docs/ENERGY.md, which have the lines of their command but for those of every command.
+The numbers are taken from crates/program_texts/src/fault_line.rt, which prints the lines. Other pages have
+no table of these lines.
 """
 import re
 import sys
@@ -14,7 +14,7 @@ from refused_page import COMMANDS, refusals, refusals_of
 
 TOP = Path(__file__).resolve().parent.parent
 UNPRINTED = {23}
-PAGES = {"docs/LABEL.md": "label", "docs/ENERGY.md": "energy"}
+PAGE = "docs/REFUSED.md"
 
 
 def printed_numbers():
@@ -23,13 +23,11 @@ def printed_numbers():
     return {int(number) for number in re.findall(r'"(\d+)(?: [a-z]+ ?)?"', text)}
 
 
-def table_lines(page):
-    """The refused lines that stand in the first cells of a page's tables."""
-    lines = set()
-    for row in (TOP / page).read_text(encoding="utf-8").split("\n"):
-        if row.startswith("| `refused "):
-            lines.update(re.findall(r"`(refused [^`]+)`", row.split(" | ")[0]))
-    return lines
+def tables_elsewhere():
+    """The other pages that have a table of refused lines."""
+    for page in sorted((TOP / "docs").glob("*.md")):
+        if page != TOP / PAGE and "\n| `refused " in page.read_text(encoding="utf-8"):
+            yield page.name
 
 
 def faults():
@@ -39,10 +37,8 @@ def faults():
         yield f"refused {number} can be printed and is not on the page"
     for number in sorted(told - printed_numbers()):
         yield f"refused {number} is on the page and nothing prints it"
-    for page, command in PAGES.items():
-        listed = {row.line for row in refusals_of(command) if row.commands != COMMANDS}
-        for line in sorted(table_lines(page) ^ listed):
-            yield f"{line}: in one of docs/REFUSED.md and {page} alone"
+    for page in tables_elsewhere():
+        yield f"docs/{page} has a table of refused lines too"
     for command in COMMANDS:
         if not refusals_of(command):
             yield f"no line of {command} is on the page"
