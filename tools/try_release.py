@@ -3,11 +3,11 @@
 
     python3 tools/try_release.py dist/gco-0.2.0-linux-x86_64.tar.gz dist/gco_0.2.0_amd64.deb
 
-Unpacks it, tests its sums, installs it, runs the program on the examples, compiles the programs of
-docs/BINDINGS.md by pkg-config and by CMake, imports the wheel, reads the manuals, loads the
-completions, and takes all of it away again. Then dpkg installs the Debian package into a root of
-its own, where it is tried and taken away. Each step prints what it took; the first that fails
-ends the run in status 1.
+Unpacks it, tests its sums, runs the first commands of its README.md as they are written, installs it,
+runs the program on the examples, compiles the programs of docs/BINDINGS.md by pkg-config and by CMake,
+imports the wheel, reads the manuals, loads the completions, and takes all of it away again. Then dpkg
+installs the Debian package into a root of its own, where it is tried and taken away. Each step prints
+what it took; the first that fails ends the run in status 1.
 """
 import os
 import re
@@ -28,6 +28,7 @@ ENERGIES = [
     ("districts.toml", ["label"], "energy 27 data 23 smooth 4\nlabels 1 1 1 2 2\n"),
     ("small.toml", ["energy"], "minimum 12\nassignment 100\n"),
 ]
+FIRST = re.compile(r"^```sh by hand\n(tar xzf .*?)^```$", re.DOTALL | re.MULTILINE)
 STYLE = re.compile(".\b|\x1b\\[[0-9;]*m")  # how bold and italic letters reach a terminal
 DISTRICTS = "energy 27\nlabels 1 1 1 2 2\n"
 CMAKE = """cmake_minimum_required(VERSION 3.10)
@@ -43,8 +44,9 @@ target_link_libraries(shared gco::shared)
 class Trial:
     """A folder of its own, and the environment of a user without a toolchain."""
 
-    def __init__(self, folder, package):
+    def __init__(self, folder, archive, package):
         self.folder = folder
+        self.archive = archive
         self.package = package
         self.prefix = folder / "prefix"
         self.env = {
@@ -92,6 +94,26 @@ def unpack(trial, archive):
     left = re.findall(r"@[A-Z]+@", (tree / "RELEASE.md").read_text())
     wants(left, [], "RELEASE.md has words that were not filled in")
     return tree
+
+
+def first_picture(trial, tree):
+    """The archive's commands of README.md, "Get it", as they are written, in an empty home."""
+    commands = FIRST.search((tree / "share/doc/gco/README.md").read_text(encoding="utf-8")).group(1)
+    home = trial.folder / "home"
+    home.mkdir()
+    shutil.copy(trial.archive, home)
+    env = {
+        "PATH": "/usr/bin:/bin",
+        "HOME": str(home),
+        "LC_ALL": "C.UTF-8",
+        "PIP_DISABLE_PIP_VERSION_CHECK": "1",
+    }
+    told = trial.run(["bash", "-euc", commands], cwd=home, env=env)
+    if ENERGIES[0][2] not in told:
+        sys.exit(f"the first commands of README.md do not print {ENERGIES[0][2]}{told}")
+    for picture in ("restored.pgm", "restored.png"):
+        if not (home / picture).exists():
+            sys.exit(f"the first commands of README.md leave no {picture}")
 
 
 def install(trial, tree):
@@ -300,9 +322,10 @@ def try_deb(trial, tree):
 def main():
     archive, package = (Path(word).resolve() for word in sys.argv[1:])
     with tempfile.TemporaryDirectory() as name:
-        trial = Trial(Path(name), package)
+        trial = Trial(Path(name), archive, package)
         tree = unpack(trial, archive)
         for step in (
+            first_picture,
             install,
             run_program,
             try_library,
