@@ -26,7 +26,13 @@ PARTS = [
     ("reading", ("pgm_image", "byte_streams", "problem_files", "toml", "command_line", "clap")),
     ("pairs", ("label_field", "grouping")),
     ("costs", ("cost_store", "vision", "run_options", "labellings", "rayon")),
-    ("deciding", ("move_rises", "deciding", "stages", "closing_in")),
+    (
+        "deciding",
+        (
+            "move_rises", "rise_forms", "move_forms", "deciding", "stages", "stage_parts",
+            "closing_in",
+        ),
+    ),
     (
         "building",
         (
@@ -38,8 +44,8 @@ PARTS = [
     (
         "cutting by workers",
         (
-            "rounds", "label_search", "forks", "block_", "laid_blocks", "global_relabel", "worker",
-            "rtrb",
+            "rounds", "label_search", "forks", "block_", "laid_blocks", "node_buckets",
+            "global_relabel", "worker", "rtrb",
         ),
     ),
     ("moves", ("single_moves", "moves", "minimum")),
