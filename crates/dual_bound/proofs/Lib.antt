@@ -1,4 +1,5 @@
 pub mod Entries
 pub mod Gentle
+pub mod Level
 pub mod Under
 pub mod Duality

@@ -19,10 +19,11 @@ abbrev pub ArePaid : ℕ → (ℕ → ℕ → ℕ) → List ℕ → List ℕ →
 ArePaid labels cost added taken given = (a b : ℕ) → a < labels → b < labels
     → slice_index added b + slice_index given a ≤ slice_index taken a + cost a b
 
--- no two of the numbers are further apart than their labels cost
-abbrev pub AreNear : ℕ → (ℕ → ℕ → ℕ) → List ℕ → Type 0
-AreNear labels cost numbers = (a b : ℕ) → a < labels → b < labels
-    → slice_index numbers b ≤ slice_index numbers a + cost a b
+-- what is added at a label of the one site is paid by what is taken off at each of the other and
+-- what the two labels cost the pair
+abbrev pub AreTakenOff : ℕ → (ℕ → ℕ → ℕ) → List ℕ → List ℕ → Type 0
+AreTakenOff labels cost added taken = (a b : ℕ) → a < labels → b < labels
+    → slice_index added b ≤ slice_index taken a + cost a b
 
 -- the rows are under the energy with the first so many pairs counted in: the entries of a
 -- labelling's labels are together at most what its labels cost the sites and those pairs

@@ -5,7 +5,7 @@
 //! what messages add there is shared out among the pairs ahead, and each of them passes on what
 //! reaches its other site. Nothing of this is promised: whatever the messages are, the bound that
 //! they prove is one.
-ghost use Rattle.std.specs.Prelude.{◌≡◌, ℕ, ◌+◌, ◌*◌, ◌^◌, ◌<◌, ◌≤◌, All, IfOk, length};
+ghost use Rattle.std.specs.Prelude.{◌≡◌, ℕ, ◌+◌, ◌*◌, ◌^◌, ◌<◌, ◌≤◌, All, IfOk, IfSome, length};
 ghost use Rattle.cost_store.specs.Posed.{IsPosed, FitsProblem};
 ghost use Rattle.label_field.specs.Limits.{label_limit};
 ghost use Rattle.label_field.specs.PairLists.{IsPair};
@@ -123,45 +123,61 @@ fn gather(
     if ahead == 0 { 0 } else { ahead.max(behind) }
 }
 
+/// How many bits stand for one of so many shares, where they are 1, 2 or 4.
+fn bits_of(ways: u64) -> Option<u32>
+    ensures { IfSome result (λ bits. bits < 64) }
+{
+    match ways {
+        1 => Some(0),
+        2 => Some(1),
+        4 => Some(2),
+        _ => None,
+    }
+}
+
 /// One of so many equal shares of what the sums are above the least of them.
 fn share(sums: &mut [u64], least: u64, ways: u64)
     requires { 0 < ways }
 {
-    for label in 0..sums.len() {
-        sums[label] = sums[label].saturating_sub(least) / ways;
+    match bits_of(ways) {
+        Some(bits) => {
+            for label in 0..sums.len() {
+                sums[label] = sums[label].saturating_sub(least) >> bits;
+            }
+        }
+        None => {
+            for label in 0..sums.len() {
+                sums[label] = sums[label].saturating_sub(least) / ways;
+            }
+        }
     }
 }
 
 /// What a pair passes on, before its own cost: its share less the message that came from its other
-/// site. Here it is above 0.
-fn fill_own(sums: &[u64], message: &[u32], own: &mut [u64])
+/// site. Here it is above 0. The answer is the least.
+fn fill_own(sums: &[u64], message: &[u32], own: &mut [u64]) -> u64
     requires message { length message.now ≡ length sums.now }
     requires own { length own.old ≡ length sums.now }
 {
+    let mut least = u64::MAX;
     for label in 0..sums.len() {
-        own[label] = sums[label].wrapping_add(ABOVE - u64::from(message[label]));
+        let number = sums[label].wrapping_add(ABOVE - u64::from(message[label]));
+        own[label] = number;
+        least = least.min(number);
     }
+    least
 }
 
-/// The least that reaches each label from any, by costs of this slope.
-fn flatten(numbers: &mut [u64], step: u64, most: u64) {
-    let cap = least(numbers).wrapping_add(most);
-    if step < most {
-        for label in 1..numbers.len() {
-            let reach = numbers[label - 1].wrapping_add(step);
-            if reach < numbers[label] {
-                numbers[label] = reach;
-            }
-        }
-        for label in (1..numbers.len()).rev() {
-            let reach = numbers[label].wrapping_add(step);
-            if reach < numbers[label - 1] {
-                numbers[label - 1] = reach;
-            }
-        }
-    }
+/// The least that reaches each label from any, by linear costs of this step.
+fn flatten(numbers: &mut [u64], step: u64) {
+    let mut reach = u64::MAX - step;
     for label in 0..numbers.len() {
-        numbers[label] = numbers[label].min(cap);
+        reach = numbers[label].min(reach.wrapping_add(step));
+        numbers[label] = reach;
+    }
+    for label in (0..numbers.len()).rev() {
+        reach = numbers[label].min(reach.wrapping_add(step));
+        numbers[label] = reach;
     }
 }
 
@@ -212,16 +228,14 @@ fn spread(costs: &[u32], weight: u64, own: &[u64], out: &mut [u64], from_first: 
     }
 }
 
-/// Writes numbers as a message, of which the least is 0, and tells what the least was.
-fn store(numbers: &[u64], message: &mut [u32]) -> u64
+/// Writes numbers as a message: by how much they are above the least, and never more than `most`.
+fn store(numbers: &[u64], least: u64, most: u64, message: &mut [u32])
     requires { length message.old ≡ length numbers.now }
 {
-    let least = least(numbers);
+    let most = most.min(ABOVE - 1);
     for label in 0..numbers.len() {
-        let number = numbers[label].saturating_sub(least).min(ABOVE - 1);
-        message[label] = number as u32;
+        message[label] = numbers[label].saturating_sub(least).min(most) as u32;
     }
-    least
 }
 
 /// Passes on what reaches the other site of a pair, and tells how much of it reaches each label
@@ -242,27 +256,33 @@ fn send(
     requires out { length out.old ≡ length sums.now }
     requires message { length message.old ≡ length sums.now }
 {
-    fill_own(sums, message, own);
+    let lowest = fill_own(sums, message, own);
     let weight = u64::from(weight);
-    let least = match form {
+    let lowest = match form {
         Form::Linear(slope) => {
             let step = weight.wrapping_mul(u64::from(slope.step));
             let most = weight.wrapping_mul(u64::from(slope.most));
-            flatten(own, step, most);
-            store(own, message)
+            if step < most {
+                flatten(own, step);
+            }
+            store(own, lowest, most, message);
+            lowest
         }
         Form::Square(slope) => {
             let step = weight.wrapping_mul(u64::from(slope.step));
             let most = weight.wrapping_mul(u64::from(slope.most));
-            spread_squares(own, step, most, out, message);
-            store(out, message)
+            spread_squares(own, lowest, step, most, out, message);
+            store(out, lowest, most, message);
+            lowest
         }
         Form::Table => {
             spread(costs, weight, own, out, from_first);
-            store(out, message)
+            let reached = least(out);
+            store(out, reached, ABOVE, message);
+            reached
         }
     };
-    least.wrapping_sub(ABOVE)
+    lowest.wrapping_sub(ABOVE)
 }
 
 /// Passes on what reaches the sites ahead, and tells how much of it reaches each label there.

@@ -4,7 +4,8 @@ ghost use Rattle.std.specs.Prelude.{IfOk, IfSome, IsTrue, min};
 ghost use Rattle.cost_store.specs.Posed.{IsPosed, WhereMeant};
 ghost use Rattle.label_field.specs.Grids.{distance};
 ghost use Rattle.label_field.specs.Limits.{label_limit};
-ghost use Rattle.dual_bound.specs.Costs.{parts, AreSmoothCosts, IsSlopeOf, IsGentle};
+ghost use Rattle.dual_bound.specs.Costs.{parts, AreSmoothCosts, IsSlopeOf, IsSquareOf};
+ghost use Rattle.dual_bound.specs.Costs.{IsOfForm, square_apart, IsGentle};
 
 use cost_store::Problem;
 use std::alloc::{AllocError, Global};
@@ -89,7 +90,7 @@ fn row_is_of(row: &[u32], first: usize, slope: Slope) -> bool
 }
 
 /// The slope of truncated linear costs, and nothing where the costs of so many labels are others.
-pub(crate) fn slope_of(costs: &[u32], labels: usize) -> Option<Slope>
+fn slope_of(costs: &[u32], labels: usize) -> Option<Slope>
     requires size { length costs.now ≡ labels * labels }
     requires few { labels < 2 ^ 32 }
     ensures { IfSome result (IsSlopeOf labels costs.now) }
@@ -113,6 +114,8 @@ pub(crate) fn slope_of(costs: &[u32], labels: usize) -> Option<Slope>
 /// Whether the entries of a row are those of a slope by the squares of distances.
 fn row_is_square(row: &[u32], first: usize, slope: Slope) -> bool
     requires { (first ≤ label_limit) × (length row.now ≤ label_limit) }
+    ensures { IsTrue result → (b : ℕ) → b < length row.now
+        → slice_index row.now b ≡ min (slope.step * square_apart first b) slope.most }
 {
     for second in 0..row.len() {
         let apart = first.abs_diff(second);
@@ -128,6 +131,7 @@ fn row_is_square(row: &[u32], first: usize, slope: Slope) -> bool
 fn square_of(costs: &[u32], labels: usize) -> Option<Slope>
     requires size { length costs.now ≡ labels * labels }
     requires few { labels ≤ label_limit }
+    ensures { IfSome result (IsSquareOf labels costs.now) }
 {
     if labels < 2 {
         return None;
@@ -149,6 +153,7 @@ fn square_of(costs: &[u32], labels: usize) -> Option<Slope>
 pub(crate) fn form_of(costs: &[u32], labels: usize) -> Form
     requires size { length costs.now ≡ labels * labels }
     requires few { labels ≤ label_limit }
+    ensures { IsOfForm labels costs.now result }
 {
     if let Some(slope) = slope_of(costs, labels) {
         return Form::Linear(slope);

@@ -7,6 +7,7 @@
 #![tactic(auto)]
 
 mod ascent;
+mod bends;
 mod bound;
 mod costs;
 mod error;

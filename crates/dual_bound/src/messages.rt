@@ -1,14 +1,15 @@
 //! The bound that messages prove, whatever they are.
 ghost use Rattle.std.specs.Prelude.{◌≡◌, ℕ, pos, ◌+◌, ◌-◌, ◌*◌, ◌^◌, ◌<◌, ◌≤◌, length, slice_index};
 ghost use Rattle.std.specs.Prelude.{IfOk, IfSome, IsTrue, List};
-ghost use Rattle.label_field.specs.Limits.{weight_limit};
+ghost use Rattle.label_field.specs.Limits.{label_limit, weight_limit};
 ghost use Rattle.labellings.specs.Energies.{Instance};
 ghost use Rattle.cost_store.specs.Posed.{IsPosed, WhereMeant};
 ghost use Rattle.dual_bound.specs.Rows.{ground, AreRowsInRange};
-ghost use Rattle.dual_bound.specs.Bounds.{IsLowerBound, ArePaid, AreNear, AreUnder};
-ghost use Rattle.dual_bound.specs.Costs.{parts, AreSmoothCosts, IsSlopeOf};
+ghost use Rattle.dual_bound.specs.Bounds.{IsLowerBound, ArePaid, AreTakenOff, AreUnder};
+ghost use Rattle.dual_bound.specs.Costs.{parts, AreSmoothCosts, IsSlopeOf, IsSquareOf, IsOfForm};
 
-use crate::costs::{PARTS, Slope, are_gentle, slope_of, smooth_costs};
+use crate::bends::{are_level, take_squares};
+use crate::costs::{Form, PARTS, Slope, are_gentle, form_of, smooth_costs};
 use crate::rows::{GROUND, least_above_ground, lower, raise};
 use cost_store::Problem;
 use label_field::Pairs;
@@ -122,8 +123,8 @@ fn clear(numbers: &mut [u32])
 fn is_within_slope(added: &[u32], weight: u32, slope: Slope) -> bool
     requires { weight ≤ weight_limit }
     ensures { IsTrue result → (costs : List ℕ) → IsSlopeOf (length added.now) costs slope
-        → AreNear (length added.now)
-        (λ a b. weight * slice_index costs (a * length added.now + b)) added.now }
+        → AreTakenOff (length added.now)
+        (λ a b. weight * slice_index costs (a * length added.now + b)) added.now added.now }
 {
     let weight = weight as u64;
     are_gentle(
@@ -133,31 +134,62 @@ fn is_within_slope(added: &[u32], weight: u32, slope: Slope) -> bool
     )
 }
 
-/// Whether they are where there is a slope: no where there is none.
-fn is_within(added: &[u32], weight: u32, slope: Option<Slope>) -> bool
+/// Whether they are where costs are linear: no where they are not.
+fn is_within(added: &[u32], weight: u32, form: Form) -> bool
     requires { weight ≤ weight_limit }
-    ensures { IsTrue result → (costs : List ℕ) → IfSome slope (IsSlopeOf (length added.now) costs)
-        → AreNear (length added.now)
-        (λ a b. weight * slice_index costs (a * length added.now + b)) added.now }
+    ensures { IsTrue result → (costs : List ℕ) → IsOfForm (length added.now) costs form
+        → AreTakenOff (length added.now)
+        (λ a b. weight * slice_index costs (a * length added.now + b)) added.now added.now }
 {
-    match slope {
-        None => false,
-        Some(slope) => is_within_slope(added, weight, slope),
+    match form {
+        Form::Linear(slope) => is_within_slope(added, weight, slope),
+        _ => false,
+    }
+}
+
+/// Takes off what is due by squares of this slope, and tells whether it did: not where a number is
+/// too far below those beside it.
+fn take_by_slope(added: &[u32], weight: u32, slope: Slope, taken: &mut [u32]) -> bool
+    requires weight { weight ≤ weight_limit }
+    requires few { length added.now ≤ label_limit }
+    requires taken { length taken.old ≡ length added.now }
+    ensures paid { IsTrue result → (costs : List ℕ) → IsSquareOf (length added.now) costs slope
+        → AreTakenOff (length added.now)
+        (λ a b. weight * slice_index costs (a * length added.now + b)) added.now taken.new }
+    ensures small { (k : ℕ) → k < length added.now → slice_index taken.new k < 2 ^ 32 }
+{
+    let weight = weight as u64;
+    let step = weight * slope.step as u64;
+    let level = are_level(added, step);
+    if level {
+        take_squares(added, step, weight * slope.most as u64, taken);
+    }
+    level
+}
+
+/// Does so where costs are quadratic.
+fn take_by_squares(added: &[u32], weight: u32, form: Form, taken: &mut [u32]) -> bool
+    requires weight { weight ≤ weight_limit }
+    requires few { length added.now ≤ label_limit }
+    requires taken { length taken.old ≡ length added.now }
+    ensures paid { IsTrue result → (costs : List ℕ) → IsOfForm (length added.now) costs form
+        → AreTakenOff (length added.now)
+        (λ a b. weight * slice_index costs (a * length added.now + b)) added.now taken.new }
+    ensures small { (k : ℕ) → k < length added.now → slice_index taken.new k < 2 ^ 32 }
+{
+    match form {
+        Form::Square(slope) => take_by_slope(added, weight, slope, taken),
+        _ => false,
     }
 }
 
 /// What is taken off at each label of the first site: what is added at that label of the second,
-/// where that pays, else what is due, and then what is left over is given.
-fn take(
-    costs: &[u32],
-    slope: Option<Slope>,
-    weight: u32,
-    added: &[u32],
-    taken: &mut [u32],
-    given: &mut [u32],
-)
+/// where that pays, else what is due. What is left over is given: nothing by linear or quadratic
+/// costs, since two equal labels cost nothing there.
+fn take(costs: &[u32], form: Form, weight: u32, added: &[u32], taken: &mut [u32], given: &mut [u32])
     requires size { length costs.now ≡ length added.now * length added.now }
-    requires slope { IfSome slope (IsSlopeOf (length added.now) costs.now) }
+    requires form { IsOfForm (length added.now) costs.now form }
+    requires few { length added.now ≤ label_limit }
     requires weight { weight ≤ weight_limit }
     requires taken { length taken.old ≡ length added.now }
     requires given { length given.old ≡ length added.now }
@@ -167,8 +199,10 @@ fn take(
     ensures small { (k : ℕ) → k < length added.now
         → (slice_index taken.new k < 2 ^ 32) × (slice_index given.new k < 2 ^ 32) }
 {
-    if is_within(added, weight, slope) {
+    if is_within(added, weight, form) {
         taken.copy_from_slice(added);
+        clear(given);
+    } else if take_by_squares(added, weight, form, taken) {
         clear(given);
     } else {
         take_due(costs, weight, added, taken, given);
@@ -180,7 +214,7 @@ fn take(
 fn pass_message(
     pairs: &Pairs,
     costs: &[u32],
-    slope: Option<Slope>,
+    form: Form,
     rows: &mut [u64],
     index: usize,
     added: &[u32],
@@ -190,7 +224,8 @@ fn pass_message(
     requires index { index < length pairs.now.list }
     requires size { length rows.old ≡ pairs.now.sites * length added.now }
     requires costs { length costs.now ≡ length added.now * length added.now }
-    requires slope { IfSome slope (IsSlopeOf (length added.now) costs.now) }
+    requires form { IsOfForm (length added.now) costs.now form }
+    requires few { length added.now ≤ label_limit }
     requires range { AreRowsInRange index rows.old }
     requires taken { length taken.old ≡ length added.now }
     requires given { length given.old ≡ length added.now }
@@ -202,7 +237,7 @@ fn pass_message(
     pairs.keeps();
     let labels = added.len();
     let pair = pairs.get(index);
-    take(costs, slope, pair.weight, added, taken, given);
+    take(costs, form, pair.weight, added, taken, given);
     lower(rows, pair.first as usize * labels, taken);
     raise(rows, pair.first as usize * labels, given);
     raise(rows, pair.second as usize * labels, added);
@@ -219,7 +254,7 @@ fn pass_all(
     given: &mut [u32],
 )
     requires size { length rows.old ≡ pairs.now.sites * labels }
-    requires few { labels < 2 ^ 32 }
+    requires few { labels ≤ label_limit }
     requires costs { length costs.now ≡ labels * labels }
     requires range { AreRowsInRange 0 rows.old }
     requires messages { length messages.now ≡ length pairs.now.list * labels }
@@ -229,11 +264,11 @@ fn pass_all(
         → m.pairs ≡ pairs.now.list → AreSmoothCosts m labels costs.now
         → AreUnder m 0 rows.old → AreUnder m (length pairs.now.list) rows.new }
 {
-    let slope = slope_of(costs, labels);
+    let form = form_of(costs, labels);
     for index in 0..pairs.len() {
         let from = index * labels;
         let added = &messages[from..from + labels];
-        pass_message(pairs, costs, slope, rows, index, added, taken, given);
+        pass_message(pairs, costs, form, rows, index, added, taken, given);
     }
 }
 
@@ -260,6 +295,7 @@ pub(crate) fn bound_by_messages<F: Fn(u32, u32) -> i64 + Sync, V: Fn(u32, u32) -
     messages: &[u32],
 ) -> Result<i64, AllocError>
     requires posed { IsPosed F.Fn V.Fn problem.now }
+    requires few { problem.now.data_cost.labels ≤ label_limit }
     requires messages { length messages.now
         ≡ length problem.now.pairs.list * problem.now.data_cost.labels }
     ensures { WhereMeant F.Fn V.Fn problem.now (λ m. IfOk result (IsLowerBound m)) }

@@ -6,7 +6,8 @@
 //! promised but that it is safe.
 ghost use Rattle.std.specs.Prelude.{◌≡◌, ◌*◌, ◌^◌, ◌<◌, ◌≤◌, All, length};
 
-use crate::rows::least;
+/// So many times are numbers widened, before the envelope is made.
+const ROUNDS: u32 = 12;
 
 /// Puts in place of each number how high the parabola of its label is at label 0.
 fn raise_to_zero(own: &mut [u64], step: u64) {
@@ -104,10 +105,58 @@ fn lowest_from(
     place
 }
 
+/// Copies numbers, and none above the cap.
+fn cut_to(numbers: &[u64], cap: u64, out: &mut [u64])
+    requires { length out.old ≡ length numbers.now }
+{
+    for label in 0..numbers.len() {
+        out[label] = numbers[label].min(cap);
+    }
+}
+
+/// Lowers each number to what reaches it from the label before or behind at this cost, and tells
+/// whether one is lower now.
+fn widen(numbers: &mut [u64], by: u64) -> bool
+    requires { 0 < length numbers.old }
+{
+    let last = numbers.len() - 1;
+    let mut before = u64::MAX - by;
+    let mut here = numbers[0];
+    let mut lowered = false;
+    for label in 0..last {
+        let behind = numbers[label + 1];
+        let reach = before.min(behind).wrapping_add(by);
+        lowered |= reach < here;
+        numbers[label] = here.min(reach);
+        before = here;
+        here = behind;
+    }
+    let reach = before.wrapping_add(by);
+    numbers[last] = here.min(reach);
+    lowered | (reach < here)
+}
+
+/// Does so at costs that are 1, 3, 5, .. times the step, which together are its squares. Tells
+/// whether no number can be lowered any more.
+fn widen_all(numbers: &mut [u64], step: u64) -> bool
+    requires { 0 < length numbers.old }
+{
+    let mut by = step;
+    for _ in 0..ROUNDS {
+        if !widen(numbers, by) {
+            return true;
+        }
+        by = by.wrapping_add(step.wrapping_mul(2));
+    }
+    false
+}
+
 /// The least that reaches each label from any, by costs of this step for the square of the distance
-/// and of at most `most`. The numbers are lost; `corners` is room for one number a label.
+/// and of at most `most`. `lowest` is the least of the numbers, which are lost; `corners` is room
+/// for one number a label.
 pub(crate) fn spread_squares(
     own: &mut [u64],
+    lowest: u64,
     step: u64,
     most: u64,
     out: &mut [u64],
@@ -119,12 +168,15 @@ pub(crate) fn spread_squares(
     if own.is_empty() {
         return;
     }
-    let cap = least(own).wrapping_add(most);
+    cut_to(own, lowest.wrapping_add(most), out);
+    if widen_all(out, step) {
+        return;
+    }
     raise_to_zero(own, step);
     let top = list_corners(own, corners);
     let mut place = 0usize;
     for label in 0..own.len() {
         place = lowest_from(own, step, corners, top, place, label);
-        out[label] = height_at(own, step, corners[place], label).min(cap);
+        out[label] = height_at(own, step, corners[place], label);
     }
 }
