@@ -4,7 +4,7 @@ use Rattle.std.specs.Prelude.{min}
 use Rattle.std.proofs.lemmas.Bool.{cases_lt}
 use Rattle.std.proofs.Math.Nat.{mul-add, add-mul}
 use Rattle.label_field.specs.Grids.{distance}
-use Rattle.dual_bound.specs.Costs.{square_apart, IsLevel, Rises, IsHighest}
+use Rattle.dual_bound.specs.Costs.{square_apart, IsLevel, Rises, IsHighestOver}
 
 next_square : (e : ℕ) → (e + 1) * (e + 1) ≡ e * e + 2 * e + 1
 next_square e = omega (arith, mul-add (e + 1) e 1, add-mul e 1 e)
@@ -89,7 +89,7 @@ below_behind xs s a k (suc d) level inside down =
 pub highest_at : (xs : List ℕ) (s a k : ℕ) → IsLevel xs s → k < length xs
     → ((j : ℕ) → j + 1 ≡ k → Rises xs s a j)
     → (k + 1 < length xs → get_or xs (k + 1) 0 + s * (2 * a) ≤ get_or xs k 0 + s * (2 * k + 1))
-    → IsHighest xs s a k
+    → IsHighestOver xs s a k
 highest_at xs s a k level here up down b inside = elim (cases_lt b k) [
   | inl before ↦
       let d = k - b in
@@ -104,7 +104,7 @@ highest_at xs s a k level here up down b inside = elim (cases_lt b k) [
 ]
 
 -- what pays at the highest pays everywhere
-pub highest_pays : (xs : List ℕ) (s a k due most : ℕ) → IsHighest xs s a k
+pub highest_pays : (xs : List ℕ) (s a k due most : ℕ) → IsHighestOver xs s a k
     → get_or xs k 0 ≤ due + s * square_apart a k → ((b : ℕ) → b < length xs → get_or xs b 0 ≤ due + most)
     → (b : ℕ) → b < length xs → get_or xs b 0 ≤ due + min (s * square_apart a b) most
 highest_pays xs s a k due most highest pays all b inside = omega (arith, highest b inside, pays, all b inside)

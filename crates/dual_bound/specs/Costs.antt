@@ -25,14 +25,14 @@ abbrev pub square_apart : ℕ → ℕ → ℕ
 square_apart a b = distance a b * distance a b
 
 -- the table has truncated quadratic costs
-abbrev pub IsSquareOf : ℕ → List ℕ → Slope → Type 0
-IsSquareOf labels costs slope = (a b : ℕ) → a < labels → b < labels
+abbrev pub IsQuadraticOf : ℕ → List ℕ → Slope → Type 0
+IsQuadraticOf labels costs slope = (a b : ℕ) → a < labels → b < labels
     → slice_index costs (a * labels + b) ≡ min (slope.step * square_apart a b) slope.most
 
 -- the table has costs of that form
 abbrev pub IsOfForm : ℕ → List ℕ → Form → Type 0
 IsOfForm labels costs (Linear slope) = IsSlopeOf labels costs slope
-IsOfForm labels costs (Square slope) = IsSquareOf labels costs slope
+IsOfForm labels costs (Square slope) = IsQuadraticOf labels costs slope
 IsOfForm labels costs Table = Unit {0}
 
 -- no two of the numbers are further apart than their places allow
@@ -54,7 +54,7 @@ Rises numbers step label place =
     ≤ slice_index numbers (place + 1) + step * (2 * label)
 
 -- over a label no place's parabola is above that of this one
-abbrev pub IsHighest : List ℕ → ℕ → ℕ → ℕ → Type 0
-IsHighest numbers step label place = (b : ℕ) → b < length numbers
+abbrev pub IsHighestOver : List ℕ → ℕ → ℕ → ℕ → Type 0
+IsHighestOver numbers step label place = (b : ℕ) → b < length numbers
     → slice_index numbers b + step * square_apart label place
     ≤ slice_index numbers place + step * square_apart label b

@@ -8,7 +8,7 @@
 ghost use Rattle.std.specs.Prelude.{◌≡◌, ℕ, ◌+◌, ◌*◌, ◌^◌, ◌<◌, ◌≤◌, length, slice_index};
 ghost use Rattle.std.specs.Prelude.{IsTrue, IsFalse, min};
 ghost use Rattle.label_field.specs.Limits.{label_limit};
-ghost use Rattle.dual_bound.specs.Costs.{square_apart, IsLevel, Rises, IsHighest};
+ghost use Rattle.dual_bound.specs.Costs.{square_apart, IsLevel, Rises, IsHighestOver};
 
 /// Whether no number is more than `step` below the middle of the two beside it.
 pub(crate) fn are_level(numbers: &[u32], step: u64) -> bool
@@ -47,7 +47,7 @@ fn highest_from(numbers: &[u32], step: u64, label: usize, from: usize) -> usize
     requires rise { (k : ℕ) → k + 1 ≡ from → Rises numbers.now step label k }
     ensures inside { result < length numbers.now }
     ensures rise { (k : ℕ) → k + 1 ≡ result → Rises numbers.now step label k }
-    ensures highest { IsHighest numbers.now step label result }
+    ensures highest { IsHighestOver numbers.now step label result }
 {
     let mut place = from;
     while place + 1 < numbers.len() && rises(numbers, step, label, place) {

@@ -4,7 +4,7 @@ ghost use Rattle.std.specs.Prelude.{IfOk, IfSome, IsTrue, min};
 ghost use Rattle.cost_store.specs.Posed.{IsPosed, WhereMeant};
 ghost use Rattle.label_field.specs.Grids.{distance};
 ghost use Rattle.label_field.specs.Limits.{label_limit};
-ghost use Rattle.dual_bound.specs.Costs.{parts, AreSmoothCosts, IsSlopeOf, IsSquareOf};
+ghost use Rattle.dual_bound.specs.Costs.{parts, AreSmoothCosts, IsSlopeOf, IsQuadraticOf};
 ghost use Rattle.dual_bound.specs.Costs.{IsOfForm, square_apart, IsGentle};
 
 use cost_store::Problem;
@@ -131,7 +131,7 @@ fn row_is_square(row: &[u32], first: usize, slope: Slope) -> bool
 fn square_of(costs: &[u32], labels: usize) -> Option<Slope>
     requires size { length costs.now ≡ labels * labels }
     requires few { labels ≤ label_limit }
-    ensures { IfSome result (IsSquareOf labels costs.now) }
+    ensures { IfSome result (IsQuadraticOf labels costs.now) }
 {
     if labels < 2 {
         return None;

@@ -6,7 +6,7 @@ ghost use Rattle.labellings.specs.Energies.{Instance};
 ghost use Rattle.cost_store.specs.Posed.{IsPosed, WhereMeant};
 ghost use Rattle.dual_bound.specs.Rows.{ground, AreRowsInRange};
 ghost use Rattle.dual_bound.specs.Bounds.{IsLowerBound, ArePaid, AreTakenOff, AreUnder};
-ghost use Rattle.dual_bound.specs.Costs.{parts, AreSmoothCosts, IsSlopeOf, IsSquareOf, IsOfForm};
+ghost use Rattle.dual_bound.specs.Costs.{parts, AreSmoothCosts, IsSlopeOf, IsQuadraticOf, IsOfForm};
 
 use crate::bends::{are_level, take_squares};
 use crate::costs::{Form, PARTS, Slope, are_gentle, form_of, smooth_costs};
@@ -153,7 +153,7 @@ fn take_by_slope(added: &[u32], weight: u32, slope: Slope, taken: &mut [u32]) ->
     requires weight { weight ≤ weight_limit }
     requires few { length added.now ≤ label_limit }
     requires taken { length taken.old ≡ length added.now }
-    ensures paid { IsTrue result → (costs : List ℕ) → IsSquareOf (length added.now) costs slope
+    ensures paid { IsTrue result → (costs : List ℕ) → IsQuadraticOf (length added.now) costs slope
         → AreTakenOff (length added.now)
         (λ a b. weight * slice_index costs (a * length added.now + b)) added.now taken.new }
     ensures small { (k : ℕ) → k < length added.now → slice_index taken.new k < 2 ^ 32 }
