@@ -59,7 +59,13 @@ def run(problem, swaps, cycles):
     return now, energies(problem, now)
 
 
-def restore(width, maxval, samples, shape="potts", trunc=1, weight=1, eight=False, swaps=False, cycles=100):
+def least(problem, swaps=False, cycles=0):
+    """The least energy of all labellings, and the problem. It may stand in for `run`."""
+    every = itertools.product(range(problem["labels"]), repeat=problem["sites"])
+    return min(sum(energies(problem, labels)) for labels in every), problem
+
+
+def restore(width, maxval, samples, shape="potts", trunc=1, weight=1, eight=False, swaps=False, cycles=100, solve=run):
     height = len(samples) // width
     problem = {
         "sites": len(samples), "labels": maxval + 1,
@@ -67,10 +73,10 @@ def restore(width, maxval, samples, shape="potts", trunc=1, weight=1, eight=Fals
         "smooth": lambda a, b: smooth_cost(shape, trunc, a, b),
         "pairs": [(p, q, weight) for p, q in neighbours(width, height, eight)],
     }
-    return run(problem, swaps, cycles)
+    return solve(problem, swaps, cycles)
 
 
-def stereo(width, left, right, labels=16, cap=20, shape="potts", trunc=1, weight=1, eight=False, swaps=False, cycles=100):
+def stereo(width, left, right, labels=16, cap=20, shape="potts", trunc=1, weight=1, eight=False, swaps=False, cycles=100, solve=run):
     height = len(left) // width
     problem = {
         "sites": len(left), "labels": labels,
@@ -78,10 +84,10 @@ def stereo(width, left, right, labels=16, cap=20, shape="potts", trunc=1, weight
         "smooth": lambda a, b: smooth_cost(shape, trunc, a, b),
         "pairs": [(p, q, weight) for p, q in neighbours(width, height, eight)],
     }
-    return run(problem, swaps, cycles)
+    return solve(problem, swaps, cycles)
 
 
-def segment(width, samples, seeds, low, high, strong=20, weak=5, edge=5, eight=False, cycles=100):
+def segment(width, samples, seeds, low, high, strong=20, weak=5, edge=5, eight=False, cycles=100, solve=run):
     height = len(samples) // width
     mean = (low, high)
 
@@ -95,7 +101,7 @@ def segment(width, samples, seeds, low, high, strong=20, weak=5, edge=5, eight=F
         "pairs": [(p, q, strong if abs(samples[p] - samples[q]) <= edge else weak)
                   for p, q in neighbours(width, height, eight)],
     }
-    return run(problem, False, cycles)
+    return solve(problem, False, cycles)
 
 
 def main():
