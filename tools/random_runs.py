@@ -68,20 +68,20 @@ def moves_of(kind, count):
 
 
 def run(problem, kind, allowed, labels, count):
-    """The answer of a run, its number (of cycles, or of the pair), the move that was refused, the labels
-    afterwards, and how many moves the run came to."""
-    came = 0
+    """The answer of a run, its number (of cycles, or of the pair), the move that was refused, and the moves that
+    were made: the whole cycles before each, the move, and the labels before and after it."""
+    steps = []
     for cycle in range(allowed):
         before = labels
         for move in moves_of(kind, count):
-            came += 1
             for place, pair in enumerate(problem.pairs):
                 if not is_regular(problem, move, labels, pair):
-                    return REFUSED, place, move, labels, came
-            labels = best(problem, move, labels, count)
+                    return REFUSED, place, move, steps
+            steps.append((cycle, move, labels, best(problem, move, labels, count)))
+            labels = steps[-1][-1]
         if labels == before:
-            return SETTLED, cycle + 1, None, labels, came
-    return STOPPED, allowed, None, labels, came
+            return SETTLED, cycle + 1, None, steps
+    return STOPPED, allowed, None, steps
 
 
 def random_byte(draw, mixed):
@@ -118,8 +118,8 @@ def random_pairs(draw, sites, mixed):
     return pairs
 
 
-def random_row(draw):
-    """A run and its answer as a row, with what its kind of answer is told by."""
+def random_run(draw):
+    """A run and its answer as a row, with what its kind of answer is told by, and the moves that were made."""
     mixed = draw.random() < 0.25
     sites, labels = draw.choice([1, 2, 3, 4, 5, 6, 6]), draw.choice([1, 2, 2, 3, 3, 4, 4])
     data = [[random_byte(draw, mixed) for _ in range(labels)] for _ in range(sites)]
@@ -129,11 +129,12 @@ def random_row(draw):
                       [(p, q, value(weight, WEIGHT)) for p, q, weight in pairs])
     kind, allowed = draw.choice(["expand", "swap"]), draw.choice([0, 1, 2, 2, 3, 3, 4, 4])
     start = tuple(draw.randrange(labels) for _ in range(sites))
-    answer, number, move, after, came = run(problem, kind, allowed, start, labels)
+    answer, number, move, steps = run(problem, kind, allowed, start, labels)
+    after = steps[-1][-1] if steps else start
     row = row_of(RUN_OF_SWAPS if kind == "swap" else RUN_OF_EXPANSIONS, allowed, answer, number,
                  move[1:] if move else (0, 0), (data, smooth, pairs), (start, after),
                  (problem.data_energy(after), problem.smooth_energy(after)))
-    return answer, number, came, after != start, row
+    return (answer, number, len(steps) + (answer == REFUSED), after != start, row), steps
 
 
 def kind_of(answer, number, came, changed):
@@ -150,7 +151,7 @@ def wanted(draw):
             "settled after one cycle": 20, "settled after two cycles": 60, "settled after more cycles": 60}
     assert sum(left.values()) == COUNT
     while any(left.values()):
-        *told, row = random_row(draw)
+        *told, row = random_run(draw)[0]
         if left[kind_of(*told)]:
             left[kind_of(*told)] -= 1
             yield row

@@ -25,12 +25,14 @@ pub use Rattle.cost_store.specs.Promises
 pub use Rattle.single_moves.specs.Moved
 pub use Rattle.single_moves.specs.Refusals as MoveRefusals
 pub use Rattle.moves.specs.Bounds
+pub use Rattle.moves.specs.Courses
 pub use Rattle.moves.specs.Instances
 pub use Rattle.moves.specs.Laws
 pub use Rattle.moves.specs.Prices
 pub use Rattle.moves.specs.Problems
 pub use Rattle.moves.specs.Refusals
 pub use Rattle.moves.specs.Runs
+pub use Rattle.moves.specs.UnderWay
 pub use Rattle.worker_options.specs.Limits as WorkerLimits
 pub use Rattle.worker_options.specs.Ranges as WorkerRanges
 pub use Rattle.rounds.specs.Refusals as RoundRefusals

@@ -12,9 +12,9 @@ pub use label_field::{LabelFieldError, Labelling, Pair, Pairs};
 pub use labellings::{Move, Moves};
 pub use minimum::{Minimum, minimise, minimise_by};
 pub use moves::{
-    Bound, Columns, Ended, LabelPrices, MoveError, Request, Run, expand, expansion_bound, laws,
-    potts_run_is_near, run, run_expansion, run_swap, run_tables, run_with_table,
-    settled_run_is_near, swap,
+    Bound, Columns, Ended, LabelPrices, MoveError, Request, Run, RunUnderWay, Step, expand,
+    expansion_bound, laws, potts_run_is_near, run, run_expansion, run_swap, run_tables,
+    run_with_table, settled_run_is_near, swap,
 };
 pub use pgm_image::{
     Image, PgmError, Sink, Watched, WriteError, put_image, read_image, write_image,

@@ -2,7 +2,8 @@
 //! scripts answer that try every labelling, without label costs and with them, and the bounds of
 //! runs; how many sites deciding leaves open on a picture, and how many the cuts of a run have
 //! whose later expansions look near the changes; listed moves of which few sites, none or all are
-//! left open; moves that are closed in by parts; and tables of costs that threads fill.
+//! left open; moves that are closed in by parts; runs that are made step by step, and may be left
+//! after each; and tables of costs that threads fill.
 #![tactic(auto)]
 
 #[cfg(test)]
@@ -27,5 +28,9 @@ mod opened;
 mod parts;
 #[cfg(test)]
 mod random;
+#[cfg(test)]
+mod stepped;
+#[cfg(test)]
+mod steps;
 #[cfg(test)]
 mod worked;

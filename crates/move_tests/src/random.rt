@@ -185,7 +185,7 @@ fn are_labels(labels: &[u8], row: &[u8; BYTES], at: usize) -> bool
 
 /// What a move or a run is to say: whether it changed or is settled, and how many cycles were done,
 /// of a move none.
-fn answer_wanted(row: &[u8; BYTES]) -> Result<(bool, u32), MoveError> {
+pub fn answer_wanted(row: &[u8; BYTES]) -> Result<(bool, u32), MoveError> {
     let number = digit(row, 6);
     match digit(row, 5) {
         0 => Ok((false, number)),
@@ -229,7 +229,7 @@ fn answer_of<F: Fn(u32, u32) -> i64 + Sync, V: Fn(u32, u32) -> i64 + Sync, H: Ho
 }
 
 /// Whether these are the labels of a row after its move, and their energies are those of the row.
-fn is_after<F: Fn(u32, u32) -> i64 + Sync, V: Fn(u32, u32) -> i64 + Sync>(
+pub fn is_after<F: Fn(u32, u32) -> i64 + Sync, V: Fn(u32, u32) -> i64 + Sync>(
     problem: &Problem<F, V>,
     labelling: &Labelling,
     row: &[u8; BYTES],

@@ -12,15 +12,17 @@ pub use Rattle.move_energy.specs.Choices.{choice_at, value_of, open_count, IsNum
 pub use Rattle.move_energy.specs.OpenMoves.{IsValuedMove, IsAllowedFrom, AreSitesListed}
 pub use Rattle.move_energy.specs.declared.choice.Choice.TheVariants.{Zero}
 pub use Rattle.moves.specs.Bounds.{IsBoundOf, IsWithinBound}
-pub use Rattle.moves.specs.Cycles.{AreBestFrom}
 pub use Rattle.moves.specs.Instances.{IsInstanceOf, data_entry, instance_of}
 pub use Rattle.moves.specs.Prices.{ArePrices}
-pub use Rattle.moves.specs.Problems.{IsCycled, IsRunOfCycles, IsRunRefusal, TellsPairNotRegular}
+pub use Rattle.moves.specs.Problems.{IsRunOfCycles, IsRunRefusal, TellsPairNotRegular}
 pub use Rattle.moves.specs.Refusals.{IsRefusalOver}
 pub use Rattle.moves.specs.Runs.{MayMake, AnswersRun, IsRunInRange}
 pub use Rattle.moves.specs.Stages.{IsStageReady, AreStageZeros, AreStageFresh, IsTakenLeast}
 pub use Rattle.moves.specs.Stages.{IsLater, IsUnderWay, AreStampsOf, EndsMove}
 pub use Rattle.moves.specs.Stages.{KeepsFreshSites}
+pub use Rattle.moves.specs.Courses.{LeadsBest, labels_changed}
+pub use Rattle.moves.specs.UnderWay.{IsRunFrom, IsSomeRun, IsStepOf, TellsStep, IsAhead, ended_of}
+pub use Rattle.moves.specs.UnderWay.{cycles_of, left_of}
 pub use Rattle.single_moves.specs.Building.{IsGroupedFor, KeepsDecided, site_values, TellsChange}
 pub use Rattle.single_moves.specs.Building.{HasTaken}
 pub use Rattle.single_moves.specs.Moved.{IsMade, IsCutRefusal, IsMoveRefusal, IsMoved}

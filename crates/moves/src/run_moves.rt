@@ -1,25 +1,26 @@
 //! The moves of a run, which remembers its expansions.
-ghost use Rattle.std.specs.Prelude.{◌≡◌, ℕ, List, length, IfErr};
+ghost use Rattle.std.specs.Prelude.{◌≡◌, ℕ, List, length, IfErr, OnErr};
 ghost use Rattle.moves.specs.Prelude.{Expand, labelling as labelling_of, IsBest};
 ghost use Rattle.moves.specs.Prelude.{costs_of as costs_in, AreFree, WhereMeant, FitsProblem};
-ghost use Rattle.moves.specs.Prelude.{AreOfOneSize, AreStamped, is_marked, AreTaking, IsGroupedFor};
+ghost use Rattle.moves.specs.Prelude.{AreOfOneSize, AreStamped, is_marked, AreTaking};
 ghost use Rattle.moves.specs.Prelude.{site_values, IsMoved, IsMoveRefusal, HasTaken, IsUnderWay};
 ghost use Rattle.moves.specs.Prelude.{AreStampsOf};
 
 use crate::near_changes::make_later;
+use crate::under_way::RunUnderWay;
 use crate::{How, MoveError};
 use cost_store::{Problem, costs_of, has_cost};
 use label_field::Labelling;
 use labellings::{Move, Moves};
 use move_energy::Choice;
-use single_moves::{Workspace, make_move};
+use single_moves::make_move;
 use stages::{Changes, Stage};
 use std::alloc::Global;
 
 /// What a run remembers at its beginning: its moves from then on where it is one of expansions that
 /// come again, the smooth costs were stored as a metric, and no label costs anything by itself.
 /// Else, and where memory for that is refused, nothing.
-pub(crate) fn begin_run<F: Fn(u32, u32) -> i64 + Sync, V: Fn(u32, u32) -> i64 + Sync>(
+pub(crate) fn begin_changes<F: Fn(u32, u32) -> i64 + Sync, V: Fn(u32, u32) -> i64 + Sync>(
     alloc: Global,
     problem: &Problem<F, V>,
     labelling: &Labelling,
@@ -75,66 +76,82 @@ fn note_later<F: Fn(u32, u32) -> i64 + Sync, V: Fn(u32, u32) -> i64 + Sync>(
     changes.note_sites(alpha, &stage.taking);
 }
 
-/// An expansion of a run, near what changed since its label's last where that is known, and else
-/// whole.
-fn make_expansion<F: Fn(u32, u32) -> i64 + Sync, V: Fn(u32, u32) -> i64 + Sync, H: How>(
-    alloc: Global,
-    problem: &Problem<F, V>,
-    space: &mut Workspace,
-    labelling: &mut Labelling,
-    changes: &mut Changes,
-    alpha: u32,
-    how: &H,
-) -> Result<bool, MoveError>
-    requires ready { H.ready how.now }
-    requires under_way { IsUnderWay F.Fn V.Fn problem.now labelling.old space.old changes.old }
-    ensures by_site { IsGroupedFor problem.now.pairs space.new }
-    ensures sizes { AreOfOneSize labelling.old labelling.new }
-    ensures moved { WhereMeant F.Fn V.Fn problem.now
-        (λ m. IsMoved m (Expand alpha) labelling.old.at labelling.new.at result) }
-    ensures refused { IfErr result
-        (IsMoveRefusal (H.refuses how.now) labelling.old.labels (Expand alpha)) }
-    ensures stamped { AreStampsOf F.Fn V.Fn problem.now labelling.new changes.new }
-{
-    let later = make_later(problem, space, labelling, alpha, changes, how)?;
-    match later {
-        Some(changed) => {
-            note_later(problem, changes, alpha, &space.stage);
+impl RunUnderWay {
+    /// The next move of a run, where its labels are those of the last. Of swaps nothing is
+    /// remembered.
+    pub(crate) fn make_next<F: Fn(u32, u32) -> i64 + Sync, V: Fn(u32, u32) -> i64 + Sync, H: How>(
+        &mut self,
+        problem: &Problem<F, V>,
+        labelling: &mut Labelling,
+        change: Move,
+        how: &H,
+    ) -> Result<bool, MoveError>
+        requires ready { H.ready how.now }
+        requires under_way { IsUnderWay F.Fn V.Fn problem.now labelling.old self.old.space
+            self.old.changes }
+        ensures under_way { IsUnderWay F.Fn V.Fn problem.now labelling.new self.new.space
+            self.new.changes }
+        ensures same { (self.new.course ≡ self.old.course) × (self.new.before ≡ self.old.before) }
+        ensures sizes { AreOfOneSize labelling.old labelling.new }
+        ensures moved { WhereMeant F.Fn V.Fn problem.now
+            (λ m. IsMoved m change labelling.old.at labelling.new.at result) }
+        ensures unchanged { OnErr result (labelling.new ≡ labelling.old) }
+        ensures refused { IfErr result
+            (IsMoveRefusal (H.refuses how.now) labelling.old.labels change) }
+    {
+        match change {
+            Move::Expand(alpha) => self.make_expansion(problem, labelling, alpha, how),
+            Move::Swap(_, _) => {
+                let alloc = *self.changes.stamps.allocator();
+                self.changes.forget();
+                make_move(alloc, problem, &mut self.space, labelling, change, how)
+            }
+        }
+    }
+
+    /// An expansion of a run, near what changed since its label's last where that is known, and
+    /// else whole.
+    fn make_expansion<F: Fn(u32, u32) -> i64 + Sync, V: Fn(u32, u32) -> i64 + Sync, H: How>(
+        &mut self,
+        problem: &Problem<F, V>,
+        labelling: &mut Labelling,
+        alpha: u32,
+        how: &H,
+    ) -> Result<bool, MoveError>
+        requires ready { H.ready how.now }
+        requires under_way { IsUnderWay F.Fn V.Fn problem.now labelling.old self.old.space
+            self.old.changes }
+        ensures under_way { IsUnderWay F.Fn V.Fn problem.now labelling.new self.new.space
+            self.new.changes }
+        ensures same { (self.new.course ≡ self.old.course) × (self.new.before ≡ self.old.before) }
+        ensures sizes { AreOfOneSize labelling.old labelling.new }
+        ensures moved { WhereMeant F.Fn V.Fn problem.now
+            (λ m. IsMoved m (Expand alpha) labelling.old.at labelling.new.at result) }
+        ensures unchanged { OnErr result (labelling.new ≡ labelling.old) }
+        ensures refused { IfErr result
+            (IsMoveRefusal (H.refuses how.now) labelling.old.labels (Expand alpha)) }
+    {
+        let later = make_later(
+            problem,
+            &mut self.space,
+            labelling,
+            alpha,
+            &self.changes,
+            how,
+        )?;
+        if let Some(changed) = later {
+            note_later(problem, &mut self.changes, alpha, &self.space.stage);
             return Ok(changed);
         }
-        None => {}
-    }
-    let changed = make_move(alloc, problem, space, labelling, Move::Expand(alpha), how)?;
-    note_whole(problem, changes, alpha, &space.built.variables.choices);
-    Ok(changed)
-}
-
-/// The next move of a run. Of swaps nothing is remembered.
-pub(crate) fn make_next<F: Fn(u32, u32) -> i64 + Sync, V: Fn(u32, u32) -> i64 + Sync, H: How>(
-    alloc: Global,
-    problem: &Problem<F, V>,
-    space: &mut Workspace,
-    labelling: &mut Labelling,
-    changes: &mut Changes,
-    change: Move,
-    how: &H,
-) -> Result<bool, MoveError>
-    requires ready { H.ready how.now }
-    requires under_way { IsUnderWay F.Fn V.Fn problem.now labelling.old space.old changes.old }
-    ensures by_site { IsGroupedFor problem.now.pairs space.new }
-    ensures sizes { AreOfOneSize labelling.old labelling.new }
-    ensures moved { WhereMeant F.Fn V.Fn problem.now
-        (λ m. IsMoved m change labelling.old.at labelling.new.at result) }
-    ensures refused { IfErr result (IsMoveRefusal (H.refuses how.now) labelling.old.labels change) }
-    ensures stamped { AreStampsOf F.Fn V.Fn problem.now labelling.new changes.new }
-{
-    match change {
-        Move::Expand(alpha) => {
-            make_expansion(alloc, problem, space, labelling, changes, alpha, how)
-        }
-        Move::Swap(_, _) => {
-            changes.forget();
-            make_move(alloc, problem, space, labelling, change, how)
-        }
+        let alloc = *self.changes.stamps.allocator();
+        let change = Move::Expand(alpha);
+        let changed = make_move(alloc, problem, &mut self.space, labelling, change, how)?;
+        note_whole(
+            problem,
+            &mut self.changes,
+            alpha,
+            &self.space.built.variables.choices,
+        );
+        Ok(changed)
     }
 }

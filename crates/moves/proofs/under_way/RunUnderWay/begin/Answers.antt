@@ -1,0 +1,17 @@
+use Rattle.std.proofs.Common.{◌∙◌}
+use Rattle.moves.proofs.UnderWay.{begins_here, run_from}
+use Rattle.moves.proofs.under_way.RunUnderWay.begin.Goals as goal
+
+pub returns : goal.returns
+returns g c =
+    let labels = c.begin.ensures.asked.1 ∙ c.labels.ensures.value ∙ c.requires.fits.labels in
+    run_from _ _ c.args.problem.now c.args.moves c.args.cycles c.args.labelling.now.at c.args.labelling.now _
+    (record {
+      posed = c.requires.posed;
+      fits = c.requires.fits;
+      by_site = λ grouped. (let fresh = c.new.ensures in absurd (cc (grouped, fresh)));
+      stamped = c.begin_changes.ensures;
+    })
+    c.begin.ensures.asked.0 labels c.begin.ensures.asked.2
+    (λ m meant. begins_here m c.args.moves c.args.cycles c.args.problem.now.data_cost.labels c.args.labelling.now.at c.begin.result c.begin.ensures.asked.0 labels
+    meant.labels_are (c.begin.ensures.stands m c.args.labelling.now.at))

@@ -1,0 +1,28 @@
+use Rattle.std.proofs.Common.{◌∙◌, List, refl, sym, subst}
+use Rattle.label_field.specs.LabelFields.{LabelField}
+use Rattle.labellings.specs.Energies.{labelling}
+use Rattle.move_energy.specs.declared.choice.Choice.{Choice}
+use Rattle.stages.specs.Changes.{AreStamped}
+use Rattle.single_moves.specs.Building.{site_values}
+use Rattle.single_moves.specs.Building.{HasTaken}
+use Rattle.moves.proofs.under_way.RunUnderWay.make_expansion.Goals as goal
+
+pub returns-clause-under_way : goal.returns-clause-under_way
+returns-clause-under_way g c = record {
+  posed = c.requires.under_way.posed;
+  fits = record {
+    sites = c.in_ok-changed.ensures.sizes.sites ∙ c.in_ok-later.ensures.sizes.sites ∙ c.requires.under_way.fits.sites;
+    labels = c.in_ok-changed.ensures.sizes.labels ∙ c.in_ok-later.ensures.sizes.labels ∙ c.requires.under_way.fits.labels;
+  };
+  by_site = c.in_ok-changed.ensures.by_site;
+  stamped = λ m meant.
+      let a = c.args.alpha in
+      let f = c.make_later.new.labelling.at in
+      let h = c.make_move.new.labelling.at in
+      let same = c.in_ok-later.ensures.kept c.in_default.is in
+      let S : LabelField → Type 0 = λ field. AreStamped m (labelling field.at) c.args.self.now.changes in
+      let T : List Choice → Type 0 = λ choices. HasTaken a (site_values choices) f h in
+      let taken = subst T (sym c.deref.ensures.value) (c.in_ok-changed.ensures.taken a refl) in
+      c.note_whole.ensures f h taken m meant (c.in_ok-later.ensures.sizes.sites ∙ c.requires.under_way.fits.sites ∙ sym meant.sites_are)
+      (c.in_ok-changed.ensures.moved m meant).2 (subst S (sym same) (c.requires.under_way.stamped m meant));
+}
