@@ -60,7 +60,7 @@ picture. It is `bound none` where no such numbers are known: after swaps, where 
 changed something, with a label cost above 0, and for costs that are no metric, as quadratic ones mostly.
 
 `--threads` has threads share the work; the picture is the same. They decide and cut parts of a large move
-side by side. Pictures of fewer than 16384 pixels, or of more than 64 levels, gain nothing by it.
+side by side. Pictures of fewer than 16384 pixels gain nothing by it.
 
 Exit status: 0 answered, 1 refused (standard error has one line `refused N ..`), 2 not understood.
 
@@ -83,7 +83,7 @@ labels. It is `bound none` where no such numbers are known: after swaps, where t
 changed something, and for costs that are no metric, as quadratic ones mostly are.
 
 `--threads` has threads share the work; the picture is the same. They decide and cut parts of a large move
-side by side. Pictures of fewer than 16384 pixels, and more than 64 labels, gain nothing by it.
+side by side. Pictures of fewer than 16384 pixels gain nothing by it.
 
 Exit status: 0 answered, 1 refused (standard error has one line `refused N ..`), 2 not understood.
 
@@ -101,8 +101,8 @@ an image with the label of each pixel. A free pixel's label costs its difference
 0) or the high one (label 1), a seed's other label 10000000. Two neighbours of unlike labels cost `strong`,
 or `weak` where an edge runs between them. Then standard error has the line `energy E data D smooth S`.
 
-`--threads` has threads share the work; the picture is the same. It gains little: parts of a move are cut
-side by side only where all pairs of neighbours have one weight.
+`--threads` has threads share the work; the picture is the same. They decide and cut parts of a large move
+side by side. Pictures of fewer than 16384 pixels gain nothing by it.
 
 Exit status: 0 answered, 1 refused (standard error has one line `refused N ..`), 2 not understood.
 
@@ -198,8 +198,7 @@ It is `bound none` where no such numbers are known: after swaps, where the last 
 something, with a label cost above 0, and where smooth is no metric, as quadratic costs mostly are none.
 
 `--threads` has threads share the work; the labels are the same. They decide and cut parts of a large move
-side by side. Problems of fewer than 16384 sites, of more than 64 labels, or with pairs of several
-weights gain nothing by it.
+side by side. Problems of fewer than 16384 sites gain nothing by it.
 
 Exit status: 0 answered, 1 refused (standard error has one line `refused N ..`), 2 not understood.
 

@@ -6,8 +6,7 @@ pub use Rattle.deciding.specs.Decisions.{Passes}
 pub use Rattle.deciding.specs.Finding.{IsInBudget, SumsSite, IsAskedBySite, KnowsMove, ends_left}
 pub use Rattle.deciding.specs.Finding.{total_left}
 pub use Rattle.deciding.specs.Listed.{AreListsEmpty}
-pub use Rattle.deciding.specs.Parts.{AreReadable, AreRisesOf, ArePassedChoices, AreNumbersOf}
-pub use Rattle.deciding.specs.Parts.{own_at, site_weight, WhereRead, KeepsKnown, KeepsPassed}
+pub use Rattle.deciding.specs.Parts.{ArePassedChoices, site_weight, KeepsKnown, KeepsPassed}
 pub use Rattle.deciding.specs.Parts.{IsSwept}
 pub use Rattle.deciding.specs.Working.{CanDecide, AreOfNoSites, HasBounds, summed_count, AreOfSites}
 pub use Rattle.deciding.specs.Working.{HasSummed, IsAnswered, AddsBounds, PassesClosed}
@@ -17,6 +16,7 @@ pub use Rattle.deciding.specs.Working.{IsWithinRange, AreWaitingBut, SeesPair, I
 pub use Rattle.deciding.specs.Working.{least_shift, greatest_shift}
 pub use Rattle.label_field.specs.PairLists.{IsPair}
 pub use Rattle.labellings.specs.Energies.{labelling, Instance, IsInstance}
+pub use Rattle.labellings.specs.Moves.{IsAllowed}
 pub use Rattle.labellings.specs.declared.change.Move.{Move}
 pub use Rattle.move_energy.specs.BySite.{AreBySite, degree}
 pub use Rattle.move_energy.specs.Choices.{Changes, bit_of, choice_at, AreAllOpen}
@@ -26,5 +26,6 @@ pub use Rattle.move_energy.specs.declared.choice.Choice.TheVariants.{Open, One, 
 pub use Rattle.move_rises.specs.Assignments.{rise}
 pub use Rattle.move_rises.specs.Ends.{decided_or}
 pub use Rattle.move_rises.specs.Finding.{IsPosedMove, WhereFound}
-pub use Rattle.move_rises.specs.MoveValues.{move_value, data_rise}
-pub use Rattle.move_rises.specs.declared.move_to_find.RiseNumbers.{RiseNumbers}
+pub use Rattle.move_rises.specs.MoveValues.{move_value}
+pub use Rattle.site_forms.specs.Lists.{AreFormLists, IsReadOf}
+pub use Rattle.site_forms.specs.Numbers.{IsFormOf, WhereRead}

@@ -2,16 +2,16 @@
 ghost use Rattle.std.specs.Prelude.{◌≡◌, [], IfOk, IfErr, OnOk, OnErr, IsTrue, false};
 ghost use Rattle.deciding.specs.Prelude.{AreBySite, choice_at, AreAllOpen, IsPrepareRefusal};
 ghost use Rattle.deciding.specs.Prelude.{labelling, WhereMeant, IsDecidedMove, IsAskedBySite};
-ghost use Rattle.deciding.specs.Prelude.{KnowsMove, AreListsEmpty, RiseNumbers, AreReadable};
-ghost use Rattle.deciding.specs.Prelude.{AreRisesOf, ArePassedChoices, AreNumbersOf, AreOfNoSites};
+ghost use Rattle.deciding.specs.Prelude.{KnowsMove, AreListsEmpty, AreFormLists, IsReadOf};
+ghost use Rattle.deciding.specs.Prelude.{ArePassedChoices, AreOfNoSites, IsAllowed};
 
-use crate::sweeps::list_own_rises;
 use crate::{Bounds, Lists};
 use cost_store::Problem;
-use label_field::Pairs;
+use label_field::{LABEL_LIMIT, Pairs};
 use labellings::Move;
 use move_energy::{BuildError, Neighbours, group_pairs};
 use move_rises::{MoveToFind, RiseTable, test_terms};
+use site_forms::FormLists;
 use std::alloc::{AllocError, Global};
 
 /// The neighbours of each site by a list of pairs, made once a run, and the room in which the sites
@@ -22,7 +22,7 @@ pub struct Deciding {
     pub table: RiseTable,
     pub bounds: Bounds,
     pub lists: Lists,
-    pub own_rises: Vec<i32>,
+    pub numbers: FormLists,
 }
 
 impl Deciding {
@@ -38,7 +38,7 @@ impl Deciding {
             table: RiseTable::empty(alloc),
             bounds: Bounds::new(alloc),
             lists: Lists::empty(alloc),
-            own_rises: Vec::new(alloc),
+            numbers: FormLists::empty(alloc),
         }
     }
 
@@ -53,7 +53,7 @@ impl Deciding {
             table: RiseTable::empty(alloc),
             bounds: Bounds::new(alloc),
             lists: Lists::empty(alloc),
-            own_rises: Vec::new(alloc),
+            numbers: FormLists::empty(alloc),
         })
     }
 
@@ -102,9 +102,9 @@ impl Deciding {
         Ok(())
     }
 
-    /// Opens the sites of a move, and reads the numbers by which threads decide them: `table` then
-    /// has the rises of all pairs, and `own_rises` has by how much its own cost rises at each site.
-    /// No, and nothing is opened, where the table lacks a pair. Refused as `decide` is.
+    /// Opens the sites of a move, and reads the costs by which threads decide them into `numbers`.
+    /// No, and nothing is opened, where there are more labels than a list has room for. Refused as
+    /// `decide` is.
     pub fn open<F: Fn(u32, u32) -> i64 + Sync, V: Fn(u32, u32) -> i64 + Sync>(
         &mut self,
         problem: &Problem<F, V>,
@@ -116,11 +116,11 @@ impl Deciding {
         ensures listed { self.new.lists.listed ≡ false }
         ensures opened { IfOk result (λ read. IsTrue read →
             AreAllOpen change at.now self.new.bounds.choices.items) }
-        ensures readable { IfOk result (λ read. IsTrue read → (numbers : RiseNumbers) →
-            AreNumbersOf problem.now.pairs at.now self.new numbers → AreReadable numbers) }
-        ensures rises { WhereMeant F.Fn V.Fn problem.now (λ m. IfOk result (λ read. IsTrue read →
-            (numbers : RiseNumbers) → AreNumbersOf problem.now.pairs at.now self.new numbers →
-            AreRisesOf m change numbers)) }
+        ensures lists { IfOk result (λ read. IsTrue read →
+            AreFormLists at.now self.new.numbers) }
+        ensures read { WhereMeant F.Fn V.Fn problem.now (λ m. IfOk result (λ read. IsTrue read →
+            IsAllowed m change (labelling at.now) × IsReadOf m change at.now
+            self.new.numbers)) }
         ensures passed { WhereMeant F.Fn V.Fn problem.now (λ m. IfOk result (λ read. IsTrue read →
             ArePassedChoices m change (labelling at.now)
             (choice_at self.new.bounds.choices.items))) }
@@ -128,14 +128,12 @@ impl Deciding {
             IfErr result (IsPrepareRefusal m change (labelling at.now))) }
     {
         self.lists.listed = false;
-        self.table
-            .make(problem, change, at.len(), self.ends.weight)?;
-        if !self.table.covers_all(&self.ends) {
+        if problem.data_cost.labels > LABEL_LIMIT {
             return Ok(false);
         }
         test_terms(problem, at, change)?;
         self.bounds.open_sites(at, change)?;
-        list_own_rises(&mut self.own_rises, problem, at, change)?;
+        self.numbers.read(problem, at, change)?;
         Ok(true)
     }
 }

@@ -2,7 +2,6 @@ pub mod Assignments
 pub mod MoveValues
 pub mod Ends
 pub mod Rising
-pub mod Savings
 pub mod Finding
 pub mod Terms
 pub mod Prelude

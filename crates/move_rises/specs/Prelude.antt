@@ -17,5 +17,4 @@ pub use Rattle.move_rises.specs.Ends.{end_rise, decided_or}
 pub use Rattle.move_rises.specs.Finding.{IsPosedMove, WhereFound, IsPairOfSite, ArePairRises}
 pub use Rattle.move_rises.specs.MoveValues.{move_value}
 pub use Rattle.move_rises.specs.Rising.{table_labels, told_rise, rises_at}
-pub use Rattle.move_rises.specs.Savings.{CoversPair, IsTableFrom}
 pub use Rattle.move_rises.specs.Terms.{AreTermsTested}

@@ -8,14 +8,12 @@ mod move_to_find;
 mod pair_savings;
 mod regular_terms;
 mod rises_of_site;
-mod savings;
 mod table;
 
 pub use costs::data_rise;
 pub use expansion_rises::{ExpansionRises, LabelEntry};
-pub use move_to_find::{MoveToFind, RiseNumbers};
-pub use pair_savings::pair_surplus;
+pub use move_to_find::MoveToFind;
+pub use pair_savings::{pair_surplus, surplus_by};
 pub use regular_terms::test_terms;
-pub use rises_of_site::{Rises, SiteRises, other_end, site_rises, table_rises};
-pub use savings::told_surplus;
+pub use rises_of_site::{Rises, SiteRises, other_end, rises_by, site_rises};
 pub use table::{EndRises, RiseTable};

@@ -12,7 +12,7 @@ use move_energy::{surplus, term};
 
 /// What the values of two sites save together: the difference of the two rises of the first.
 #[inline]
-fn surplus_by(rises: EndRises) -> i64
+pub fn surplus_by(rises: EndRises) -> i64
     ensures { result ≡ rises.low -ℤ rises.high }
 {
     i64::from(rises.low) - i64::from(rises.high)

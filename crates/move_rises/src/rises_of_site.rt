@@ -137,7 +137,7 @@ fn asked_rises<F: Fn(u32, u32) -> i64 + Sync, V: Fn(u32, u32) -> i64 + Sync>(
 
 /// The rises of a pair, at least and at most, where this is known of its other end.
 #[inline]
-fn rises_by(rises: EndRises, choice: Choice) -> Rises
+pub fn rises_by(rises: EndRises, choice: Choice) -> Rises
     ensures least { result.least ≡ cond (bit_of choice true) rises.high rises.low }
     ensures greatest { result.greatest ≡ cond (bit_of choice false) rises.high rises.low }
 {
@@ -161,7 +161,7 @@ fn rises_by(rises: EndRises, choice: Choice) -> Rises
 
 /// By how much a pair's cost rises where its end at a site turns, as the table tells it.
 #[inline]
-pub fn table_rises(table: &RiseTable, choices: &[Choice], at: &[u8], site: u32, pair: Pair) -> Rises
+fn table_rises(table: &RiseTable, choices: &[Choice], at: &[u8], site: u32, pair: Pair) -> Rises
     requires pair { IsPair (length at.now) pair }
     requires end { (pair.first ≡ site) ⊎ (pair.second ≡ site) }
     requires choices { length choices.now ≡ length at.now }

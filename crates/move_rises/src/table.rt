@@ -13,7 +13,6 @@ use crate::rises_of_site::{TwoLabels, end_rise};
 use cost_store::Problem;
 use label_field::{LABEL_LIMIT, WEIGHT_LIMIT};
 use labellings::Move;
-use move_energy::Neighbours;
 use std::alloc::{AllocError, Global};
 
 /// The most labels of which a move has a table.
@@ -118,14 +117,6 @@ impl RiseTable {
         ensures { result ≡ true → (self.now.lists.stands ≡ true) × (self.now.weight ≡ weight) }
     {
         self.lists.stands && self.weight == weight
-    }
-
-    /// Whether the rises of all these pairs stand here.
-    pub fn covers_all(&self, ends: &Neighbours) -> bool
-        ensures { result ≡ true → (ends.now.even ≡ true) × (self.now.stands ≡ true)
-            × (self.now.weight ≡ ends.now.weight) }
-    {
-        ends.even && self.covers(ends.weight)
     }
 
     /// The rises of an end of this label whose neighbour has the other label.

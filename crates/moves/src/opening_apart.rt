@@ -9,7 +9,6 @@ ghost use Rattle.moves.specs.Prelude.{KeepsFreshSites};
 
 use crate::How;
 use cost_store::Problem;
-use deciding::RiseNumbers;
 use labellings::Move;
 use single_moves::Workspace;
 use stage_parts::{PartSizes, find_zeros};
@@ -35,7 +34,7 @@ fn part_sizes(sites: usize, parts: usize) -> PartSizes
 }
 
 /// Opens the sites of the first stage after so many parts of the sites looked by themselves, side
-/// by side, where the rises of all pairs can be read. It answers whether they did.
+/// by side. It answers whether they did.
 fn open_by_parts<F: Fn(u32, u32) -> i64 + Sync, V: Fn(u32, u32) -> i64 + Sync, H: How>(
     alloc: Global,
     problem: &Problem<F, V>,
@@ -66,17 +65,14 @@ fn open_by_parts<F: Fn(u32, u32) -> i64 + Sync, V: Fn(u32, u32) -> i64 + Sync, H
     }
     let choices = &mut space.built.variables.choices;
     choose_first(choices, at, alpha)?;
-    let numbers = RiseNumbers {
-        pairs: &problem.pairs,
-        ends: &space.deciding.ends,
-        table: &space.deciding.table,
-        own: &space.deciding.own_rises,
-        at,
-    };
+    let form = space
+        .deciding
+        .numbers
+        .form(&problem.pairs, &space.deciding.ends, at);
     find_zeros(
         alloc,
         &how.fork(),
-        &numbers,
+        &form,
         choices,
         &space.stage.fresh_sites,
         parts,

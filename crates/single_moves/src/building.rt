@@ -14,7 +14,7 @@ ghost use Rattle.single_moves.specs.PlainBuilding.{IsPlainBuilding};
 
 use crate::workspace::Workspace;
 use cost_store::{Problem, costs_of, has_cost};
-use deciding::{MoveToFind, RiseNumbers};
+use deciding::MoveToFind;
 use label_terms::add_label_costs;
 use labellings::Move;
 use move_energy::{BuildError, OpenSites};
@@ -166,7 +166,7 @@ fn build_strips<F: Fn(u32, u32) -> i64 + Sync, V: Fn(u32, u32) -> i64 + Sync>(
 }
 
 /// Decides and closes in the sites of a move by parts, side by side, where the way to cut asks for
-/// parts and the rises of all pairs can be read. It answers whether it did.
+/// parts. It answers whether it did.
 fn close_apart<F: Fn(u32, u32) -> i64 + Sync, V: Fn(u32, u32) -> i64 + Sync, H: How>(
     alloc: Global,
     problem: &Problem<F, V>,
@@ -203,18 +203,15 @@ fn close_apart<F: Fn(u32, u32) -> i64 + Sync, V: Fn(u32, u32) -> i64 + Sync, H: 
         &mut space.deciding.bounds.choices,
         &mut space.built.variables.choices,
     );
-    let numbers = RiseNumbers {
-        pairs: &problem.pairs,
-        ends: &space.deciding.ends,
-        table: &space.deciding.table,
-        own: &space.deciding.own_rises,
-        at,
-    };
+    let form = space
+        .deciding
+        .numbers
+        .form(&problem.pairs, &space.deciding.ends, at);
     let size = how.strip_sites().max(1);
     let fork = how.fork();
     close_parts(
         &fork,
-        &numbers,
+        &form,
         &mut space.built.variables.choices,
         parts,
         size,

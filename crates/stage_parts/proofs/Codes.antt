@@ -7,8 +7,8 @@ use Rattle.labellings.specs.Energies.{Instance, IsInstance, labelling}
 use Rattle.move_energy.specs.declared.choice.Choice.{Choice}
 use Rattle.move_energy.specs.declared.choice.Choice.TheVariants.{Zero}
 use Rattle.move_energy.specs.Choices.{choice_at}
-use Rattle.deciding.specs.Parts.{WhereRead}
-use Rattle.move_rises.specs.declared.move_to_find.RiseNumbers.{RiseNumbers}
+use Rattle.site_forms.specs.Numbers.{WhereRead}
+use Rattle.site_forms.specs.declared.numbers.SiteForm.{SiteForm}
 use Rattle.stage_parts.specs.declared.windows.PartSizes.{PartSizes}
 use Rattle.stage_parts.specs.Parts.{AreZerosOf, AreZeroCodes, HasZeroCode, IsPartFound, seen_start}
 
@@ -16,13 +16,13 @@ pub if_ok_map : {A E : Type 0} (P Q : A → Type 0) (r : Result A E) → ((x : A
 if_ok_map P Q (Ok x) step h = step x h
 if_ok_map P Q (Err e) step h = tt
 
-pub part_found : (numbers : RiseNumbers) (known : List Choice) (sizes : PartSizes) (from part : ℕ) (r : Result (Vec ℕ) AllocError)
-    → from ≡ seen_start numbers.pairs.now.sites sizes part
-    → WhereRead numbers (λ m move f. IsInstance m → AreZerosOf m move f (choice_at known) → IfOk r (λ codes. AreZeroCodes m move f from codes.items))
-    → IfOk r (λ codes. IsPartFound numbers known sizes part codes.items)
-part_found numbers known sizes from part (Ok codes) begins h = λ m move told is zeros.
-    subst (λ (k : ℕ). AreZeroCodes m move (labelling numbers.at.now) k codes.items) begins (h m move told is zeros)
-part_found numbers known sizes from part (Err e) begins h = tt
+pub part_found : (form : SiteForm) (known : List Choice) (sizes : PartSizes) (from part : ℕ) (r : Result (Vec ℕ) AllocError)
+    → from ≡ seen_start form.pairs.now.sites sizes part
+    → WhereRead form (λ m move f. IsInstance m → AreZerosOf m move f (choice_at known) → IfOk r (λ codes. AreZeroCodes m move f from codes.items))
+    → IfOk r (λ codes. IsPartFound form known sizes part codes.items)
+part_found form known sizes from part (Ok codes) begins h = λ m move told is zeros.
+    subst (λ (k : ℕ). AreZeroCodes m move (labelling form.at.now) k codes.items) begins (h m move told is zeros)
+part_found form known sizes from part (Err e) begins h = tt
 
 -- zeros that were known, and those whose codes are told
 pub zeros_joined : (m : Instance) (move : Move) (f : ℕ → ℕ) (old new : List Choice) (from : ℕ) (codes : List ℕ)

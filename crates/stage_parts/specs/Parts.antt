@@ -11,8 +11,8 @@ use Rattle.move_energy.specs.BySite.{AreBySite}
 use Rattle.move_energy.specs.Choices.{choice_at, AreOpenSites}
 use Rattle.deciding.specs.Decisions.{IsSmallestLeast}
 use Rattle.move_rises.specs.MoveValues.{move_value}
-use Rattle.deciding.specs.Parts.{WhereRead}
-use Rattle.move_rises.specs.declared.move_to_find.RiseNumbers.{RiseNumbers}
+use Rattle.site_forms.specs.Numbers.{WhereRead}
+use Rattle.site_forms.specs.declared.numbers.SiteForm.{SiteForm}
 use Rattle.closing_in.specs.Fixing.{AreLeastZeros}
 use Rattle.stages.specs.declared.opening.Window.{Window}
 use Rattle.stage_parts.specs.declared.part.Part.{Part}
@@ -39,8 +39,8 @@ abbrev pub AreZerosOf : Instance → Move → (ℕ → ℕ) → (ℕ → Choice)
 AreZerosOf m move f choice = AreLeastZeros m.sites (move_value m move f) choice
 
 -- if all were such zeros before, all are now
-abbrev pub KeepsZerosOf : RiseNumbers → List Choice → List Choice → Type 0
-KeepsZerosOf numbers old new = WhereRead numbers (λ m move f. IsInstance m
+abbrev pub KeepsZerosOf : SiteForm → List Choice → List Choice → Type 0
+KeepsZerosOf form old new = WhereRead form (λ m move f. IsInstance m
     → AreZerosOf m move f (choice_at old) → AreZerosOf m move f (choice_at new))
 
 -- a code of 1 is that of a site that is 0 in the least values of the move; the codes are of the
@@ -59,7 +59,7 @@ pub record HasZeroCode (from : ℕ) (codes : List ℕ) (p : ℕ) : Type 0 where
   pub zero : slice_index codes place ≡ 1
 
 -- the codes of a part tell zeros of the least values, if what was known before are such
-abbrev pub IsPartFound : RiseNumbers → List Choice → PartSizes → ℕ → List ℕ → Type 0
-IsPartFound numbers known sizes part codes = WhereRead numbers (λ m move f. IsInstance m
+abbrev pub IsPartFound : SiteForm → List Choice → PartSizes → ℕ → List ℕ → Type 0
+IsPartFound form known sizes part codes = WhereRead form (λ m move f. IsInstance m
     → AreZerosOf m move f (choice_at known)
-    → AreZeroCodes m move f (seen_start numbers.pairs.now.sites sizes part) codes)
+    → AreZeroCodes m move f (seen_start form.pairs.now.sites sizes part) codes)

@@ -1,12 +1,12 @@
 //! A part of the sites: the stages in which it looks, by numbers alone.
 ghost use Rattle.std.specs.Prelude.{◌≡◌, ◌<◌, ℕ, All, length, IfOk, OnOk};
 ghost use Rattle.move_energy.specs.BySite.{AreBySite};
-ghost use Rattle.deciding.specs.Parts.{AreReadable};
+ghost use Rattle.site_forms.specs.Numbers.{IsOverPairs};
 ghost use Rattle.stages.specs.Working.{KeepsZeros};
 ghost use Rattle.stage_parts.specs.Parts.{IsPartReady, KeepsZerosOf};
 
 use crate::windows::has_within;
-use deciding::RiseNumbers;
+use deciding::SiteForm;
 use label_field::Pairs;
 use move_energy::{Choice, Neighbours, Variables};
 use stages::{Stage, Window};
@@ -59,25 +59,25 @@ pub(crate) fn begin_part(
 
 /// One stage of a part: its cut, and what is opened next. It answers whether there was something to
 /// open.
-fn make_part_stage(numbers: &RiseNumbers, part: &mut Part, seen: Window) -> Result<bool, AllocError>
-    requires readable { AreReadable numbers.now }
-    requires ready { IsPartReady numbers.now.pairs.now numbers.now.ends.now part.old }
+fn make_part_stage(form: &SiteForm, part: &mut Part, seen: Window) -> Result<bool, AllocError>
+    requires over { IsOverPairs form.now }
+    requires ready { IsPartReady form.now.pairs.now form.now.ends.now part.old }
     ensures ready { OnOk result
-        (IsPartReady numbers.now.pairs.now numbers.now.ends.now part.new) }
-    ensures zeros { OnOk result (KeepsZerosOf numbers.now
+        (IsPartReady form.now.pairs.now form.now.ends.now part.new) }
+    ensures zeros { OnOk result (KeepsZerosOf form.now
         part.old.variables.choices.items part.new.variables.choices.items) }
 {
-    numbers.pairs.keeps();
+    form.pairs.keeps();
     let bits = part.strips.look_read(
-        numbers,
+        form,
         &part.variables.choices,
         &part.stage.opened,
         &mut part.variables.of_sites,
     )?;
     part.variables.number_listed(&part.stage.opened)?;
     part.stage.close(
-        numbers.pairs,
-        numbers.ends,
+        form.pairs,
+        form.ends,
         &part.variables.choices,
         &part.variables.of_sites,
         &bits,
@@ -85,8 +85,8 @@ fn make_part_stage(numbers: &RiseNumbers, part: &mut Part, seen: Window) -> Resu
     let more = has_within(&part.stage.front, seen);
     part.stage.reopen(
         &mut part.variables.choices,
-        numbers.pairs,
-        numbers.ends,
+        form.pairs,
+        form.ends,
         &bits,
         seen,
     )?;
@@ -95,20 +95,23 @@ fn make_part_stage(numbers: &RiseNumbers, part: &mut Part, seen: Window) -> Resu
 
 /// The stages of a part, until nothing that it sees is left to be opened, or much of it is open.
 pub(crate) fn make_part_stages(
-    numbers: &RiseNumbers,
+    form: &SiteForm,
     part: &mut Part,
     seen: Window,
 ) -> Result<(), AllocError>
-    requires readable { AreReadable numbers.now }
-    requires ready { IsPartReady numbers.now.pairs.now numbers.now.ends.now part.old }
+    requires over { IsOverPairs form.now }
+    requires ready { IsPartReady form.now.pairs.now form.now.ends.now part.old }
     ensures ready { OnOk result
-        (IsPartReady numbers.now.pairs.now numbers.now.ends.now part.new) }
-    ensures zeros { OnOk result (KeepsZerosOf numbers.now
+        (IsPartReady form.now.pairs.now form.now.ends.now part.new) }
+    ensures zeros { OnOk result (KeepsZerosOf form.now
         part.old.variables.choices.items part.new.variables.choices.items) }
 {
     let most = (seen.to.saturating_sub(seen.from) / OPENED_SHARE) as usize;
     for _stage in 0..STAGE_LIMIT {
-        if part.stage.opened.len() > most || !make_part_stage(numbers, part, seen)? {
+        if part.stage.opened.len() > most {
+            return Ok(());
+        }
+        if !make_part_stage(form, part, seen)? {
             return Ok(());
         }
     }

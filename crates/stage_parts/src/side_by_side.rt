@@ -3,14 +3,14 @@ ghost use Rattle.std.specs.Prelude.{◌≡◌, ◌*◌, ◌<◌, ◌≤◌, All,
 ghost use Rattle.label_field.specs.Limits.{site_limit};
 ghost use Rattle.labellings.specs.Energies.{IsInstance};
 ghost use Rattle.move_energy.specs.Choices.{choice_at};
-ghost use Rattle.deciding.specs.Parts.{AreReadable, WhereRead};
+ghost use Rattle.site_forms.specs.Numbers.{IsOverPairs, WhereRead};
 ghost use Rattle.strips.specs.Parts.{OfParts};
 ghost use Rattle.stage_parts.specs.Parts.{AreZerosOf, AreZeroCodes, KeepsZerosOf, IsPartFound};
 
 use crate::join::{codes_within, join_parts};
 use crate::part::{begin_part, make_part_stages};
 use crate::windows::{PartSizes, list_within, own_window, seen_window};
-use deciding::RiseNumbers;
+use deciding::SiteForm;
 use move_energy::Choice;
 use solvers::Fork;
 use stages::Window;
@@ -20,17 +20,17 @@ use std::alloc::{AllocError, Global};
 /// There are none where no fresh site is its own.
 fn look_apart(
     alloc: Global,
-    numbers: &RiseNumbers,
+    form: &SiteForm,
     known: &[Choice],
     fresh: &[u32],
     own: Window,
     seen: Window,
 ) -> Result<Vec<u8>, AllocError>
-    requires readable { AreReadable numbers.now }
-    requires sites { length known.now ≡ numbers.now.pairs.now.sites }
-    requires inside { All (λ p. p < numbers.now.pairs.now.sites) fresh.now }
-    requires seen { (seen.from ≤ seen.to) × (seen.to ≤ numbers.now.pairs.now.sites) }
-    ensures zeros { WhereRead numbers.now (λ m move f. IsInstance m →
+    requires over { IsOverPairs form.now }
+    requires sites { length known.now ≡ form.now.pairs.now.sites }
+    requires inside { All (λ p. p < form.now.pairs.now.sites) fresh.now }
+    requires seen { (seen.from ≤ seen.to) × (seen.to ≤ form.now.pairs.now.sites) }
+    ensures zeros { WhereRead form.now (λ m move f. IsInstance m →
         AreZerosOf m move f (choice_at known.now) →
         IfOk result (λ codes. AreZeroCodes m move f seen.from codes.items)) }
 {
@@ -38,8 +38,8 @@ fn look_apart(
     if own_fresh.is_empty() {
         return Ok(Vec::new(alloc));
     }
-    let mut part = begin_part(alloc, numbers.pairs, numbers.ends, known, own_fresh, seen)?;
-    make_part_stages(numbers, &mut part, seen)?;
+    let mut part = begin_part(alloc, form.pairs, form.ends, known, own_fresh, seen)?;
+    make_part_stages(form, &mut part, seen)?;
     codes_within(alloc, &part.variables.choices, seen)
 }
 
@@ -47,37 +47,37 @@ fn look_apart(
 fn look_each<K: Fork>(
     alloc: Global,
     fork: &K,
-    numbers: &RiseNumbers,
+    form: &SiteForm,
     known: &[Choice],
     fresh: &[u32],
     count: usize,
     sizes: PartSizes,
 ) -> Result<Vec<Result<Vec<u8>, AllocError>>, AllocError>
     requires able { K.can_do fork.now }
-    requires readable { AreReadable numbers.now }
-    requires sites { length known.now ≡ numbers.now.pairs.now.sites }
-    requires inside { All (λ p. p < numbers.now.pairs.now.sites) fresh.now }
+    requires over { IsOverPairs form.now }
+    requires sites { length known.now ≡ form.now.pairs.now.sites }
+    requires inside { All (λ p. p < form.now.pairs.now.sites) fresh.now }
     requires few { count ≤ site_limit }
     ensures count { IfOk result (λ parts. vec_len parts ≡ count) }
     ensures found { IfOk result (λ parts.
-        OfParts (IsPartFound numbers.now known.now sizes) parts.items) }
+        OfParts (IsPartFound form.now known.now sizes) parts.items) }
 {
-    let numbers = *numbers;
+    let form = *form;
     fork.do_parts(
         alloc,
         count,
         &move |part: usize| -> Result<Vec<u8>, AllocError>
-            requires { (part < site_limit) × AreReadable numbers
-                × (length known.now ≡ numbers.pairs.now.sites)
-                × All (λ p. p < numbers.pairs.now.sites) fresh.now }
+            requires { (part < site_limit) × IsOverPairs form
+                × (length known.now ≡ form.pairs.now.sites)
+                × All (λ p. p < form.pairs.now.sites) fresh.now }
             ensures { IfOk result (λ codes.
-                IsPartFound numbers.entry known.entry.now sizes part codes.items) }
+                IsPartFound form.entry known.entry.now sizes part codes.items) }
         {
-            numbers.pairs.keeps();
-            let sites = numbers.pairs.sites();
+            form.pairs.keeps();
+            let sites = form.pairs.sites();
             let own = own_window(sites, sizes, part);
             let seen = seen_window(sites, sizes, part);
-            look_apart(alloc, &numbers, known, fresh, own, seen)
+            look_apart(alloc, &form, known, fresh, own, seen)
         },
     )
 }
@@ -89,21 +89,21 @@ fn look_each<K: Fork>(
 pub fn find_zeros<K: Fork>(
     alloc: Global,
     fork: &K,
-    numbers: &RiseNumbers,
+    form: &SiteForm,
     known: &mut Vec<Choice>,
     fresh: &[u32],
     parts: usize,
     sizes: PartSizes,
 ) -> Result<(), AllocError>
     requires able { K.can_do fork.now }
-    requires readable { AreReadable numbers.now }
-    requires sites { length known.old.items ≡ numbers.now.pairs.now.sites }
-    requires inside { All (λ p. p < numbers.now.pairs.now.sites) fresh.now }
+    requires over { IsOverPairs form.now }
+    requires sites { length known.old.items ≡ form.now.pairs.now.sites }
+    requires inside { All (λ p. p < form.now.pairs.now.sites) fresh.now }
     requires few { parts ≤ site_limit }
     ensures count { length known.new.items ≡ length known.old.items }
-    ensures zeros { KeepsZerosOf numbers.now known.old.items known.new.items }
+    ensures zeros { KeepsZerosOf form.now known.old.items known.new.items }
 {
-    numbers.pairs.keeps();
-    let found = look_each(alloc, fork, numbers, known, fresh, parts, sizes)?;
+    form.pairs.keeps();
+    let found = look_each(alloc, fork, form, known, fresh, parts, sizes)?;
     join_parts(known, sizes, &found)
 }

@@ -13,10 +13,11 @@ use Rattle.labellings.specs.Moves.{IsAllowed}
 use Rattle.move_energy.specs.declared.choice.Choice.{Choice}
 use Rattle.move_energy.specs.declared.choice.Choice.TheVariants.{Open, Zero, One}
 use Rattle.move_energy.specs.Choices.{choice_at}
-use Rattle.move_rises.specs.declared.move_to_find.RiseNumbers.{RiseNumbers}
+use Rattle.site_forms.specs.declared.numbers.SiteForm.{SiteForm}
 use Rattle.deciding.specs.Decisions.{Passes}
 use Rattle.move_rises.specs.MoveValues.{move_value}
-use Rattle.deciding.specs.Parts.{AreRisesOf, ArePassedChoices}
+use Rattle.deciding.specs.Parts.{ArePassedChoices}
+use Rattle.site_forms.specs.Numbers.{IsFormOf}
 use Rattle.strips.specs.Parts.{ArePartCodes, IsPartAnswer, OfParts, FillsPart, IsPartJoined, DecidesTold, EndsWithStrip, PartsEndWithStrips, known_or, coded_at, part_start}
 use Rattle.deciding.proofs.Putting.{passed_forced}
 use Rattle.move_rises.proofs.Rising.{move_falls}
@@ -114,15 +115,15 @@ told_ok (Ok v) P Q f p = f v p
 told_ok (Err e) P Q f p = tt
 
 -- what the parts tell, of the choices that all of them began with
-pub parts_told : {E : Type 0} (m : Instance) (move : Move) (numbers : RiseNumbers) (old now : List Choice) (size : ℕ) (parts list : List (Result (Vec ℕ) E))
-    → AreRisesOf m move numbers → IsInstance m → now ≡ old → length old ≡ length numbers.at.now → list ≡ parts → ArePassedChoices m move (labelling numbers.at.now) (choice_at old)
-    → OfParts (IsPartAnswer numbers now size) parts
-    → OfParts (λ i. ArePartCodes m.sites (move_value m move (labelling numbers.at.now)) (part_start (length old) size i) (part_start (length old) size (i + 1))) list
-parts_told {E} m move numbers old now size parts list rises is_one same count listed passed closed =
-    let A : ℕ → ℕ → List ℕ → Type 0 = λ n i codes. ArePartCodes m.sites (move_value m move (labelling numbers.at.now)) (part_start n size i) (part_start n size (i + 1)) codes in
-    let P : List Choice → Type 0 = λ cs. ArePassedChoices m move (labelling numbers.at.now) (choice_at cs) in
+pub parts_told : {E : Type 0} (m : Instance) (move : Move) (form : SiteForm) (old now : List Choice) (size : ℕ) (parts list : List (Result (Vec ℕ) E))
+    → IsFormOf m move form → IsInstance m → now ≡ old → length old ≡ length form.at.now → list ≡ parts → ArePassedChoices m move (labelling form.at.now) (choice_at old)
+    → OfParts (IsPartAnswer form now size) parts
+    → OfParts (λ i. ArePartCodes m.sites (move_value m move (labelling form.at.now)) (part_start (length old) size i) (part_start (length old) size (i + 1))) list
+parts_told {E} m move form old now size parts list rises is_one same count listed passed closed =
+    let A : ℕ → ℕ → List ℕ → Type 0 = λ n i codes. ArePartCodes m.sites (move_value m move (labelling form.at.now)) (part_start n size i) (part_start n size (i + 1)) codes in
+    let P : List Choice → Type 0 = λ cs. ArePassedChoices m move (labelling form.at.now) (choice_at cs) in
     let Q : ℕ → Type 0 = λ n. OfParts (A n) list in
-    let R : List (Result (Vec ℕ) E) → Type 0 = λ ps. OfParts (A (length numbers.at.now)) ps in
+    let R : List (Result (Vec ℕ) E) → Type 0 = λ ps. OfParts (A (length form.at.now)) ps in
     subst Q (sym count) (subst R (sym listed) (λ i part l. told_ok (slice_index_or parts i part) _ _ (λ v is. is.told m move rises is_one (subst P (sym same) passed)) (closed i part l)))
 
 -- choices of decisions that passed the test agree
@@ -159,24 +160,24 @@ told_here (Ok v) P Q X ok p q f = f v.items p q
 told_here (Err e) P Q X ok p q f = absurd (cc ok)
 
 -- what each part tells of its sites is told of all
-pub all_told : {E : Type 0} (numbers : RiseNumbers) (before old new : List Choice) (size count : ℕ) (parts : List (Result (Vec ℕ) E)) (default : Result (Vec ℕ) E)
-    → old ≡ before → length before ≡ length numbers.at.now → length parts ≡ count → length before ≤ size * count
-    → OfParts (IsPartAnswer numbers before size) parts
+pub all_told : {E : Type 0} (form : SiteForm) (before old new : List Choice) (size count : ℕ) (parts : List (Result (Vec ℕ) E)) (default : Result (Vec ℕ) E)
+    → old ≡ before → length before ≡ length form.at.now → length parts ≡ count → length before ≤ size * count
+    → OfParts (IsPartAnswer form before size) parts
     → ((i : ℕ) (part : _) → i < length parts → IsOk (slice_index_or parts i part))
-    → OfParts (IsPartJoined size old new) parts → DecidesTold numbers before new
-all_told {E} numbers before old new size count parts default same long all cover closed whole joined m move p b told ds l test =
+    → OfParts (IsPartJoined size old new) parts → DecidesTold form before new
+all_told {E} form before old new size count parts default same long all cover closed whole joined m move p b told ds l test =
     let at = part_place (length before) size count p cover (omega (arith, l, long)) in
     let i = at.0 in
     let here : i < length parts = omega (arith, at.1, all) in
     let k = at.2 in
     let from : part_start (length old) size i ≡ part_start (length before) size i = ap (λ (cs : List Choice). part_start (length cs) size i) same in
-    let start : part_start (length numbers.at.now) size i ≡ part_start (length before) size i = ap (λ n. part_start n size i) (sym long) in
-    let end : part_start (length numbers.at.now) size (i + 1) ≡ part_start (length before) size (i + 1) = ap (λ n. part_start n size (i + 1)) (sym long) in
-    told_here (slice_index_or parts i default) (IsPartAnswer numbers before size i) (IsPartJoined size old new i) (choice_at new p ≢ Open)
+    let start : part_start (length form.at.now) size i ≡ part_start (length before) size i = ap (λ n. part_start n size i) (sym long) in
+    let end : part_start (length form.at.now) size (i + 1) ≡ part_start (length before) size (i + 1) = ap (λ n. part_start n size (i + 1)) (sym long) in
+    told_here (slice_index_or parts i default) (IsPartAnswer form before size i) (IsPartJoined size old new i) (choice_at new p ≢ Open)
     (whole i default here) (closed i default here) (joined i default here) (λ codes part takes.
-    let inside : k < part_start (length numbers.at.now) size (i + 1) - part_start (length numbers.at.now) size i = omega (arith, at.3, start, end) in
-    let is : part_start (length numbers.at.now) size i + k ≡ p = omega (arith, at.4, start) in
-    let P : ℕ → Type 0 = λ q. Passes (move_value m move (labelling numbers.at.now)) ds.decisions q b in
+    let inside : k < part_start (length form.at.now) size (i + 1) - part_start (length form.at.now) size i = omega (arith, at.3, start, end) in
+    let is : part_start (length form.at.now) size i + k ≡ p = omega (arith, at.4, start) in
+    let P : ℕ → Type 0 = λ q. Passes (move_value m move (labelling form.at.now)) ds.decisions q b in
     let code : coded_at codes k ≢ Open = part.tried m move k b told ds inside (subst P (sym is) test) in
     let stands : choice_at new p ≡ known_or (choice_at old (part_start (length old) size i + k)) (coded_at codes k) =
     ap (choice_at new) (sym at.4 ∙ ap (λ q. q + k) (sym from)) ∙ takes k (omega (arith, part.count, inside)) in
@@ -189,22 +190,22 @@ kept_or Open t kept = refl
 kept_or Zero t kept = sym (kept (λ is. cc is))
 kept_or One t kept = sym (kept (λ is. cc is))
 
-pub all_end : {E : Type 0} (m : Instance) (move : Move) (numbers : RiseNumbers) (before old new : List Choice) (size count : ℕ) (parts : List (Result (Vec ℕ) E)) (default : Result (Vec ℕ) E)
-    → AreRisesOf m move numbers → IsInstance m → ArePassedChoices m move (labelling numbers.at.now) (choice_at before)
-    → old ≡ before → length before ≡ length numbers.at.now → length parts ≡ count → size ≡ div_ceil (length before) count
-    → OfParts (IsPartAnswer numbers before size) parts
+pub all_end : {E : Type 0} (m : Instance) (move : Move) (form : SiteForm) (before old new : List Choice) (size count : ℕ) (parts : List (Result (Vec ℕ) E)) (default : Result (Vec ℕ) E)
+    → IsFormOf m move form → IsInstance m → ArePassedChoices m move (labelling form.at.now) (choice_at before)
+    → old ≡ before → length before ≡ length form.at.now → length parts ≡ count → size ≡ div_ceil (length before) count
+    → OfParts (IsPartAnswer form before size) parts
     → ((i : ℕ) (part : _) → i < length parts → IsOk (slice_index_or parts i part))
-    → OfParts (IsPartJoined size old new) parts → PartsEndWithStrips m move (labelling numbers.at.now) before count (choice_at new)
-all_end {E} m move numbers before old new size count parts default rises is_one passed same long all sized closed whole joined i l =
-    let f = labelling numbers.at.now in
-    let n = length numbers.at.now in
+    → OfParts (IsPartJoined size old new) parts → PartsEndWithStrips m move (labelling form.at.now) before count (choice_at new)
+all_end {E} m move form before old new size count parts default rises is_one passed same long all sized closed whole joined i l =
+    let f = labelling form.at.now in
+    let n = length form.at.now in
     let start : ℕ = part_start n size i in
     let end : ℕ = part_start n size (i + 1) in
     let here : i < length parts = omega (arith, l, all) in
     let from : part_start (length old) size i ≡ start = ap (λ (cs : List Choice). part_start (length cs) size i) same ∙ ap (λ k. part_start k size i) long in
     let Q : ℕ → Type 0 = λ k. EndsWithStrip m move f before (part_start k size i) (part_start k size (i + 1)) (choice_at new) in
     let P : ℕ → Type 0 = λ s. EndsWithStrip m move f before (part_start (length before) s i) (part_start (length before) s (i + 1)) (choice_at new) in
-    subst P sized (subst Q (sym long) (told_here (slice_index_or parts i default) (IsPartAnswer numbers before size i) (IsPartJoined size old new i) (Q n)
+    subst P sized (subst Q (sym long) (told_here (slice_index_or parts i default) (IsPartAnswer form before size i) (IsPartJoined size old new i) (Q n)
     (whole i default here) (closed i default here) (joined i default here) (λ codes part takes.
     let ends = part.ends m move rises is_one passed in
     record {

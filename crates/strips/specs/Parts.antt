@@ -10,8 +10,9 @@ use Rattle.move_energy.specs.declared.choice.Choice.TheVariants.{Open, Zero, One
 use Rattle.move_energy.specs.Choices.{choice_at}
 use Rattle.deciding.specs.Decisions.{Passes}
 use Rattle.move_rises.specs.MoveValues.{move_value}
-use Rattle.move_rises.specs.declared.move_to_find.RiseNumbers.{RiseNumbers}
-use Rattle.deciding.specs.Parts.{AreRisesOf, ArePassedChoices, WhereRead}
+use Rattle.site_forms.specs.declared.numbers.SiteForm.{SiteForm}
+use Rattle.deciding.specs.Parts.{ArePassedChoices}
+use Rattle.site_forms.specs.Numbers.{IsFormOf, WhereRead}
 use Rattle.closing_in.specs.Agreeing.{Agree, choices_or}
 use Rattle.closing_in.specs.Borders.{is_inside, range_of}
 use Rattle.closing_in.specs.Strips.{Strip, IsStripBounded, told_by}
@@ -57,27 +58,27 @@ pub record EndsWithStrip (m : Instance) (move : Move) (f : ℕ → ℕ) (start :
 
 -- the answer of a part that was closed in by numbers alone: what was known before stays, each site
 -- that passed the test by that is decided, what is told agrees, and the part ends with a strip
-pub record IsPartClosed (numbers : RiseNumbers) (before : List Choice) (from to : ℕ)
+pub record IsPartClosed (form : SiteForm) (before : List Choice) (from to : ℕ)
     (codes : List ℕ) : Type 0 where
   pub count : length codes ≡ to - from
   pub kept : (k : ℕ) → k < to - from → choice_at before (from + k) ≢ Open
       → coded_at codes k ≡ choice_at before (from + k)
-  pub told : WhereRead numbers (λ m move f. IsInstance m
+  pub told : WhereRead form (λ m move f. IsInstance m
       → ArePassedChoices m move f (choice_at before)
       → ArePartCodes m.sites (move_value m move f) from to codes)
-  pub tried : (m : Instance) (move : Move) (k : ℕ) (b : Bool) → AreRisesOf m move numbers
-      → (ds : ArePassedChoices m move (labelling numbers.at.now) (choice_at before)) → k < to - from
-      → Passes (move_value m move (labelling numbers.at.now)) ds.decisions (from + k) b
+  pub tried : (m : Instance) (move : Move) (k : ℕ) (b : Bool) → IsFormOf m move form
+      → (ds : ArePassedChoices m move (labelling form.at.now) (choice_at before)) → k < to - from
+      → Passes (move_value m move (labelling form.at.now)) ds.decisions (from + k) b
       → coded_at codes k ≢ Open
-  pub ends : WhereRead numbers (λ m move f. IsInstance m
+  pub ends : WhereRead form (λ m move f. IsInstance m
       → ArePassedChoices m move f (choice_at before)
       → EndsWithStrip m move f before from to (λ p. coded_at codes (p - from)))
 
 -- the answer of part i, where each part has so many sites
-abbrev pub IsPartAnswer : RiseNumbers → List Choice → ℕ → ℕ → List ℕ → Type 0
-IsPartAnswer numbers before size i codes = IsPartClosed numbers before
-    (part_start (length numbers.at.now) size i)
-    (part_start (length numbers.at.now) size (i + 1)) codes
+abbrev pub IsPartAnswer : SiteForm → List Choice → ℕ → ℕ → List ℕ → Type 0
+IsPartAnswer form before size i codes = IsPartClosed form before
+    (part_start (length form.at.now) size i)
+    (part_start (length form.at.now) size (i + 1)) codes
 
 -- this holds of the codes of each part that was not refused memory
 abbrev pub OfParts : {E : Type 0} → (ℕ → List ℕ → Type 0) → List (Result (Vec ℕ) E) → Type 0
@@ -86,12 +87,12 @@ OfParts P parts =
     → IfOk (slice_index_or parts i part) (λ codes. P i codes.items)
 
 -- each site whose value could be told by what was known before is decided
-abbrev pub DecidesTold : RiseNumbers → List Choice → List Choice → Type 0
-DecidesTold numbers before now = (m : Instance) (move : Move) (p : ℕ) (b : Bool)
-    → AreRisesOf m move numbers
-    → (ds : ArePassedChoices m move (labelling numbers.at.now) (choice_at before))
-    → p < length numbers.at.now
-    → Passes (move_value m move (labelling numbers.at.now)) ds.decisions p b
+abbrev pub DecidesTold : SiteForm → List Choice → List Choice → Type 0
+DecidesTold form before now = (m : Instance) (move : Move) (p : ℕ) (b : Bool)
+    → IsFormOf m move form
+    → (ds : ArePassedChoices m move (labelling form.at.now) (choice_at before))
+    → p < length form.at.now
+    → Passes (move_value m move (labelling form.at.now)) ds.decisions p b
     → choice_at now p ≢ Open
 
 -- each of so many parts, which are of one size, ends with a strip

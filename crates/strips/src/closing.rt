@@ -16,8 +16,7 @@ ghost use Rattle.move_energy.specs.Problems.{Stands};
 ghost use Rattle.move_energy.specs.Weights.{surplus_of, pair_table};
 ghost use Rattle.move_rises.specs.Finding.{WhereFound};
 ghost use Rattle.move_rises.specs.MoveValues.{move_value};
-ghost use Rattle.deciding.specs.Parts.{AreReadable, WhereRead};
-ghost use Rattle.move_rises.specs.Savings.{CoversPair, IsTableFrom};
+ghost use Rattle.site_forms.specs.Numbers.{IsOverPairs, WhereRead};
 ghost use Rattle.closing_in.specs.Agreeing.{Agree};
 ghost use Rattle.closing_in.specs.Fixing.{AreLeastZeros};
 ghost use Rattle.strips.specs.Closing.{IsBasisOf, CanClose};
@@ -31,7 +30,7 @@ use crate::material::{Basis, Room, StripSites};
 use crate::opening::list_next;
 use crate::sides::write_form;
 use crate::telling::tell_strip;
-use deciding::{MoveToFind, RiseNumbers};
+use deciding::{MoveToFind, SiteForm};
 use move_energy::{Choice, MoveEnergy};
 use plain_cut::BothSides;
 use std::alloc::{AllocError, Global};
@@ -121,13 +120,13 @@ impl Strips {
     /// lists those that are left.
     pub(crate) fn close_read(
         &mut self,
-        numbers: &RiseNumbers,
+        form: &SiteForm,
         known: &mut Vec<Choice>,
         from: u32,
         to: u32,
     ) -> Result<(), AllocError>
-        requires readable { AreReadable numbers.now }
-        requires count { length known.old.items ≡ length numbers.now.at.now }
+        requires over { IsOverPairs form.now }
+        requires count { length known.old.items ≡ length form.now.at.now }
         requires opened { AreOpenSites (strip_view known.old.items from to)
             self.old.opened.items }
         ensures count { length known.new.items ≡ length known.old.items }
@@ -135,16 +134,16 @@ impl Strips {
             KeepsChosen start known.new.items }
         ensures opened { OnOk result
             (AreOpenSites (strip_view known.new.items from to) self.new.opened.items) }
-        ensures agree { WhereRead numbers.now (λ m move f. IsInstance m →
+        ensures agree { WhereRead form.now (λ m move f. IsInstance m →
             Agree m.sites (move_value m move f) (choice_at known.old.items) →
             OnOk result (Agree m.sites (move_value m move f) (choice_at known.new.items))) }
-        ensures ends { WhereRead numbers.now (λ m move f. IsInstance m →
+        ensures ends { WhereRead form.now (λ m move f. IsInstance m →
             Agree m.sites (move_value m move f) (choice_at known.old.items) →
             OnOk result (EndsWithStrip m move f known.old.items from to
             (choice_at known.new.items))) }
     {
         let sides = cut_read(
-            numbers,
+            form,
             known,
             from,
             to,
@@ -162,18 +161,18 @@ impl Strips {
     /// holds nothing of use afterwards. It refuses only where memory runs out.
     pub fn look_read(
         &mut self,
-        numbers: &RiseNumbers,
+        form: &SiteForm,
         known: &[Choice],
         opened: &[u32],
         list: &mut Vec<u32>,
     ) -> Result<Vec<bool>, AllocError>
-        requires readable { AreReadable numbers.now }
-        requires count { length known.now ≡ length numbers.now.at.now }
+        requires over { IsOverPairs form.now }
+        requires count { length known.now ≡ length form.now.at.now }
         requires opened { AreOpenSites known.now opened.now }
         ensures count { IfOk result (λ bits. length bits.items ≡ open_count known.now) }
-        ensures least { WhereRead numbers.now (λ m move f. IsInstance m →
+        ensures least { WhereRead form.now (λ m move f. IsInstance m →
             IfOk result (λ bits. IsStageLeast m move f known.now bits.items)) }
-        ensures zeros { WhereRead numbers.now (λ m move f. IsInstance m →
+        ensures zeros { WhereRead form.now (λ m move f. IsInstance m →
             AreLeastZeros m.sites (move_value m move f) (choice_at known.now) →
             IfOk result (λ bits. AreLeastZeros m.sites (move_value m move f)
             (λ p. choice_of (value_of known.now bits.items p)))) }
@@ -181,7 +180,7 @@ impl Strips {
         swap(list, &mut self.room.numbers);
         let to = known.len() as u32;
         let both = cut_read(
-            numbers,
+            form,
             known,
             0,
             to,

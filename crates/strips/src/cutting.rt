@@ -5,11 +5,9 @@ ghost use Rattle.label_field.specs.PairLists.{IsPair};
 ghost use Rattle.move_energy.specs.Choices.{AreOpenSites};
 ghost use Rattle.move_energy.specs.Limits.{surplus_limit};
 ghost use Rattle.move_energy.specs.Weights.{weight_at, surplus_of, pair_table};
-ghost use Rattle.labellings.specs.declared.change.Move.{Move as AnyMove};
-ghost use Rattle.labellings.specs.Energies.{Instance, IsInstance};
+ghost use Rattle.labellings.specs.Energies.{IsInstance};
 ghost use Rattle.move_rises.specs.Finding.{IsPosedMove, WhereFound};
-ghost use Rattle.deciding.specs.Parts.{AreReadable, WhereRead};
-ghost use Rattle.move_rises.specs.Savings.{CoversPair, IsTableFrom};
+ghost use Rattle.site_forms.specs.Numbers.{IsOverPairs, WhereRead};
 ghost use Rattle.strips.specs.Building.{CanAsk, CanBuild, WhereSaved, AreStartWeights};
 ghost use Rattle.strips.specs.Building.{AreStripSites, AreWeighed, IsStripForm};
 ghost use Rattle.strips.specs.Strips.{IsStripLaid};
@@ -22,7 +20,7 @@ use crate::building::build_strip;
 use crate::material::{Basis, Material, Room, StripSites};
 use crate::parting::read_weights;
 use crate::sides::row_sides;
-use deciding::{MoveToFind, RiseNumbers, pair_surplus, told_surplus};
+use deciding::{MoveToFind, SiteForm, pair_saving, pair_surplus};
 use label_field::Pair;
 use move_energy::Choice;
 use plain_cut::BothSides;
@@ -147,7 +145,7 @@ pub(crate) fn cut_asked<F: Fn(u32, u32) -> i64 + Sync, V: Fn(u32, u32) -> i64 + 
 /// Builds a strip by numbers alone, from what its open sites weigh by what is known, and cuts it
 /// twice.
 pub(crate) fn cut_read(
-    numbers: &RiseNumbers,
+    form: &SiteForm,
     known: &[Choice],
     from: u32,
     to: u32,
@@ -155,25 +153,24 @@ pub(crate) fn cut_read(
     weights: &mut Vec<i64>,
     room: &mut Room,
 ) -> Result<BothSides, AllocError>
-    requires readable { AreReadable numbers.now }
-    requires count { length known.now ≡ length numbers.now.at.now }
+    requires over { IsOverPairs form.now }
+    requires count { length known.now ≡ length form.now.at.now }
     requires opened { AreOpenSites (strip_view known.now from to) opened.now }
     ensures lower { IfOk result (λ sides. length sides.lower.items ≡ length opened.now) }
     ensures upper { IfOk result (λ sides. length sides.upper.items ≡ length opened.now) }
-    ensures tells { WhereRead numbers.now (λ m move f. IsInstance m →
+    ensures tells { WhereRead form.now (λ m move f. IsInstance m →
         IfOk result (AreBounds m move f known.now opened.now)) }
 {
-    read_weights(weights, numbers, known, from, to, opened)?;
+    read_weights(weights, form, known, from, to, opened)?;
     let savings = |pair: Pair| -> i64
-        requires covered { CoversPair numbers.now.table.now numbers.now.at.now pair }
-        ensures value { (m : Instance) (move : AnyMove) (f : ℕ → ℕ) →
-            IsTableFrom numbers.entry.now.table.now numbers.entry.now.at.now m move f →
-            result ≡ surplus_of (pair_table m move f pair) }
+        requires pair { IsPair (length form.now.at.now) pair }
+        ensures value { WhereRead form.entry.now
+            (λ m move f. result ≡ surplus_of (pair_table m move f pair)) }
         ensures range { unsigned_abs result ≤ surplus_limit }
-    { told_surplus(numbers.table, numbers.at, pair) };
+    { pair_saving(form, pair) };
     let material = Material {
-        pairs: numbers.pairs,
-        ends: numbers.ends,
+        pairs: form.pairs,
+        ends: form.ends,
         start: known,
         known,
     };

@@ -9,7 +9,8 @@ ghost use Rattle.move_energy.specs.declared.choice.Choice.{Choice as AnyChoice};
 ghost use Rattle.move_energy.specs.Choices.{choice_at, AreOpenSites};
 ghost use Rattle.move_energy.specs.Limits.{weights_limit};
 ghost use Rattle.move_rises.specs.MoveValues.{move_value};
-ghost use Rattle.deciding.specs.Parts.{AreReadable, ArePassedChoices, WhereRead, site_weight};
+ghost use Rattle.deciding.specs.Parts.{ArePassedChoices, site_weight};
+ghost use Rattle.site_forms.specs.Numbers.{IsOverPairs, WhereRead};
 ghost use Rattle.closing_in.specs.Agreeing.{Agree};
 ghost use Rattle.strips.specs.Parts.{IsPartClosed, IsPartAnswer, OfParts, DecidesTold};
 ghost use Rattle.strips.specs.Parts.{EndsWithStrip, PartsEndWithStrips};
@@ -18,7 +19,7 @@ ghost use Rattle.strips.specs.Views.{KeepsChosen, strip_view};
 use crate::closing::Strips;
 use crate::opening::list_next;
 use crate::parts::{codes_of, join_parts, part_start};
-use deciding::{RiseNumbers, read_weight, sweep};
+use deciding::{SiteForm, read_weight, sweep};
 use move_energy::Choice;
 use solvers::Fork;
 use std::alloc::{AllocError, Global};
@@ -26,16 +27,16 @@ use std::alloc::{AllocError, Global};
 /// Lists what each open site of a range weighs by what is known.
 pub(crate) fn read_weights(
     weights: &mut Vec<i64>,
-    numbers: &RiseNumbers,
+    form: &SiteForm,
     known: &[Choice],
     from: u32,
     to: u32,
     opened: &[u32],
 ) -> Result<(), AllocError>
-    requires readable { AreReadable numbers.now }
-    requires count { length known.now ≡ length numbers.now.at.now }
+    requires over { IsOverPairs form.now }
+    requires count { length known.now ≡ length form.now.at.now }
     requires opened { AreOpenSites (strip_view known.now from to) opened.now }
-    ensures weights { WhereRead numbers.now (λ m move f. IsInstance m → OnOk result
+    ensures weights { WhereRead form.now (λ m move f. IsInstance m → OnOk result
         (weights.new.items ≡ map (site_weight m move f (choice_at known.now)) opened.now)) }
     ensures count { OnOk result (length weights.new.items ≡ length opened.now) }
     ensures size { OnOk result (weights_size weights.new.items ≤ weights_limit) }
@@ -43,7 +44,7 @@ pub(crate) fn read_weights(
     weights.clear();
     weights.reserve(opened.len())?;
     for index in 0..opened.len() {
-        weights.push_reserved(read_weight(numbers, known, opened[index]));
+        weights.push_reserved(read_weight(form, known, opened[index]));
     }
     Ok(())
 }
@@ -51,23 +52,23 @@ pub(crate) fn read_weights(
 /// Closes in the strips of a range of sites, so many open sites each and what the strip before left
 /// open.
 fn close_range(
-    numbers: &RiseNumbers,
+    form: &SiteForm,
     known: &mut Vec<Choice>,
     from: u32,
     to: u32,
     size: usize,
 ) -> Result<(), AllocError>
-    requires readable { AreReadable numbers.now }
-    requires count { length known.old.items ≡ length numbers.now.at.now }
-    requires range { (from ≤ to) × (to ≤ length numbers.now.at.now) }
+    requires over { IsOverPairs form.now }
+    requires count { length known.old.items ≡ length form.now.at.now }
+    requires range { (from ≤ to) × (to ≤ length form.now.at.now) }
     requires some { 0 < size }
     ensures count { length known.new.items ≡ length known.old.items }
     ensures goes_on { (start : List AnyChoice) → KeepsChosen start known.old.items →
         KeepsChosen start known.new.items }
-    ensures agree { WhereRead numbers.now (λ m move f. IsInstance m →
+    ensures agree { WhereRead form.now (λ m move f. IsInstance m →
         Agree m.sites (move_value m move f) (choice_at known.old.items) →
         OnOk result (Agree m.sites (move_value m move f) (choice_at known.new.items))) }
-    ensures ends { WhereRead numbers.now (λ m move f. IsInstance m →
+    ensures ends { WhereRead form.now (λ m move f. IsInstance m →
         Agree m.sites (move_value m move f) (choice_at known.old.items) →
         OnOk result (EndsWithStrip m move f known.old.items from to (choice_at known.new.items))) }
 {
@@ -75,32 +76,32 @@ fn close_range(
     strips.room.numbers.reserve((to - from) as usize)?;
     let mut end = list_next(known, &mut strips.opened, from, from, to, size)?;
     'strips: while end < to {
-        strips.close_read(numbers, known, from, end)?;
+        strips.close_read(form, known, from, end)?;
         let more = size.max(strips.opened.len());
         end = list_next(known, &mut strips.opened, from, end, to, more)?;
     }
-    strips.close_read(numbers, known, from, to)
+    strips.close_read(form, known, from, to)
 }
 
 /// Decides the open sites of a part that can be told, closes in its strips, and answers the codes
 /// of what is then known of its sites.
 fn close_part(
     alloc: Global,
-    numbers: &RiseNumbers,
+    form: &SiteForm,
     choices: &[Choice],
     from: usize,
     to: usize,
     size: usize,
 ) -> Result<Vec<u8>, AllocError>
-    requires readable { AreReadable numbers.now }
-    requires choices { length choices.now ≡ length numbers.now.at.now }
-    requires range { (from ≤ to) × (to ≤ length numbers.now.at.now) }
+    requires over { IsOverPairs form.now }
+    requires choices { length choices.now ≡ length form.now.at.now }
+    requires range { (from ≤ to) × (to ≤ length form.now.at.now) }
     requires some { 0 < size }
-    ensures { IfOk result (λ codes. IsPartClosed numbers.now choices.now from to codes.items) }
+    ensures { IfOk result (λ codes. IsPartClosed form.now choices.now from to codes.items) }
 {
     let mut known = Vec::from_slice(alloc, choices)?;
-    sweep(numbers, known.as_mut_slice(), from, to);
-    close_range(numbers, &mut known, from as u32, to as u32, size)?;
+    sweep(form, known.as_mut_slice(), from, to);
+    close_range(form, &mut known, from as u32, to as u32, size)?;
     codes_of(alloc, &known, from, to)
 }
 
@@ -108,7 +109,7 @@ fn close_part(
 /// sites.
 fn close_each<K: Fork>(
     fork: &K,
-    numbers: &RiseNumbers,
+    form: &SiteForm,
     choices: &[Choice],
     alloc: Global,
     count: usize,
@@ -116,28 +117,28 @@ fn close_each<K: Fork>(
     size: usize,
 ) -> Result<Vec<Result<Vec<u8>, AllocError>>, AllocError>
     requires able { K.can_do fork.now }
-    requires readable { AreReadable numbers.now }
-    requires choices { length choices.now ≡ length numbers.now.at.now }
+    requires over { IsOverPairs form.now }
+    requires choices { length choices.now ≡ length form.now.at.now }
     requires few { count ≤ site_limit }
     requires some { 0 < size }
     ensures count { IfOk result (λ parts. vec_len parts ≡ count) }
     ensures closed { IfOk result (λ parts.
-        OfParts (IsPartAnswer numbers.now choices.now sites) parts.items) }
+        OfParts (IsPartAnswer form.now choices.now sites) parts.items) }
 {
-    let numbers = *numbers;
+    let form = *form;
     fork.do_parts(
         alloc,
         count,
         &move |part: usize| -> Result<Vec<u8>, AllocError>
-            requires { (part < site_limit) × AreReadable numbers
-                × (length choices.now ≡ length numbers.at.now) × (0 < size) }
+            requires { (part < site_limit) × IsOverPairs form
+                × (length choices.now ≡ length form.at.now) × (0 < size) }
             ensures { IfOk result (λ codes.
-                IsPartAnswer numbers.entry choices.entry.now sites part codes.items) }
+                IsPartAnswer form.entry choices.entry.now sites part codes.items) }
         {
-            let all = numbers.at.len();
+            let all = form.at.len();
             let from = part_start(all, sites, part);
             let to = part_start(all, sites, part + 1);
-            close_part(alloc, &numbers, choices, from, to, size)
+            close_part(alloc, &form, choices, from, to, size)
         },
     )
 }
@@ -150,28 +151,28 @@ fn close_each<K: Fork>(
 /// that strip leave open. It refuses only where memory runs out.
 pub fn close_parts<K: Fork>(
     fork: &K,
-    numbers: &RiseNumbers,
+    form: &SiteForm,
     known: &mut Vec<Choice>,
     count: usize,
     size: usize,
 ) -> Result<(), AllocError>
     requires able { K.can_do fork.now }
-    requires readable { AreReadable numbers.now }
-    requires choices { length known.old.items ≡ length numbers.now.at.now }
+    requires over { IsOverPairs form.now }
+    requires choices { length known.old.items ≡ length form.now.at.now }
     requires count { (0 < count) × (count ≤ site_limit) }
     requires some { 0 < size }
     ensures count { length known.new.items ≡ length known.old.items }
-    ensures agree { WhereRead numbers.now (λ m move f. IsInstance m →
+    ensures agree { WhereRead form.now (λ m move f. IsInstance m →
         ArePassedChoices m move f (choice_at known.old.items) →
         OnOk result (Agree m.sites (move_value m move f) (choice_at known.new.items))) }
-    ensures told { OnOk result (DecidesTold numbers.now known.old.items known.new.items) }
-    ensures ends { WhereRead numbers.now (λ m move f. IsInstance m →
+    ensures told { OnOk result (DecidesTold form.now known.old.items known.new.items) }
+    ensures ends { WhereRead form.now (λ m move f. IsInstance m →
         ArePassedChoices m move f (choice_at known.old.items) →
         OnOk result (PartsEndWithStrips m move f known.old.items count
         (choice_at known.new.items))) }
 {
     let sites = known.len().div_ceil(count);
     let alloc = *known.allocator();
-    let parts = close_each(fork, numbers, known, alloc, count, sites, size)?;
+    let parts = close_each(fork, form, known, alloc, count, sites, size)?;
     join_parts(known.as_mut_slice(), sites, parts.as_slice())
 }

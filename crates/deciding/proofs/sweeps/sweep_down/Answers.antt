@@ -6,7 +6,6 @@ use Rattle.deciding.specs.Decisions.{Passes}
 use Rattle.move_rises.specs.MoveValues.{move_value}
 use Rattle.deciding.specs.Parts.{IsSwept}
 use Rattle.deciding.proofs.Joining.{passes_still}
-use Rattle.move_rises.proofs.Places.{meant_pairs}
 use Rattle.deciding.proofs.sweeps.sweep_down.Goals as goal
 
 pub loop-site-init : goal.loop-site-init
@@ -39,9 +38,9 @@ loop-site-preserved c =
         tried = λ m move p b told was from to test now. elim (cases_eq p (c.loop-site.site - 1)) [
           | inl same ↦
               let is = i.passed m move told was in
-              let P : ℕ → Type 0 = λ u. Passes (move_value m move (labelling a.numbers.now.at.now)) is.decisions u b in
-              let still = passes_still m move (labelling a.numbers.now.at.now) p b a.known.now c.loop-site.known
-              (meant_pairs m a.numbers.now.pairs.now told.pairs_are told.sites_are c.requires.readable.list) told.allowed i.kept was is test in
+              let P : ℕ → Type 0 = λ u. Passes (move_value m move (labelling a.form.now.at.now)) is.decisions u b in
+              let still = passes_still m move (labelling a.form.now.at.now) p b a.known.now c.loop-site.known
+              told.instance told.allowed i.kept was is test in
               absurd (e.tried m move b told is (subst P same still) (sym (ap (choice_at c.try_site.new.known) same) ∙ now))
           | inr other ↦ absurd ((i.tried m move p b told was (omega (arith, from, other, c.loop-site-test.true)) to test) (sym (e.others p other) ∙ now))
         ];
@@ -52,5 +51,5 @@ pub returns : goal.returns
 returns c =
     let a = c.args in
     let last : c.loop-site.site ≡ a.from = omega (arith, c.loop-site-test.false, c.loop-site.invariant.range.0) in
-    let S : ℕ → Type 0 = λ from. IsSwept a.numbers.now from a.to a.known.now c.loop-site.known in
+    let S : ℕ → Type 0 = λ from. IsSwept a.form.now from a.to a.known.now c.loop-site.known in
     subst S last c.loop-site.invariant.swept

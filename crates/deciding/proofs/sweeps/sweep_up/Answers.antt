@@ -6,7 +6,6 @@ use Rattle.deciding.specs.Decisions.{Passes}
 use Rattle.move_rises.specs.MoveValues.{move_value}
 use Rattle.deciding.specs.Parts.{IsSwept}
 use Rattle.deciding.proofs.Joining.{passes_still}
-use Rattle.move_rises.proofs.Places.{meant_pairs}
 use Rattle.deciding.proofs.sweeps.sweep_up.Goals as goal
 
 pub loop-site-init : goal.loop-site-init
@@ -37,9 +36,9 @@ loop-site-preserved c =
         tried = λ m move p b told was from to test now. elim (cases_eq p c.loop-site.site) [
           | inl same ↦
               let is = i.passed m move told was in
-              let P : ℕ → Type 0 = λ u. Passes (move_value m move (labelling a.numbers.now.at.now)) is.decisions u b in
-              let still = passes_still m move (labelling a.numbers.now.at.now) p b a.known.now c.loop-site.known
-              (meant_pairs m a.numbers.now.pairs.now told.pairs_are told.sites_are c.requires.readable.list) told.allowed i.kept was is test in
+              let P : ℕ → Type 0 = λ u. Passes (move_value m move (labelling a.form.now.at.now)) is.decisions u b in
+              let still = passes_still m move (labelling a.form.now.at.now) p b a.known.now c.loop-site.known
+              told.instance told.allowed i.kept was is test in
               absurd (e.tried m move b told is (subst P same still) (sym (ap (choice_at c.try_site.new.known) same) ∙ now))
           | inr other ↦ absurd ((i.tried m move p b told was from (omega (arith, to, other)) test) (sym (e.others p other) ∙ now))
         ];
@@ -50,5 +49,5 @@ pub returns : goal.returns
 returns c =
     let a = c.args in
     let last : c.loop-site.site ≡ a.to = omega (arith, c.loop-site-test.false, c.loop-site.auto.site-end, c.requires.range.0) in
-    let S : ℕ → Type 0 = λ to. IsSwept a.numbers.now a.from to a.known.now c.loop-site.known in
+    let S : ℕ → Type 0 = λ to. IsSwept a.form.now a.from to a.known.now c.loop-site.known in
     subst S last c.loop-site.invariant.swept

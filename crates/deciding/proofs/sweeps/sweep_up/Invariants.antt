@@ -3,5 +3,5 @@ use Rattle.deciding.proofs.sweeps.sweep_up.Given as goal
 
 abbrev pub invariant-loop-site : goal.invariant-loop-site
 invariant-loop-site l = record {
-  swept : IsSwept l.numbers l.from l.site l.fn.known l.known;
+  swept : IsSwept l.form l.from l.site l.fn.known l.known;
 }

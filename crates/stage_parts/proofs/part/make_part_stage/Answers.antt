@@ -8,7 +8,7 @@ use Rattle.stage_parts.proofs.part.make_part_stage.Goals as goal
 
 pub returns-clause-zeros : goal.returns-clause-zeros
 returns-clause-zeros c = λ m move told is zeros s best p l zero.
-    let f = labelling c.args.numbers.now.at.now in
+    let f = labelling c.args.form.now.at.now in
     let old = c.args.part.now.variables.choices.items in
     let kept = c.in_ok-number_listed.ensures.kept in
     let seen = c.deref.ensures.value in

@@ -3,6 +3,6 @@ use Rattle.stage_parts.proofs.part.make_part_stages.Given as goal
 
 abbrev pub invariant-loop-stage : goal.invariant-loop-stage
 invariant-loop-stage l = record {
-  ready : IsPartReady l.numbers.pairs.now l.numbers.ends.now l.part;
-  zeros : KeepsZerosOf l.numbers l.fn.part.variables.choices.items l.part.variables.choices.items;
+  ready : IsPartReady l.form.pairs.now l.form.ends.now l.part;
+  zeros : KeepsZerosOf l.form l.fn.part.variables.choices.items l.part.variables.choices.items;
 }

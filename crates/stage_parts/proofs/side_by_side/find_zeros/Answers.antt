@@ -11,7 +11,7 @@ use Rattle.stage_parts.proofs.side_by_side.find_zeros.Goals as goal
 
 pub returns-clause-zeros : goal.returns-clause-zeros
 returns-clause-zeros g c = λ m move told is known.
-    let f = labelling c.args.numbers.now.at.now in
+    let f = labelling c.args.form.now.at.now in
     let sizes = c.args.sizes in
     let n = length c.args.known.now.items in
     let begun = subst (λ (cs : List Choice). AreZerosOf m move f (choice_at cs)) (sym c.deref.ensures.value) known in

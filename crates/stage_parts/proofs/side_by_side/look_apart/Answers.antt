@@ -11,13 +11,13 @@ use Rattle.stage_parts.proofs.side_by_side.look_apart.Goals as goal
 
 pub begin_part-requires-clause-inside : goal.begin_part-requires-clause-inside
 begin_part-requires-clause-inside c =
-    let P : ℕ → Type 0 = λ p. p < c.args.numbers.now.pairs.now.sites in
+    let P : ℕ → Type 0 = λ p. p < c.args.form.now.pairs.now.sites in
     subst (λ (xs : List ℕ). All P xs) (sym c.in_ok-own_fresh.ensures) (All-filter (is_of c.args.own) P c.args.fresh.now c.requires.inside)
 
 pub returns : goal.returns
 returns c = record {
   zeros = λ m move told is zeros.
-      let f = labelling c.args.numbers.now.at.now in
+      let f = labelling c.args.form.now.at.now in
       let from = c.args.seen.from in
       let begun : AreZerosOf m move f (choice_at c.in_ok-part.part.variables.choices.items) = λ s best p l zero.
       zeros s best p l ((c.in_ok-part.ensures.zeros.each p (omega (arith, l, c.requires.sites, told.sites_are))).0 zero) in

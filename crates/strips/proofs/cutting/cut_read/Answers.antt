@@ -7,5 +7,5 @@ use Rattle.strips.proofs.cutting.cut_read.Goals as goal
 pub returns-clause-tells : goal.returns-clause-tells
 returns-clause-tells c = λ m move told is.
     let starts = c.deref.ensures.value ∙ c.in_ok-read_weights.ensures.weights m move told is in
-    c.cut_strip.ensures.tells m move (labelling c.args.numbers.now.at.now) (λ pair z gives. gives.1.0 m move (labelling c.args.numbers.now.at.now) record { rises = told.told; within = told.labels; from = refl })
+    c.cut_strip.ensures.tells m move (labelling c.args.form.now.at.now) (λ pair z gives. gives.1.0 m move told)
     record { sites_are = told.sites_are; pairs_are = told.pairs_are; instance = is; allowed = told.allowed } starts

@@ -7,7 +7,7 @@ use Rattle.strips.proofs.parting.close_each.OwnLists.{same-1-1}
 
 pub do_parts-requires-clause-work : goal.do_parts-requires-clause-work
 do_parts-requires-clause-work g c = λ i l.
-    ∣ (subst (λ (X : Type 0). X) (sym (carried_same _ _ _ _ (same-1-1 c.do_parts-arg-2-1.given) (Type 0) (λ j y. j.1.pre y.now (i, tt)) _)) (omega (arith, l, c.requires.few), c.requires.readable, c.requires.choices, c.requires.some)) ∣₁
+    ∣ (subst (λ (X : Type 0). X) (sym (carried_same _ _ _ _ (same-1-1 c.do_parts-arg-2-1.given) (Type 0) (λ j y. j.1.pre y.now (i, tt)) _)) (omega (arith, l, c.requires.few), c.requires.over, c.requires.choices, c.requires.some)) ∣₁
 
 pub returns-clause-closed : goal.returns-clause-closed
 returns-clause-closed g c = if_ok_two c.do_parts.result _ _ _ (λ v count each. λ i part l.

@@ -23,7 +23,7 @@ returns c =
     let whole = written_whole c.in_ok-known.known.len swept _ (omega (arith, c.in_ok-known.ensures.len, e.count, same)) in
     let now = λ (p : ℕ). ap (λ (xs : List Choice). choice_at xs p) c.deref.ensures.value in
     let keeps : KeepsChosen swept closed = c.close_range.ensures.goes_on swept (λ p l shuts. ap (λ (xs : List Choice). choice_at xs p) whole) in
-    let long : length closed ≡ length a.numbers.now.at.now = omega (arith, c.close_range.ensures.count, ap (λ (xs : List Choice). length xs) whole, e.count, same, c.requires.choices) in
+    let long : length closed ≡ length a.form.now.at.now = omega (arith, c.close_range.ensures.count, ap (λ (xs : List Choice). length xs) whole, e.count, same, c.requires.choices) in
     if_ok_two c.codes_of.result _ _ _ (λ v count each. record {
       count = count;
       kept = λ k l shuts.
@@ -32,7 +32,7 @@ returns c =
           let stays = e.kept (a.from + k) was in
           each k l ∙ now (a.from + k) ∙ keeps (a.from + k) (omega (arith, l, long, c.requires.range.1)) (λ opened. was (sym stays ∙ opened)) ∙ stays ∙ before (a.from + k);
       told = λ m move told is was.
-          let f = labelling a.numbers.now.at.now in
+          let f = labelling a.form.now.at.now in
           let P : List Choice → Type 0 = λ xs. ArePassedChoices m move f (choice_at xs) in
           let A : List Choice → Type 0 = λ xs. Agree m.sites (move_value m move f) (choice_at xs) in
           let first = passed_agree m move f (choice_at swept) is told.allowed (e.passed m move told (subst P (sym start) was)) in
@@ -43,12 +43,12 @@ returns c =
           };
       tried = λ m move k b told was l test opened.
           let before = λ (p : ℕ). ap (λ (xs : List Choice). choice_at xs p) start in
-          let is : ArePassedChoices m move (labelling a.numbers.now.at.now) (choice_at c.as_mut_slice.result.now) =
+          let is : ArePassedChoices m move (labelling a.form.now.at.now) (choice_at c.as_mut_slice.result.now) =
           record { decisions = was.decisions; passed = was.passed; shown = λ x p l. was.shown x p l ∙ ap (λ (o : Choice). bit_of o (x p)) (sym (before p)) } in
           let told_it : choice_at swept (a.from + k) ≢ Open = e.tried m move (a.from + k) b told is (omega arith) (omega (arith, l)) test in
           told_it (sym (keeps (a.from + k) (omega (arith, l, long, c.requires.range.1)) told_it) ∙ sym (now (a.from + k)) ∙ sym (each k l) ∙ opened);
       ends = λ m move told is was.
-          let f = labelling a.numbers.now.at.now in
+          let f = labelling a.form.now.at.now in
           let P : List Choice → Type 0 = λ xs. ArePassedChoices m move f (choice_at xs) in
           let A : List Choice → Type 0 = λ xs. Agree m.sites (move_value m move f) (choice_at xs) in
           let first = passed_agree m move f (choice_at swept) is told.allowed (e.passed m move told (subst P (sym start) was)) in

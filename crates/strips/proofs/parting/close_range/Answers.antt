@@ -44,5 +44,5 @@ returns-clause-ends c = λ m move told is agree.
     let a = c.args in
     let inv = c.strips.invariant in
     on_ok_weaker c.close_read-2.result
-    (λ ends. ends_from m move (labelling a.numbers.now.at.now) a.known.now.items c.strips.known.items a.from a.to _ inv.count (inv.goes_on a.known.now.items (λ p l shuts. refl)) ends)
+    (λ ends. ends_from m move (labelling a.form.now.at.now) a.known.now.items c.strips.known.items a.from a.to _ inv.count (inv.goes_on a.known.now.items (λ p l shuts. refl)) ends)
     (c.close_read-2.ensures.ends m move told is (inv.agree m move told is agree))

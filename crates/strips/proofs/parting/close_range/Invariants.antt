@@ -4,7 +4,7 @@ use Rattle.labellings.specs.Energies.{Instance, IsInstance, labelling}
 use Rattle.move_energy.specs.declared.choice.Choice.{Choice}
 use Rattle.move_energy.specs.Choices.{choice_at, AreOpenSites}
 use Rattle.move_rises.specs.MoveValues.{move_value}
-use Rattle.deciding.specs.Parts.{AreRisesOf}
+use Rattle.site_forms.specs.Numbers.{IsFormOf}
 use Rattle.closing_in.specs.Agreeing.{Agree}
 use Rattle.strips.specs.Views.{KeepsChosen, strip_view}
 use Rattle.strips.proofs.parting.close_range.Given as goal
@@ -16,9 +16,9 @@ invariant-strips l = record {
   count : length l.known.items ≡ length l.fn.known.items;
   goes_on : (start : List Choice) → KeepsChosen start l.fn.known.items → KeepsChosen start l.known.items;
   opened : AreOpenSites (strip_view l.known.items l.from l.end) l.strips.opened.items;
-  agree : (m : Instance) (move : Move) → AreRisesOf m move l.numbers → IsInstance m
-      → Agree m.sites (move_value m move (labelling l.numbers.at.now)) (choice_at l.fn.known.items)
-      → Agree m.sites (move_value m move (labelling l.numbers.at.now)) (choice_at l.known.items);
+  agree : (m : Instance) (move : Move) → IsFormOf m move l.form → IsInstance m
+      → Agree m.sites (move_value m move (labelling l.form.at.now)) (choice_at l.fn.known.items)
+      → Agree m.sites (move_value m move (labelling l.form.at.now)) (choice_at l.known.items);
 }
 
 abbrev pub decreases-strips : goal.decreases-strips

@@ -33,24 +33,24 @@ loop-index-preserved c =
     let inv = c.loop-index.invariant in
     let site : ℕ = get_or a.opened.now i 0 in
     let pushed = c.push_reserved.ensures in
-    let r = c.requires.readable in
+    let r = c.requires.over in
     let has = opened_has (strip_view a.known.now a.from a.to) a.opened.now i c.requires.opened l in
-    let inside : site < a.numbers.now.pairs.now.sites = omega (arith, has.0, view_length a.known.now a.from a.to, c.requires.count, r.sites) in
-    let few : degree a.numbers.now.ends.now site ≤ 8388608 = omega (arith, degree_most a.numbers.now.pairs.now a.numbers.now.ends.now site r.by_site inside, r.list.count) in
-    let pass = sum_passed c.read_weight.result (degree a.numbers.now.ends.now site) c.read_weight.ensures.range few in
+    let inside : site < a.form.now.pairs.now.sites = omega (arith, has.0, view_length a.known.now a.from a.to, c.requires.count, r.sites) in
+    let few : degree a.form.now.ends.now site ≤ 8388608 = omega (arith, degree_most a.form.now.pairs.now a.form.now.ends.now site r.by_site inside, r.list.count) in
+    let pass = sum_passed c.read_weight.result (degree a.form.now.ends.now site) c.read_weight.ensures.range few in
     let small = ap unsigned_abs pass in
     record {
       room = omega (arith, pushed.capacity, inv.room);
       len = omega (arith, pushed.len, inv.len);
-      size = read_more c.loop-index.weights.items _ a.opened.now a.numbers.now.ends.now i site _ l refl pushed.items (omega (arith, small, c.read_weight.ensures.range)) inv.size;
+      size = read_more c.loop-index.weights.items _ a.opened.now a.form.now.ends.now i site _ l refl pushed.items (omega (arith, small, c.read_weight.ensures.range)) inv.size;
       listed = λ m move told is.
-          list_more (site_weight m move (labelling a.numbers.now.at.now) (choice_at a.known.now)) c.loop-index.weights.items _ a.opened.now i site _ l refl pushed.items
+          list_more (site_weight m move (labelling a.form.now.at.now) (choice_at a.known.now)) c.loop-index.weights.items _ a.opened.now i site _ l refl pushed.items
           (pass ∙ c.read_weight.ensures.weight m move told is) (inv.listed m move told is);
     }
 
 pub returns-clause-size : goal.returns-clause-size
 returns-clause-size c =
     let a = c.args in
-    let r = c.requires.readable in
-    read_all a.numbers.now.pairs.now a.numbers.now.ends.now (strip_view a.known.now a.from a.to) c.loop-index.weights.items a.opened.now c.loop-index.index r.list r.by_site
+    let r = c.requires.over in
+    read_all a.form.now.pairs.now a.form.now.ends.now (strip_view a.known.now a.from a.to) c.loop-index.weights.items a.opened.now c.loop-index.index r.list r.by_site
     (view_length a.known.now a.from a.to ∙ c.requires.count ∙ r.sites) c.requires.opened (omega (arith, c.loop-index-test.false)) c.loop-index.auto.index-end c.loop-index.invariant.size

@@ -23,17 +23,17 @@ returns-clause-goes_on c = λ start on.
 pub returns-clause-agree : goal.returns-clause-agree
 returns-clause-agree c = λ m move told is agree.
     let a = c.args in
-    let f = labelling a.numbers.now.at.now in
+    let f = labelling a.form.now.at.now in
     let K : List Choice → Type 0 = λ ks. AreBounds m move f ks c.deref-2.result.now c.in_ok-sides.sides in
     let B : List ℕ → Type 0 = λ xs. AreBounds m move f a.known.now.items xs c.in_ok-sides.sides in
-    let size : length a.known.now.items ≡ m.sites = c.requires.count ∙ c.requires.readable.sites ∙ sym told.sites_are in
+    let size : length a.known.now.items ≡ m.sites = c.requires.count ∙ c.requires.over.sites ∙ sym told.sites_are in
     let tells = subst B c.deref-2.ensures.value (subst K c.deref.ensures.value (c.in_ok-sides.ensures.tells m move told is)) in
     on_ok c.tell.result _ (told_right m move f a.known.now.items c.tell.new.known.items a.self.now.opened.items c.in_ok-sides.sides is told.allowed size c.tell.ensures.told tells agree)
 
 pub returns-clause-ends : goal.returns-clause-ends
 returns-clause-ends c = λ m move told is agree.
     let a = c.args in
-    let f = labelling a.numbers.now.at.now in
+    let f = labelling a.form.now.at.now in
     let K : List Choice → Type 0 = λ ks. AreBounds m move f ks c.deref-2.result.now c.in_ok-sides.sides in
     let B : List ℕ → Type 0 = λ xs. AreBounds m move f a.known.now.items xs c.in_ok-sides.sides in
     let tells = subst B c.deref-2.ensures.value (subst K c.deref.ensures.value (c.in_ok-sides.ensures.tells m move told is)) in

@@ -13,13 +13,13 @@ returns-clause-count c = c.in_ok-both.ensures.lower ∙ opened_count c.args.know
 pub returns-clause-least : goal.returns-clause-least
 returns-clause-least c = λ m move told is.
     let a = c.args in
-    let size : length a.known.now ≡ m.sites = c.requires.count ∙ c.requires.readable.sites ∙ sym told.sites_are in
-    shown_least m move (labelling a.numbers.now.at.now) a.known.now a.opened.now c.in_ok-both.both is size c.requires.opened (c.in_ok-both.ensures.tells m move told is)
+    let size : length a.known.now ≡ m.sites = c.requires.count ∙ c.requires.over.sites ∙ sym told.sites_are in
+    shown_least m move (labelling a.form.now.at.now) a.known.now a.opened.now c.in_ok-both.both is size c.requires.opened (c.in_ok-both.ensures.tells m move told is)
 
 pub returns-clause-zeros : goal.returns-clause-zeros
 returns-clause-zeros c = λ m move told is zeros.
     let a = c.args in
-    let f = labelling a.numbers.now.at.now in
-    let size : length a.known.now ≡ m.sites = c.requires.count ∙ c.requires.readable.sites ∙ sym told.sites_are in
+    let f = labelling a.form.now.at.now in
+    let size : length a.known.now ≡ m.sites = c.requires.count ∙ c.requires.over.sites ∙ sym told.sites_are in
     let stage = shown_least m move f a.known.now a.opened.now c.in_ok-both.both is size c.requires.opened (c.in_ok-both.ensures.tells m move told is) in
     stage_zeros m move f a.known.now c.in_ok-both.both.lower.items is told.allowed stage zeros

@@ -1,0 +1,50 @@
+-- What the lists of a form hold, and where.
+use Rattle.std.proofs.Common.{◌≡◌, ℕ, ◌+◌, ◌*◌, ◌/◌, ◌%◌, ◌<◌, ◌≤◌, Bool, true, false, List, All, length, slice_index, ℤ, pos, ◌-ℤ◌, unsigned_abs, nat_lt, inl, inr, arith}
+use Rattle.std.proofs.lemmas.Int.{ints}
+use Rattle.std.proofs.lemmas.Bool.{cases_lt, lt-ltb, le-ltb}
+use Rattle.std.proofs.lemmas.List.{get_or_past}
+use Rattle.std.proofs.lemmas.List.Elements.{All-get_or}
+use Rattle.move_rises.specs.Rising.{entry_place}
+use Rattle.site_forms.specs.Fields.{table_cost, unit_rise, own_at}
+
+pub label_within : (at : List ℕ) (u k : ℕ) → u < length at → All (λ label. label < k) at → slice_index at u < k
+label_within at u k l all = All-get_or (λ label. label < k) at u 0 l all
+
+-- what holds of each number of a list, and of nothing, holds at each place
+pub small_everywhere : (xs : List ℕ) (most i : ℕ) → ((k : ℕ) → k < length xs → slice_index xs k ≤ most) → slice_index xs i ≤ most
+small_everywhere xs most i each = elim (cases_lt i (length xs)) [
+  | inl inside ↦ each i inside
+  | inr past ↦ (let none = get_or_past xs i 0 past in omega (arith, none))
+]
+
+pub own_everywhere : (xs : List ℤ) (most i : ℕ) → ((k : ℕ) → k < length xs → unsigned_abs (own_at xs k) ≤ most) → unsigned_abs (own_at xs i) ≤ most
+own_everywhere xs most i each = elim (cases_lt i (length xs)) [
+  | inl inside ↦ each i inside
+  | inr past ↦ (let none = get_or_past xs i (pos 0) past in omega (arith, ints, none))
+]
+
+pub small_cost : (smooth : List ℕ) (first : Bool) (own other : ℕ) → ((place : ℕ) → slice_index smooth place ≤ 10000) → table_cost smooth first own other ≤ 10000
+small_cost smooth true own other each = each (own * 256 + other)
+small_cost smooth false own other each = each (other * 256 + own)
+
+difference_small : (a b : ℕ) (z : ℤ) → z ≡ pos a -ℤ pos b → a ≤ 10000 → b ≤ 10000 → unsigned_abs z ≤ 10000000
+difference_small a b z is l h = omega (arith, ints, is, l, h)
+
+-- a rise of a pair of weight 1 is the difference of two costs
+pub unit_small : (stays turns smooth : List ℕ) (first : Bool) (own label : ℕ) (z : ℤ) → ((place : ℕ) → slice_index smooth place ≤ 10000)
+    → z ≡ unit_rise stays turns smooth first own label → unsigned_abs z ≤ 10000000
+unit_small stays turns smooth first own label z each is =
+    difference_small (table_cost smooth first (slice_index turns own) label) (table_cost smooth first (slice_index stays own) label) z is
+    (small_cost smooth first (slice_index turns own) label each) (small_cost smooth first (slice_index stays own) label each)
+
+pub place_first : (first : Bool) (own other place : ℕ) → own < 64 → other < 64 → place ≡ entry_place first own other → nat_lt place 4096 ≡ first
+place_first true own other place l h is = lt-ltb place 4096 (omega (arith, l, h, is))
+place_first false own other place l h is = le-ltb place 4096 (omega (arith, l, h, is))
+
+pub place_own : (first : Bool) (own other place : ℕ) → own < 64 → other < 64 → place ≡ entry_place first own other → place / 64 % 64 ≡ own
+place_own true own other place l h is = omega (arith, l, h, is)
+place_own false own other place l h is = omega (arith, l, h, is)
+
+pub place_other : (first : Bool) (own other place : ℕ) → own < 64 → other < 64 → place ≡ entry_place first own other → place % 64 ≡ other
+place_other true own other place l h is = omega (arith, l, h, is)
+place_other false own other place l h is = omega (arith, l, h, is)

@@ -1,0 +1,5 @@
+pub mod Sums
+pub mod Places
+pub mod Entries
+pub mod Telling
+pub mod Listing

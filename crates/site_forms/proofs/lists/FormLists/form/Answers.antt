@@ -1,0 +1,30 @@
+use Rattle.std.proofs.Common.{sym, subst, length}
+use Rattle.move_rises.proofs.Places.{meant_pairs, meant_beside}
+use Rattle.site_forms.specs.Fields.{AreReadableLists, AreReadOf}
+use Rattle.site_forms.proofs.Places.{pairs_places}
+use Rattle.site_forms.proofs.lists.FormLists.form.Goals as goal
+
+pub invariant_of-result : goal.invariant_of-result
+invariant_of-result c =
+    let a = c.args in
+    record {
+      form = record {
+        places = pairs_places a.pairs.now a.ends.now (length a.at.now) c.requires.sites c.keeps.ensures c.requires.by_site;
+        numbers = subst (λ (X : Type 0). X)
+            (λ i. AreReadableLists (sym c.deref.ensures.value i) a.at.now (sym c.deref-2.ensures.value i) (sym c.deref-3.ensures.value i) (sym c.deref-4.ensures.value i) a.self.now.few (sym c.deref-5.ensures.value i))
+            c.requires.lists;
+      };
+    }
+
+pub returns-clause-of : goal.returns-clause-of
+returns-clause-of c = λ m move sites pairs allowed read.
+    let a = c.args in
+    record {
+      sites_are = sites;
+      pairs_are = pairs;
+      instance = meant_pairs m a.pairs.now pairs sites c.keeps.ensures;
+      by_site = meant_beside m a.pairs.now a.ends.now pairs sites c.requires.by_site;
+      allowed = allowed;
+      read = subst (λ (X : Type 0). X)
+          (λ i. AreReadOf m move (sym c.deref.ensures.value i) a.at.now (sym c.deref-2.ensures.value i) (sym c.deref-3.ensures.value i) (sym c.deref-4.ensures.value i)) read;
+    }

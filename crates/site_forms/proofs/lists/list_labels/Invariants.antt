@@ -1,0 +1,9 @@
+use Rattle.std.proofs.Common.{◌≡◌, ◌<◌, ℕ, length, slice_index}
+use Rattle.labellings.specs.Moves.{label_after}
+use Rattle.site_forms.proofs.lists.list_labels.Given as goal
+
+abbrev pub invariant-loop-label : goal.invariant-loop-label
+invariant-loop-label l = record {
+  count : length l.list.items ≡ l.label;
+  each : (old : ℕ) → old < l.label → slice_index l.list.items old ≡ label_after l.change old l.bit;
+}

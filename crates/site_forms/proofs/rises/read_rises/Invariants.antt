@@ -1,0 +1,14 @@
+use Rattle.std.proofs.Common.{◌≡◌, ◌+◌, ◌-◌, ◌*◌, ◌≤◌, true, false, unsigned_abs}
+use Rattle.move_energy.specs.BySite.{neighbours_start}
+use Rattle.move_rises.specs.Ends.{decided_or}
+use Rattle.rise_forms.specs.Forms.{rise_below}
+use Rattle.site_forms.specs.Numbers.{form_of}
+use Rattle.site_forms.proofs.rises.read_rises.Given as goal
+
+abbrev pub invariant-loop-place : goal.invariant-loop-place
+invariant-loop-place l = record {
+  least_small : unsigned_abs l.least ≤ 10000000 + 10000000 * (l.place - neighbours_start l.form.ends.now l.site);
+  greatest_small : unsigned_abs l.greatest ≤ 10000000 + 10000000 * (l.place - neighbours_start l.form.ends.now l.site);
+  least : l.least ≡ rise_below (form_of l.form) (decided_or l.known true) l.site (l.place - neighbours_start l.form.ends.now l.site);
+  greatest : l.greatest ≡ rise_below (form_of l.form) (decided_or l.known false) l.site (l.place - neighbours_start l.form.ends.now l.site);
+}

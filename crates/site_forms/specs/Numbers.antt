@@ -1,0 +1,89 @@
+-- The form that the numbers of a move are.
+use Rattle.std.specs.Prelude.{◌≡◌, ℕ, ◌+◌, ◌*◌, ◌<◌, ◌≤◌, Bool, true, false, cond, ℤ, pos, ◌-ℤ◌}
+use Rattle.std.specs.Prelude.{length, slice_index, unsigned_abs}
+use Rattle.label_field.specs.PairLists.{IsPairList}
+use Rattle.labellings.specs.declared.change.Move.{Move}
+use Rattle.labellings.specs.Energies.{Instance, IsInstance, labelling}
+use Rattle.labellings.specs.Moves.{IsAllowed}
+use Rattle.cost_store.specs.Limits.{pair_cost_limit}
+use Rattle.move_energy.specs.BySite.{AreBySite, AreNeighboursOf, neighbours_start, neighbour_at}
+use Rattle.move_energy.specs.BySite.{is_first, weight_at}
+use Rattle.move_rises.specs.MoveValues.{move_value}
+use Rattle.move_rises.specs.declared.table.EndRises.{EndRises}
+use Rattle.rise_forms.specs.Forms.{Form, TellsRises}
+use Rattle.site_forms.specs.Fields.{table_cost, own_at, AreReadOf}
+use Rattle.site_forms.specs.declared.numbers.SiteForm.{SiteForm}
+
+-- the label that a site of this label gets by its value
+abbrev pub label_by : SiteForm → ℕ → Bool → ℕ
+label_by form old bit = cond bit (slice_index form.turns.now old) (slice_index form.stays.now old)
+
+-- by how much a pair of this weight rises where its first end, or its second, has the one label and
+-- turns, while the value of its other end, which has the other, is this bit
+abbrev pub end_rise_by : SiteForm → ℕ → Bool → ℕ → ℕ → Bool → ℤ
+end_rise_by form weight first own other bit =
+    pos (weight * table_cost form.smooth.now first (label_by form own true)
+    (label_by form other bit))
+    -ℤ pos (weight * table_cost form.smooth.now first (label_by form own false)
+    (label_by form other bit))
+
+-- the same of the pair that a site has at a place
+abbrev pub rise_at_place : SiteForm → Bool → ℕ → ℕ → ℤ
+rise_at_place form bit u place =
+    end_rise_by form (weight_at form.ends.now place) (is_first form.ends.now u place)
+    (labelling form.at.now u) (labelling form.at.now (neighbour_at form.ends.now place)) bit
+
+-- what the numbers are
+abbrev pub form_of : SiteForm → Form
+form_of form = record {
+  sites = length form.at.now;
+  start = neighbours_start form.ends.now;
+  head = neighbour_at form.ends.now;
+  own = own_at form.own.now;
+  low = rise_at_place form false;
+  high = rise_at_place form true;
+}
+
+-- a place of a site
+pub record IsSitePlace (form : SiteForm) (site place : ℕ) : Type 0 where
+  pub inside : site < length form.at.now
+  pub from : neighbours_start form.ends.now site ≤ place
+  pub to : place < neighbours_start form.ends.now (site + 1)
+
+-- the rises of an end of a pair, neither of them larger than a pair's cost
+pub record AreEndRises (form : SiteForm) (weight : ℕ) (first : Bool) (own other : ℕ)
+    (rises : EndRises) : Type 0 where
+  pub low : rises.low ≡ end_rise_by form weight first own other false
+  pub high : rises.high ≡ end_rise_by form weight first own other true
+  pub low_small : unsigned_abs rises.low ≤ pair_cost_limit
+  pub high_small : unsigned_abs rises.high ≤ pair_cost_limit
+
+-- this holds of each function whose rises the numbers tell
+abbrev pub Tells : SiteForm → (((ℕ → Bool) → ℤ) → Type 0) → Type 0
+Tells form P = (E : (ℕ → Bool) → ℤ) → TellsRises (form_of form) E → P E
+
+-- the form is of these pairs, and its neighbours are theirs by site
+pub record IsOverPairs (form : SiteForm) : Type 0 where
+  pub sites : length form.at.now ≡ form.pairs.now.sites
+  pub list : IsPairList form.pairs.now
+  pub by_site : AreBySite form.pairs.now form.ends.now
+
+-- its numbers were read of this move, which is allowed
+pub record IsFormOf (m : Instance) (move : Move) (form : SiteForm) : Type 0 where
+  pub sites_are : m.sites ≡ form.pairs.now.sites
+  pub pairs_are : m.pairs ≡ form.pairs.now.list
+  pub instance : IsInstance m
+  pub by_site : AreNeighboursOf m form.ends.now
+  pub allowed : IsAllowed m move (labelling form.at.now)
+  pub read : AreReadOf m move form.own.now form.at.now form.stays.now form.turns.now
+      form.smooth.now
+
+-- this holds of each move of which they were read
+abbrev pub WhereRead : SiteForm → (Instance → Move → (ℕ → ℕ) → Type 0) → Type 0
+WhereRead form P = (m : Instance) (move : Move) → IsFormOf m move form
+    → P m move (labelling form.at.now)
+
+-- they tell the rises of the energies of its labellings
+abbrev pub FormTellsRises : Type 0
+FormTellsRises = (form : SiteForm)
+    → WhereRead form (λ m move f. TellsRises (form_of form) (move_value m move f))

@@ -1,0 +1,25 @@
+//! The numbers of a move.
+ghost use Rattle.site_forms.specs.Fields.{AreReadable};
+
+use label_field::Pairs;
+use move_energy::Neighbours;
+use move_rises::EndRises;
+
+/// What a move is read of: the pairs and by site the neighbours, each site's own rise and its
+/// label, what each label becomes where the site's value is 0 and where it is 1, and what two
+/// labels cost a pair of weight 1. Where there are few labels, a table has the rises of such a pair
+/// by the labels of its ends.
+#[derive(Clone, Copy)]
+pub struct SiteForm<'a> {
+    pub pairs: &'a Pairs,
+    pub ends: &'a Neighbours,
+    pub own: &'a [i32],
+    pub at: &'a [u8],
+    pub stays: &'a [u8],
+    pub turns: &'a [u8],
+    pub smooth: &'a [u32],
+    pub few: bool,
+    pub table: &'a [EndRises],
+    pub ghost form: { AreReadable ends.now own.now at.now stays.now turns.now smooth.now few
+        table.now },
+}

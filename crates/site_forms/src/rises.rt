@@ -1,0 +1,81 @@
+//! By how much a function of the sites rises where one of them turns, read of a form.
+ghost use Rattle.std.specs.Prelude.{◌≡◌, ◌+◌, ◌*◌, ◌<◌, ◌≤◌, true, false, length, unsigned_abs};
+ghost use Rattle.cost_store.specs.Limits.{site_cost_limit, pair_cost_limit};
+ghost use Rattle.labellings.specs.Energies.{labelling};
+ghost use Rattle.move_energy.specs.BySite.{degree, neighbours_start, neighbour_at};
+ghost use Rattle.move_energy.specs.BySite.{is_first as is_first_of, weight_at as weight_of};
+ghost use Rattle.move_rises.specs.Assignments.{rise};
+ghost use Rattle.move_rises.specs.Ends.{decided_or};
+ghost use Rattle.rise_forms.specs.Forms.{place_rise};
+ghost use Rattle.site_forms.specs.Numbers.{form_of, Tells, IsSitePlace, AreEndRises};
+
+use crate::numbers::SiteForm;
+use crate::reading::end_rises;
+use move_energy::{Choice, is_first, weight_at};
+use move_rises::{EndRises, Rises, rises_by};
+
+/// By how much the value rises where a site turns, as far as the neighbour at a place goes: while
+/// the neighbour is at 0, and while it is at 1.
+#[inline]
+fn place_rises(form: &SiteForm, site: u32, place: u32) -> EndRises
+    requires place { IsSitePlace form.now site place }
+    ensures { AreEndRises form.now (weight_of form.now.ends.now place)
+        (is_first_of form.now.ends.now site place) (labelling form.now.at.now site)
+        (labelling form.now.at.now (neighbour_at form.now.ends.now place)) result }
+{
+    let place = place as usize;
+    let head = form.ends.heads[place];
+    end_rises(
+        form,
+        is_first(form.ends, site, place, head),
+        weight_at(form.ends, place),
+        form.at[site as usize],
+        form.at[head as usize],
+    )
+}
+
+/// The same at least and at most, by what is known of the neighbour.
+#[inline]
+fn rises_at(form: &SiteForm, known: &[Choice], site: u32, place: u32) -> Rises
+    requires known { length known.now ≡ length form.now.at.now }
+    requires place { IsSitePlace form.now site place }
+    ensures least { result.least
+        ≡ place_rise (form_of form.now) (decided_or known.now true) site place }
+    ensures greatest { result.greatest
+        ≡ place_rise (form_of form.now) (decided_or known.now false) site place }
+    ensures small { (unsigned_abs result.least ≤ pair_cost_limit)
+        × (unsigned_abs result.greatest ≤ pair_cost_limit) }
+{
+    let head = form.ends.heads[place as usize];
+    rises_by(place_rises(form, site, place), known[head as usize])
+}
+
+/// Where the places of a site begin; of the number of sites, where those of the last end.
+#[inline]
+fn start(form: &SiteForm, site: u32) -> u32
+    requires { site ≤ length form.now.at.now }
+    ensures { result ≡ neighbours_start form.now.ends.now site }
+{
+    form.ends.starts[site as usize]
+}
+
+/// By how much the value rises where a site turns, at least and at most, by what is known of its
+/// neighbours.
+pub fn read_rises(form: &SiteForm, known: &[Choice], site: u32) -> Rises
+    requires known { length known.now ≡ length form.now.at.now }
+    requires site { site < length form.now.at.now }
+    ensures least { Tells form.now (λ E. result.least ≡ rise E site (decided_or known.now true)) }
+    ensures greatest { Tells form.now
+        (λ E. result.greatest ≡ rise E site (decided_or known.now false)) }
+    ensures range { unsigned_abs result.greatest
+        ≤ site_cost_limit + pair_cost_limit * degree form.now.ends.now site }
+{
+    let mut least = i64::from(form.own[site as usize]);
+    let mut greatest = least;
+    for place in start(form, site)..start(form, site + 1) {
+        let rises = rises_at(form, known, site, place);
+        least += rises.least;
+        greatest += rises.greatest;
+    }
+    Rises { least, greatest }
+}

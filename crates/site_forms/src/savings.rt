@@ -1,0 +1,25 @@
+//! What the two ends of a pair save together, read of a form.
+ghost use Rattle.std.specs.Prelude.{◌≡◌, ◌≤◌, length, unsigned_abs};
+ghost use Rattle.label_field.specs.PairLists.{IsPair};
+ghost use Rattle.move_energy.specs.Limits.{surplus_limit};
+ghost use Rattle.move_energy.specs.Weights.{surplus_of, pair_table};
+ghost use Rattle.site_forms.specs.Numbers.{WhereRead};
+
+use crate::numbers::SiteForm;
+use crate::reading::end_rises;
+use label_field::Pair;
+use move_rises::surplus_by;
+
+/// The surplus of a pair: by how much its costs at 01 and 10 are together above those at 00 and 11.
+#[inline]
+pub fn pair_saving(form: &SiteForm, pair: Pair) -> i64
+    requires pair { IsPair (length form.now.at.now) pair }
+    ensures value { WhereRead form.now
+        (λ m move f. result ≡ surplus_of (pair_table m move f pair)) }
+    ensures range { unsigned_abs result ≤ surplus_limit }
+{
+    let own = form.at[pair.first as usize];
+    let other = form.at[pair.second as usize];
+    let rises = end_rises(form, true, pair.weight, own, other);
+    surplus_by(rises)
+}
