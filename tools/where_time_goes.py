@@ -29,8 +29,8 @@ PARTS = [
     (
         "deciding",
         (
-            "move_rises", "rise_forms", "move_forms", "deciding", "stages", "stage_parts",
-            "closing_in",
+            "move_rises", "rise_forms", "move_forms", "site_forms", "deciding", "stages",
+            "stage_parts", "closing_in",
         ),
     ),
     (
