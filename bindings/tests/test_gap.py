@@ -26,6 +26,7 @@ try:
 except ImportError:
     np = None
 SHARE = re.compile(r"least at least (\d+): at most (\d+)(?:\.(\d{1,2}))? % above the least energy")
+SHARE_SAID = re.compile(r"at most (\S+) %")
 UNKNOWN = "least at least 0: no share of it is known"
 
 
@@ -138,27 +139,37 @@ def starts(folder):
         assert written(folder / "out.pgm") == [int(label) for label in wanted]
 
 
+def told(command, files, words, folder, *more):
+    """The energy of a run with --gap, and its last line."""
+    status, _, wrong = run(command, *(TOP / name for name in files), folder / "out.png", *words, "--gap", *more)
+    assert status == 0, wrong
+    *before, line = wrong.splitlines()
+    return energy_in(before[-1]), line
+
+
+def page_rows():
+    """The rows of the table in docs/IMAGES.md: the words of a command, and what it says: energy and share from 0, and with --refine."""
+    number = r" ([\d,.]+) \|"
+    rows = re.findall(r"^\| `(\w+ examples/[^`]+)` \|" + 4 * number, (TOP / "docs" / "IMAGES.md").read_text(), re.MULTILINE)
+    assert len(rows) >= 8, rows
+    for words, *cells in rows:
+        command, *rest = words.split()
+        yield command, [word for word in rest if "/" in word], [word for word in rest if "/" not in word], cells
+
+
 def example_pictures(folder):
-    """--refine ends no higher than a run from 0, and no run is below a bound."""
-    seen = []
-    for command, name, *words in [
-            ("restore", "noisy.pgm", "--weight", 2), ("restore", "noisy.pgm", "--weight", 4),
-            ("restore", "noisy.pgm", "--smooth", "linear", "--trunc", 3, "--weight", 2),
-            ("restore", "noisy.pgm", "--weight", 3, "--neighbours", 8, "--moves", "swap"), ("restore", "camera64.pgm"),
-            ("stereo", "dots.pgm", "--labels", 8, "--weight", 30, "--cap", 80),
-            ("stereo", "dots.pgm", "--labels", 8, "--smooth", "quadratic", "--trunc", 9, "--weight", 8, "--moves", "swap"),
-            ("segment", "seeded.pgm", "--low", 40, "--high", 170, "--strong", 90, "--weak", 40, "--edge", 60)]:
-        ends = []
-        for more in ([], ["--refine"]):
-            status, _, wrong = run(command, EXAMPLES / name, folder / "out.png", *words, "--gap", *more)
-            assert status == 0, wrong
-            *before, line = wrong.splitlines()
-            ends.append((energy_in(before[-1]), line))
-        (today, line), (refined, other) = ends
+    """What the page says of the examples is so, and no run is below a bound."""
+    lower, count = 0, 0
+    for command, files, words, cells in page_rows():
+        today, line = told(command, files, words, folder)
+        refined, other = told(command, files, words, folder, "--refine")
         low = bound_in(line, today)
-        assert bound_in(other, refined) == low <= refined <= today, (name, words, ends)
-        seen.append(refined < today)
-    return f"{len(seen)} runs over examples, {sum(seen)} of them end lower with --refine and none higher"
+        assert bound_in(other, refined) == low <= min(refined, today), (files, words, line, other)
+        if all(name.endswith(".pgm") for name in files):  # what a JPEG decoder makes of a picture may differ
+            seen = [f"{today:,}", SHARE_SAID.search(line).group(1), f"{refined:,}", SHARE_SAID.search(other).group(1)]
+            assert seen == cells, (files, words, seen, cells)
+        lower, count = lower + (refined < today), count + 1
+    return f"{count} runs over examples, {lower} of them end lower with --refine"
 
 
 def colours(folder):
@@ -214,7 +225,7 @@ def refused_pictures(folder):
     for word in ("--gap", "--refine"):
         status, _, wrong = run("restore", large, out, "--weight", 1, word)
         assert status == 1 and "at most 1,048,576 pixels" in wrong and "--fit" in wrong and not out.exists(), wrong
-    status, _, wrong = run("restore", EXAMPLES / "noisy.pgm", out, "--smooth", "quadratic", "--weight", 1, "--gap")
+    status, _, wrong = run("restore", EXAMPLES / "noisy.pgm", out, "--smooth", "quadratic", "--trunc", 9, "--weight", 1, "--gap")
     assert status == 1 and "refused 24" in wrong and "least at least" not in wrong and not out.exists(), wrong
     status, told, wrong = run("restore", EXAMPLES / "noisy.pgm", out, "--gap", "--quiet")
     assert (status, told, wrong) == (0, "", "") and out.exists()
