@@ -83,6 +83,7 @@ export class Refused extends Error {
 
 /** The proved library in a memory of its own. Each call runs to its end: call it in a Worker where that may be long. */
 export class Gco {
+  private constructor();
   /** How many bytes of memory it holds. They grow with the largest call, and stay. */
   readonly memory: number;
   /** Takes noise out of a picture of at most 256 grey levels. */
@@ -98,7 +99,7 @@ export class Gco {
 }
 
 /** A library of the bytes of gco.wasm. Without them it takes those beside the module. */
-export function load(module?: BufferSource): Promise<Gco>;
+export function load(module?: ArrayBuffer | ArrayBufferView): Promise<Gco>;
 
 /** The picture that begins at a place of PGM bytes, and the place behind it; null where none does. */
 export function readPgm(bytes: Uint8Array, from?: number):

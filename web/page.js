@@ -149,8 +149,10 @@ function say(words, isWrong = false) {
 
 function showRunning() {
   const begun = performance.now();
+  const tick = () => { $("seconds").textContent = `${Math.floor((performance.now() - begun) / 1000)} s`; };
   say("Running ..");
-  ticking = setInterval(() => say(`Running .. ${Math.floor((performance.now() - begun) / 1000)} s`), 1000);
+  tick();
+  ticking = setInterval(tick, 1000);
   $("progress").hidden = false;
   showButtons();
 }
@@ -165,18 +167,24 @@ const grouped = (number) => number.toLocaleString("en");
 function showAnswer() {
   const { energy, data, smooth, seconds, job } = state.last;
   say(`Done in ${seconds.toFixed(2)} s.`);
-  $("energy").textContent = `${grouped(energy)} = ${grouped(data)} data + ${grouped(smooth)} smooth`;
+  $("energy").textContent = grouped(energy);
+  $("parts").textContent = `${grouped(data)} + ${grouped(smooth)}`;
   $("gap").textContent = gapOf(state.last);
-  $("time").textContent = `${seconds.toFixed(2)} s`;
-  $("command").textContent = `${wordsOf(job)} < input.pgm > labels.pgm`;
+  showCommand(`${wordsOf(job)} < input.pgm > labels.pgm`);
   $("answer").hidden = $("save").hidden = false;
   showSides();
 }
 
+// A line ends between two options, and not within one.
+function showCommand(words) {
+  const parts = words.split(/ (?=[-<>])/).map((part) => Object.assign(document.createElement("span"), { textContent: part }));
+  $("command").replaceChildren(...parts.flatMap((part) => [part, " "]));
+}
+
 // Of two labels the first expansion reaches each labelling.
 function gapOf({ job, bound }) {
-  if (job.command === "segment") return "none: no labelling costs less";
-  return bound ? `at most ${(2 * bound.vmax / bound.vmin).toLocaleString("en")} times the least` : "";
+  if (job.command === "segment") return "0: none costs less";
+  return bound ? `at most ${(2 * bound.vmax / bound.vmin).toLocaleString("en")} times` : "";
 }
 
 function forgetAnswer() {
@@ -191,7 +199,7 @@ function showSides() {
 
 // The parts of the page for the mode and for what there is.
 function showParts() {
-  const { mode, picture } = state;
+  const { mode, picture } = state, wasInDrop = $("drop").contains(document.activeElement);
   for (const tab of document.querySelectorAll("[role=tab]")) {
     tab.setAttribute("aria-selected", tab.dataset.mode === mode);
     tab.tabIndex = tab.dataset.mode === mode ? 0 : -1;
@@ -200,6 +208,7 @@ function showParts() {
   for (const part of document.querySelectorAll("[data-if]")) part.hidden = !$("byGrey").checked;
   $("drop").hidden = isComplete();
   $("frame").hidden = !isComplete();
+  if (wasInDrop && isComplete()) $("view").focus({ preventScroll: true }); // and not on what is hidden now
   $("brushes").hidden = mode !== "segment" || !picture;
   $("dropTitle").textContent = mode === "stereo" ? "Drop two views here, the left one first" : "Drop a photograph here";
   $("dropHint").textContent = mode === "stereo" ? "Choose both files together." : "";

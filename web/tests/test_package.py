@@ -1,5 +1,8 @@
 #!/usr/bin/env python3
-"""Tries the package as a program for node imports it: python3 test_package.py --package gco.tgz --library PATH"""
+"""Tries the package as programs for node and in TypeScript import it:
+
+    python3 test_package.py --package gco.tgz --library PATH
+"""
 import argparse
 import json
 import shutil
@@ -13,6 +16,17 @@ HERE = Path(__file__).resolve().parent
 sys.path.insert(0, str(HERE))
 
 from cases import WANTED_STATUSES, random_cases, statuses
+
+TYPES = ["--strict", "--noEmit", "--target", "es2022", "--module", "node16", "--moduleResolution", "node16"]
+
+
+def try_types(folder):
+    if shutil.which("tsc") is None:
+        return print("the package: tsc is missing, its types are not tried (Debian: apt-get install node-typescript)")
+    shutil.copy(HERE / "package.ts", folder / "package.mts")
+    subprocess.run(["tsc", *TYPES, "package.mts"], cwd=folder, check=True)
+    print("the package: its types")
+
 
 def main():
     parser = argparse.ArgumentParser(description=__doc__.split("\n")[0])
@@ -35,6 +49,7 @@ def main():
         for name in ("package.mjs", "compare.js"):
             shutil.copy(HERE / name, folder)
         (folder / "cases.json").write_text(json.dumps(cases))
+        try_types(folder)
         sys.exit(subprocess.run(["node", "package.mjs"], cwd=folder).returncode)
 
 

@@ -1,17 +1,22 @@
 #!/usr/bin/env python3
 """Tries the page in real browsers, by its own buttons, beside the built program and the native library.
 
-    python3 tests/test_page.py --page gco.html --module gco.wasm --library PATH [--gco PATH] [--shots FOLDER]
+    python3 tests/test_page.py --page gco.html --module gco.wasm --package gco.tgz --library PATH [--gco PATH]
+        [--shots FOLDER]
 
 Wants Debian's chromium, chromium-driver, python3-selenium and firefox-esr. The first thing that is not as it should be
 ends the run in status 1.
 """
 import argparse
+import functools
+import http.server
 import importlib.util
 import shutil
 import subprocess
 import sys
+import tarfile
 import tempfile
+import threading
 import time
 from pathlib import Path
 
@@ -97,7 +102,10 @@ def run_now(browser):
 def try_module(browser, page, limit=PAGE_LIMIT):
     size = page.stat().st_size
     wants(size <= limit, f"the page has {size:,} bytes, and {limit:,} are allowed")
-    wants("http" not in page.read_text().replace("http://www.w3.org", ""), "the page names an address")
+    wants("://" not in page.read_text().replace("http://www.w3.org", ""), "the page names an address")
+    browser.run("window.told = null;"
+                "fetch('data:,').then(() => 'open', () => 'closed').then((it) => { window.told = it; })")
+    wants(browser.wait("return window.told") == "closed", "the browser lets the page fetch")
     browser.run(
         "window.told = null;"
         "(async () => { const stream = new Blob([bytesOf(MODULE)]).stream().pipeThrough(new DecompressionStream('gzip'));"
@@ -282,6 +290,29 @@ def try_deep_stack(browser, module, folder):
     told("  a stack that is too deep", begun)
 
 
+class Quiet(http.server.SimpleHTTPRequestHandler):
+    def log_message(self, *words):
+        pass
+
+
+def try_package(browser, package, folder):
+    """The package, as another page imports it from a server."""
+    begun = time.time()
+    with tarfile.open(package) as archive:
+        archive.extractall(folder)
+    (folder / "other.html").write_text(
+        '<!doctype html><script type="module">import { load } from "./package/gco.mjs"; const gco = await load();'
+        " window.told = gco.restore({ width: 3, height: 1, maxval: 3, samples: [0, 3, 0] }, { labelCost: 2 }).energy;"
+        "</script>")
+    with http.server.ThreadingHTTPServer(("127.0.0.1", 0), functools.partial(Quiet, directory=folder)) as server:
+        threading.Thread(target=server.serve_forever, daemon=True).start()
+        browser.open(f"http://127.0.0.1:{server.server_port}/other.html")
+        energy = browser.wait("return window.told", 20)
+        server.shutdown()
+    wants(energy == 5, f"a page that imports the package is told the energy {energy}")
+    told("  the package in another page", begun)
+
+
 # --- What it looks like ---
 
 def shoot(browser, page, folder):
@@ -315,8 +346,8 @@ def missing():
 
 def main():
     parser = argparse.ArgumentParser(description=__doc__.split("\n")[0])
-    for name in ("page", "module", "gco", "library", "shots"):
-        parser.add_argument(f"--{name}", type=Path, required=name in ("page", "module", "library"))
+    for name in ("page", "module", "package", "gco", "library", "shots"):
+        parser.add_argument(f"--{name}", type=Path, required=name not in ("gco", "shots"))
     parser.add_argument("--count", type=int, default=2000)
     options = parser.parse_args()
     if missing():
@@ -330,17 +361,18 @@ def main():
         shots = options.shots or folder
         shots.mkdir(parents=True, exist_ok=True)
         gco = options.gco and options.gco.resolve()
-        in_chromium(page, module, Native(options.library.resolve()), gco, cases, folder, shots)
+        in_chromium(page, module, Native(options.library.resolve()), gco, cases, folder, shots, options.package)
         in_firefox(page, cases, shots)
     print("test_page: all passed")
 
 
-def in_chromium(page, module, native, gco, cases, folder, shots):
+def in_chromium(page, module, native, gco, cases, folder, shots, package):
     browser = Chromium()
     try:
         begun = time.time()
         browser.open(page.as_uri())
         try_module(browser, page)
+        browser.complaints()  # of the fetch
         try_random_calls(browser, cases)
         told("Chromium: the module, and the random calls", begun)
         try_pictures(browser, native, gco)
@@ -351,6 +383,7 @@ def in_chromium(page, module, native, gco, cases, folder, shots):
         wants(browser.complaints() == [], f"the console says {browser.complaints()}")
         try_little_memory(browser, module, folder)
         try_deep_stack(browser, module, folder)
+        try_package(browser, package, folder)
     finally:
         browser.close()
 
