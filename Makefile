@@ -1,5 +1,6 @@
 # The release: the proved program and library, with all that a user wants around them.
 #   make release                   dist/: an archive, a Debian package, the wheel, checksums
+#   make release ARCH=aarch64      the same for 64-bit ARM, by a cross compiler (release/aarch64)
 #   make install PREFIX=/usr/local DESTDIR=
 #   make uninstall PREFIX=/usr/local DESTDIR=
 #   make web                       dist/gco.html: the page for a browser, with the library in it
@@ -8,6 +9,7 @@
 #   make check-web                 tries both in real browsers, beside the program
 #   make check                     tries the program, the bindings, the release, the manuals, the
 #                                  completions and the pages
+#   make check-arm                 makes the release for ARM, and tries it by qemu
 #   make bench                     measures the program beside another: bench/README.md;
 #                                  BENCH_OPTIONS=--renew writes the figures into the pages
 # The program and the library are what `rt run` in crates/gco and `make -C bindings` leave.
@@ -28,32 +30,56 @@ BENCH_OPTIONS ?=
 ifndef PYTHON
 PYTHON := $(shell python3 -c 'import numpy, PIL' 2> /dev/null && echo python3 || echo /usr/bin/python3)
 endif
-NAME := gco-$(VERSION)-linux-x86_64
+ARCH ?= x86_64
+NAME := gco-$(VERSION)-linux-$(ARCH)
 STAGE := dist/$(NAME)
 ARCHIVE := dist/$(NAME).tar.gz
-DEB := dist/gco_$(VERSION)_amd64.deb
+CRATES := $(if $(CRATE),$(abspath $(CRATE)/..),$(abspath crates))
+PICTURES := $(CRATES)/gco_pictures
 PAGES := README.md docs/IMAGES.md docs/LABEL.md docs/ENERGY.md docs/SLOW.md docs/REFUSED.md docs/LARGE.md
-BINDINGS := $(MAKE) -C bindings VERSION=$(VERSION) PYTHON=$(PYTHON) \
-	$(if $(CRATE),CRATE=$(abspath $(CRATE)))
-
-PICTURES := $(if $(CRATE),$(dir $(abspath $(CRATE))),$(abspath crates)/)gco_pictures
+BINDINGS := $(MAKE) -C bindings VERSION=$(VERSION) PYTHON=$(PYTHON) CRATE=$(CRATES)/gco_c
 WEB := $(MAKE) -C web PYTHON=$(PYTHON) CRATE=$(PICTURES)
+
+# What a release is made of: the program, a command that runs it here, and how the library is made.
+ifeq ($(ARCH),aarch64)
+ARM := $(abspath dist/aarch64)
+CROSS := aarch64-linux-gnu-
+BUILT := $(ARM)/gco
+RUN := $(ARM)/run/gco
+BINDINGS_FOR := $(BINDINGS) $(foreach it,LD AR OBJCOPY OBJDUMP,$(it)=$(CROSS)$(shell echo $(it) | tr A-Z a-z)) \
+	CC=$(CROSS)gcc HEAP=$(ARM)/heap.o ARCHIVE=$(ARM)/libgco_c.a IMAGES_ARCHIVE=$(ARM)/libgco_pictures.a
+STAGED_FOR := OBJDUMP=$(CROSS)objdump MACHINE='64-bit ARM' TRIED='`make check-arm`, with an emulator in place of such a processor'
+DEB := dist/gco_$(VERSION)_arm64.deb
+else
+BUILT := $(GCO)
+RUN := $(GCO)
+BINDINGS_FOR := $(BINDINGS)
+STAGED_FOR := OBJDUMP=objdump MACHINE=x86-64 TRIED='`make check`'
+DEB := dist/gco_$(VERSION)_amd64.deb
+endif
 
 release: $(ARCHIVE) $(DEB)
 	cp $(STAGE)/python/*.whl dist
-	cd dist && sha256sum $(notdir $(ARCHIVE)) $(notdir $(DEB)) *.whl > SHA256SUMS
+	cd dist && sha256sum gco-*.tar.gz gco_*.deb *.whl > SHA256SUMS
 
 $(GCO):
 	@echo "$@ is missing: prove the program (rt run in crates/gco), or name one: GCO=path" >&2
 	@exit 1
 
+ifeq ($(ARCH),aarch64)
+$(BUILT): FORCE
+	$(MAKE) -C release/aarch64 OUT=$(ARM) CRATES=$(CRATES) PYTHON=$(PYTHON)
+endif
+
 # The tree of the archive. It is made anew each time, since it is made in seconds.
-$(STAGE)/SHA256SUMS: $(GCO) FORCE
-	rm -rf $(STAGE) dist/*.whl
+$(STAGE)/SHA256SUMS: $(BUILT) FORCE
+	rm -rf $(STAGE) dist/*_$(ARCH).whl
 	$(BINDINGS) clean
-	$(BINDINGS) all wheel
-	$(BINDINGS) install PREFIX=$(abspath $(STAGE)) DESTDIR=
-	VERSION=$(VERSION) GCO=$(GCO) GATE_LOG=$(GATE_LOG) PYTHON=$(PYTHON) sh release/stage.sh $(STAGE)
+	$(BINDINGS_FOR) pictures
+	$(BINDINGS_FOR) all wheel
+	$(BINDINGS_FOR) install PREFIX=$(abspath $(STAGE)) DESTDIR=
+	VERSION=$(VERSION) GCO=$(BUILT) RUN=$(RUN) DEB=$(notdir $(DEB)) $(STAGED_FOR) GATE_LOG=$(GATE_LOG) \
+		PYTHON=$(PYTHON) sh release/stage.sh $(STAGE)
 
 $(ARCHIVE): $(STAGE)/SHA256SUMS
 	tar --sort=name --owner=0 --group=0 --numeric-owner --mtime=@$$(git log -1 --format=%ct) \
@@ -72,6 +98,14 @@ check: check-pages check-program check-bindings release
 	$(PYTHON) tools/try_release.py $(ARCHIVE) $(DEB)
 	$(PYTHON) tools/run_pages.py --release $(STAGE) $(PAGES)
 	@echo "check: all passed"
+
+# The library of ARM must not stay where that of this machine is looked for.
+check-arm: $(GCO)
+	$(MAKE) release ARCH=aarch64
+	$(BINDINGS) clean
+	$(BINDINGS) all
+	PYTHONPATH=bindings/dist/python $(PYTHON) tools/try_arm.py dist/gco-$(VERSION)-linux-aarch64.tar.gz \
+		dist/gco_$(VERSION)_arm64.deb --gco $(abspath $(GCO))
 
 # What the pages say of the sources and of each other.
 check-pages: check-packages
@@ -111,7 +145,7 @@ clean:
 
 FORCE:
 
-.PHONY: web npm check-web \
+.PHONY: web npm check-web check-arm \
 	release install uninstall check check-pages check-program check-bindings check-packages \
 	bench clean FORCE
 .DELETE_ON_ERROR:

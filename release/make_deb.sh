@@ -1,10 +1,12 @@
 #!/bin/sh
 # Makes the Debian package of the tree of a release:
-#   VERSION=0.2.0 PYTHON=python3 sh release/make_deb.sh TREE PACKAGE.deb
+#   VERSION=0.2.0 PYTHON=python3 sh release/make_deb.sh TREE gco_0.2.0_amd64.deb
 set -eu
 
 stage=$1
 package=$2
+arch=${package##*_}
+arch=${arch%.deb}
 root=$(mktemp -d)
 trap 'rm -rf "$root"' EXIT
 modules=$root/usr/lib/python3/dist-packages
@@ -24,7 +26,7 @@ put_tree() {
     for folder in bin include lib share; do
         cp -a "$stage/$folder" "$root/usr"
     done
-    chmod 644 "$root"/usr/lib/libgco.so*
+    chmod 644 "$root"/usr/lib/libgco*.so*
     mv "$root/usr/share/zsh/site-functions" "$root/usr/share/zsh/vendor-completions"
     gzip -9n "$root"/usr/share/man/man1/*.1
     cp release/copyright "$root/usr/share/doc/gco/copyright"
@@ -32,12 +34,12 @@ put_tree() {
     put_changelog
 }
 
-# The wheel's module, which shares the package's library.
+# The wheel's module, which shares the package's libraries.
 put_module() {
     mkdir -p "$modules"
     $PYTHON -m zipfile -e "$stage"/python/*.whl "$modules"
-    for copy in "$modules"/*/libgco.so*; do
-        ln -sf "../../../libgco.so" "$copy"
+    for copy in "$modules"/*/libgco*.so; do
+        ln -sf "../../../$(basename "$copy")" "$copy"
     done
     chmod -R u=rwX,go=rX "$modules"
     rm -f "$modules"/*.dist-info/RECORD
@@ -59,7 +61,7 @@ put_control() {
     mkdir -p "$root/DEBIAN"
     size=$(du -sk "$root/usr" | cut -f1)
     glibc=$(sed -n 's/.*with glibc \([0-9.]*\) or later.*/\1/p' "$stage/RELEASE.md")
-    sed -e "s|@VERSION@|$VERSION|" -e "s|@SIZE@|$size|" -e "s|@GLIBC@|$glibc|" \
+    sed -e "s|@VERSION@|$VERSION|" -e "s|@ARCH@|$arch|" -e "s|@SIZE@|$size|" -e "s|@GLIBC@|$glibc|" \
         release/control.in > "$root/DEBIAN/control"
     echo "activate-noawait ldconfig" > "$root/DEBIAN/triggers"
     install -m 755 release/prerm "$root/DEBIAN/prerm"

@@ -1,6 +1,8 @@
 #!/bin/sh
 # Lays out the tree of the release in a folder that has the library already (include, lib):
-#   VERSION=0.2.0 GCO=crates/gco/out/gco GATE_LOG= PYTHON=python3 sh release/stage.sh FOLDER
+#   VERSION=0.2.0 GCO=crates/gco/out/gco RUN=crates/gco/out/gco DEB=gco_0.2.0_amd64.deb OBJDUMP=objdump \
+#       MACHINE=x86-64 TRIED='`make check`' GATE_LOG= PYTHON=python3 sh release/stage.sh FOLDER
+# RUN runs the program here.
 set -eu
 
 stage=$1
@@ -8,9 +10,9 @@ date=$(git log -1 --format=%cs)
 commit=$(git rev-parse HEAD)
 [ -z "$(git status --porcelain --untracked-files=no)" ] || commit="$commit, with changes"
 
-# The newest symbols of the C library that the program and the library ask for.
+# The newest symbols of the C library that the program and the libraries ask for.
 glibc_wanted() {
-    objdump -T "$stage/bin/gco" "$stage/lib/libgco.so" \
+    $OBJDUMP -T "$stage/bin/gco" "$stage/lib/libgco.so" "$stage/lib/libgco_pictures.so" \
         | sed -n 's/.*GLIBC_\([0-9][0-9.]*\).*/\1/p' | sort -Vu | tail -1
 }
 
@@ -37,10 +39,10 @@ kit_name() {
 
 put_program() {
     install -D -m 755 "$GCO" "$stage/bin/gco"
-    $PYTHON tools/make_manuals.py --gco "$GCO" --version "$VERSION" --date "$date" \
+    $PYTHON tools/make_manuals.py --gco "$RUN" --version "$VERSION" --date "$date" \
         "$stage/share/man/man1"
     completions=$(mktemp -d)
-    $PYTHON tools/make_completions.py --gco "$GCO" "$completions"
+    $PYTHON tools/make_completions.py --gco "$RUN" "$completions"
     install -D -m 644 "$completions/gco.bash" "$stage/share/bash-completion/completions/gco"
     install -D -m 644 "$completions/_gco" "$stage/share/zsh/site-functions/_gco"
     install -D -m 644 "$completions/gco.fish" "$stage/share/fish/vendor_completions.d/gco.fish"
@@ -66,7 +68,8 @@ put_top() {
     cp bindings/dist/gco*-"$VERSION"-*.whl "$stage/python"
     cp LICENSE-MIT LICENSE-APACHE VERSION release/install.sh "$stage"
     sed -e "s|@VERSION@|$VERSION|g" -e "s|@COMMIT@|$commit|" -e "s|@DATE@|$date|" \
-        -e "s|@KIT@|$(kit_name)|" \
+        -e "s|@KIT@|$(kit_name)|" -e "s|@MACHINE@|$MACHINE|g" -e "s|@TRIED@|$TRIED|" \
+        -e "s|@DEB@|$DEB|" \
         -e "s|@GATE@|$gate|" -e "s|@GLIBC@|$(glibc_wanted)|" \
         -e "s|@WHEEL@|$(cd "$stage" && echo python/*.whl)|" \
         release/RELEASE.md.in > "$stage/RELEASE.md"

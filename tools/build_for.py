@@ -1,5 +1,5 @@
 #!/usr/bin/env python3
-"""Builds a crate that is proved here for another target, as `rt` does for this machine:
+"""Builds a crate for another target, as `rt` does for this machine:
 
     python3 tools/build_for.py crates/gco_c aarch64-unknown-linux-gnu libgco_c.a
     python3 tools/build_for.py crates/gco aarch64-unknown-linux-gnu gco.o

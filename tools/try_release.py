@@ -31,6 +31,7 @@ ENERGIES = [
 FIRST = re.compile(r"^```sh by hand\n(tar xzf .*?)^```$", re.DOTALL | re.MULTILINE)
 STYLE = re.compile(".\b|\x1b\\[[0-9;]*m")  # how bold and italic letters reach a terminal
 DISTRICTS = "energy 27\nlabels 1 1 1 2 2\n"
+RESTORES = "import gco; print(gco.restore_pgm(open('{}', 'rb').read(), weight=4).energy)"
 CMAKE = """cmake_minimum_required(VERSION 3.10)
 project(districts C CXX)
 find_package(gco {version} REQUIRED)
@@ -173,7 +174,7 @@ def try_library(trial, tree):
         or not (trial.prefix / "lib" / soname).exists()
     ):
         sys.exit(f"the soname {soname} has no number, or no file of that name is installed")
-    for header in ("gco.h", "GCoptimization.h", "energy.h"):
+    for header in ("gco.h", "gco_pictures.h", "GCoptimization.h", "energy.h"):
         if not (trial.prefix / "include/gco" / header).is_file():
             sys.exit(f"include/gco/{header} is not installed")
 
@@ -197,6 +198,9 @@ def try_wheel(trial, tree):
     told = trial.run(["venv/bin/python", "districts.py"])
     if not told.startswith("27 [1, 1, 1, 2, 2]"):
         sys.exit(f"districts.py printed {told}")
+    picture = tree / "share/doc/gco/examples/noisy.pgm"
+    told = trial.run(["venv/bin/python", "-c", RESTORES.format(picture)])
+    wants(told, "8865\n", "the wheel's restore_pgm")
 
 
 def read_manuals(trial, tree):
@@ -295,6 +299,10 @@ def try_package_module(trial, root, version):
         "print(gco.label([[0, 3], [3, 0]], gco.potts(2), [(0, 1, 3)]).energy)"
     )
     wants(trial.run([sys.executable, "-c", program], env=env), "3\n", "the package's module")
+    picture = root / "usr/share/doc/gco/examples/noisy.pgm"
+    program = f"import site; site.addsitedir('{modules}'); {RESTORES.format(picture)}"
+    told = trial.run([sys.executable, "-c", program], env=env)
+    wants(told, "8865\n", "the package's restore_pgm")
     told = trial.run([sys.executable, root / "usr/bin/gco-picture", "--version"], env=env)
     wants(told, f"gco {version}\n", "the package's gco-picture")
     if not any(modules.rglob("__pycache__")):
