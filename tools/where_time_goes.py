@@ -24,31 +24,31 @@ from pathlib import Path
 # that fits is taken.
 PARTS = [
     ("reading", ("pgm_image", "byte_streams", "problem_files", "toml", "command_line", "clap")),
-    ("pairs", ("label_field", "grouping")),
-    ("costs", ("cost_store", "vision", "run_options", "labellings", "rayon")),
+    ("pairs", ("label_field", "counting_sort")),
+    ("costs", ("cost_store", "vision", "run_options", "label_energies", "rayon")),
     (
-        "deciding",
+        "site_bounds",
         (
-            "move_rises", "rise_forms", "move_forms", "site_forms", "deciding", "stages",
-            "stage_parts", "closing_in",
+            "move_prices", "rise_forms", "move_forms", "site_forms", "site_bounds", "near_changes",
+            "near_change_parts", "persistency",
         ),
     ),
     (
         "building",
         (
-            "move_energy", "label_terms", "strips", "pseudo_bool", "regular", "compile_cut",
+            "move_energy", "label_cost_terms", "strips", "pseudo_bool", "regular", "compile_cut",
             "sums",
         ),
     ),
-    ("cutting", ("plain_cut", "solvers", "sink_distances", "flow_network")),
+    ("cutting", ("plain_cut", "cut_ways", "sink_distances", "flow_network")),
     (
         "cutting by workers",
         (
-            "rounds", "label_search", "forks", "block_", "laid_blocks", "node_buckets",
+            "rounds", "distance_search", "part_threads", "block_", "net_in_blocks", "cut_in_blocks", "node_buckets",
             "global_relabel", "worker", "rtrb",
         ),
     ),
-    ("moves", ("single_moves", "moves", "minimum")),
+    ("moves", ("one_move", "moves", "minimum")),
     ("writing", ("program_texts", "program_tasks", "gco_cli", "itoa", "arrayvec")),
 ]
 SYSTEM = "the system, and what has no name of a crate"

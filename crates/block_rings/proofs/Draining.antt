@@ -5,7 +5,7 @@ use Rattle.block_events.specs.declared.message.Message.{Message}
 use Rattle.block_events.specs.States.{way_at, put_way}
 use Rattle.block_events.specs.Soundness.{IsSquare, direction_of}
 use Rattle.block_events.proofs.Ways.{way_same, way_other, square_put}
-use Rattle.block_core.specs.AllWays.{room_at}
+use Rattle.block_state.specs.AllWays.{room_at}
 use Rattle.block_rings.specs.Left.{AreWaysEmpty, AreFitting, AreKeptByWays, AreLeft, rest_of}
 use Rattle.block_rings.specs.Links.{Traffic, Link, RingsView, link_in, left_in, AreLinks, down, up, sent_in, taken_in}
 use Rattle.block_rings.specs.Draining.{AreDraining, HaveRoom, IsFitting, ways_after_drain}

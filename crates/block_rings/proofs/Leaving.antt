@@ -5,7 +5,7 @@ use Rattle.std.proofs.lemmas.List.{map-append, drop_at, length-append, length-ma
 use Rattle.block_events.specs.declared.message.Message.{Message}
 use Rattle.block_events.specs.States.{way_at}
 use Rattle.block_events.specs.Soundness.{IsSquare}
-use Rattle.block_turns.specs.declared.letter.Letter.{Letter}
+use Rattle.block_discharge.specs.declared.letter.Letter.{Letter}
 use Rattle.block_workers.specs.Seeing.{messages}
 use Rattle.block_rings.specs.Left.{AreLeft, HaveRoomFor, rest_of}
 use Rattle.block_rings.specs.Links.{Traffic, Link, traffic_of, link_in, left_in, down, up, is_link_of, AreLinks, IsLinkSeen, RingsView, sent_in, taken_in, ring_room, AreWithinRoom}

@@ -6,7 +6,7 @@ use Rattle.block_events.specs.declared.message.Message.{Message}
 use Rattle.block_events.specs.States.{way_at, put_way, put_message}
 use Rattle.block_events.specs.Soundness.{IsSquare}
 use Rattle.block_events.proofs.Ways.{way_same, way_other, square_put}
-use Rattle.block_turns.specs.declared.letter.Letter.{Letter}
+use Rattle.block_discharge.specs.declared.letter.Letter.{Letter}
 use Rattle.block_workers.specs.declared.port.Port.{Port}
 use Rattle.block_workers.specs.Ports.{IsSamePort}
 use Rattle.block_workers.specs.Seeing.{messages}

@@ -3,7 +3,7 @@ use Rattle.std.specs.Prelude.{◌≡◌, ◌≢◌, ℕ, ◌+◌, ◌<◌, ◌�
 use Rattle.block_events.specs.declared.message.Message.{Message}
 use Rattle.block_events.specs.States.{way_at, put_way}
 use Rattle.block_events.specs.Soundness.{IsSquare}
-use Rattle.block_core.specs.AllWays.{room_at}
+use Rattle.block_state.specs.AllWays.{room_at}
 use Rattle.block_rings.specs.Left.{AreKeptByWays}
 use Rattle.block_rings.specs.Links.{Link, AreLinks, down, up, left_in}
 

@@ -3,8 +3,8 @@ use Rattle.std.specs.Prelude.{◌≡◌, ◌≢◌, ℕ, ◌<◌, ◌≤◌, ◌
 use Rattle.block_events.specs.declared.message.Message.{Message}
 use Rattle.block_events.specs.States.{way_at}
 use Rattle.block_events.specs.Soundness.{direction_of}
-use Rattle.block_core.specs.AllWays.{room_at}
-pub use Rattle.block_cut.specs.Rounds.{AreLeft}
+use Rattle.block_state.specs.AllWays.{room_at}
+pub use Rattle.cut_in_blocks.specs.Rounds.{AreLeft}
 
 -- what is left from one block to another has room there
 abbrev pub HaveRoomFor : ℕ → (ℕ → ℕ → ℕ) → List (List (List Message)) → Type 0

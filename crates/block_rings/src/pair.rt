@@ -2,12 +2,12 @@
 ghost use Rattle.std.specs.Prelude.{◌≡◌, ◌+◌, ◌<◌, ◌≤◌, ◌++◌, length};
 ghost use Rattle.block_events.specs.States.{way_at, put_way};
 ghost use Rattle.block_events.specs.Soundness.{IsSquare};
-ghost use Rattle.block_core.specs.AllWays.{room_at};
+ghost use Rattle.block_state.specs.AllWays.{room_at};
 ghost use Rattle.block_workers.specs.Ports.{IsSamePort, LeadsTo, Looks, letters_put, letters_taken};
 ghost use Rattle.block_workers.specs.Seeing.{messages};
 ghost use Rattle.block_rings.specs.Left.{AreKeptByWays, rest_of};
 
-use block_core::AllWays;
+use block_state::AllWays;
 use block_workers::{Port, join_again, see_left};
 
 /// Two blocks' ports to one another: what the one puts the other takes.

@@ -12,7 +12,7 @@ ghost use Rattle.block_rings.specs.Kept.{IsDrained};
 use crate::pair::PortPair;
 use crate::pile::Pile;
 use crate::ring_ends::pair_all;
-use block_core::AllWays;
+use block_state::AllWays;
 use block_workers::Port;
 use std::marker::Model;
 

@@ -11,7 +11,7 @@ use Rattle.discharge.specs.Views.{count, first_lane, first_border}
 use Rattle.parcel.specs.Whole.{block_at, block_with, node_block, place, near_node_block, slot, is_outer, IsInnerAt, IsBorderAt, StandsAt, LiesAt, IsPlaced, IsFilled, with_blocks}
 use Rattle.parcel.specs.Views.{IsLaid}
 use Rattle.discharge.specs.Steps.{TurnView, Relabel, Send, DoesMany}
-use Rattle.block_cut.specs.Rounds.{fresh}
+use Rattle.cut_in_blocks.specs.Rounds.{fresh}
 use Rattle.block_tests.specs.Seats.{whole_before, blocks_after, left_on_the_way, BlocksComeBack}
 
 by_node : (P : ℕ → Type 0) → P 0 → P 1 → (v : ℕ) → v < 2 → P v

@@ -9,7 +9,7 @@ use Rattle.block_net.specs.declared.lanes.Border.{Border}
 use Rattle.discharge.specs.Views.{CellsView}
 use Rattle.parcel.specs.Whole.{Whole}
 use Rattle.parcel.specs.Views.{IsLaid}
-use Rattle.block_cut.specs.Rounds.{Ways, AreBack, quiet_state}
+use Rattle.cut_in_blocks.specs.Rounds.{Ways, AreBack, quiet_state}
 
 -- a block of one node with one direction to the other block
 abbrev pub part : ℕ → ℕ → ℕ → Border → CellsView

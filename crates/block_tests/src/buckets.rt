@@ -4,9 +4,9 @@ ghost use Rattle.discharge.specs.Views.{count};
 ghost use Rattle.node_buckets.specs.Standing.{row_count};
 
 use crate::building::net_of;
+use block_discharge::Bucketed;
 use block_net::{ARC_LIMIT, Cells};
-use block_opening::Parts;
-use block_turns::Bucketed;
+use block_split::Parts;
 use node_buckets::Buckets;
 use std::alloc::AllocError;
 use std::process::Abort;

@@ -4,7 +4,7 @@ use crate::building::{Row, net_of};
 use crate::ends::OneLetter;
 use crate::rows::expect;
 use block_net::{ARC_LIMIT, BLOCK_LIMIT, Cells};
-use block_opening::Parts;
+use block_split::Parts;
 use discharge::{Block, push_inner, push_sink, receive, relabel, send, settle, turn};
 use parcel::{Direction, Flight, Letter, Message};
 use std::alloc::AllocError;

@@ -1,6 +1,6 @@
 //! Places grouped by the number that stands there.
 use crate::rows::expect;
-use grouping::group;
+use counting_sort::group;
 use std::alloc::{AllocError, Global};
 use std::process::Abort;
 use std::test::Fail;

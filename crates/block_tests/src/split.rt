@@ -3,7 +3,7 @@
 use crate::building::net_of;
 use crate::rows::expect;
 use block_net::{ARC_LIMIT, BLOCK_LIMIT};
-use block_opening::Parts;
+use block_split::Parts;
 use std::alloc::AllocError;
 use std::process::Abort;
 use std::test::Fail;

@@ -6,8 +6,8 @@ use Rattle.std.proofs.lemmas.List.{length-set, map-append}
 use Rattle.std.proofs.lemmas.Grind.{common_steps}
 use Rattle.std.proofs.lemmas.Slice.Zip.{AllZip-long}
 use Rattle.block_events.specs.declared.message.Message.{Message}
-use Rattle.block_turns.specs.declared.letter.Letter.{Letter}
-use Rattle.block_turns.specs.Seen.{IsLook, IsPut, IsTake, add_to}
+use Rattle.block_discharge.specs.declared.letter.Letter.{Letter}
+use Rattle.block_discharge.specs.Seen.{IsLook, IsPut, IsTake, add_to}
 use Rattle.block_workers.specs.declared.port.Port.{Port}
 use Rattle.block_workers.specs.Ports.{other, letters_put, letters_taken, free, first, IsSamePort, Looks, PutsLetter, TakesLetter}
 use Rattle.block_workers.specs.Seeing.{messages, others, read_at, ways_of_ports, AreSame, AreFound, IsPlaceOfPort}

@@ -1,9 +1,9 @@
 -- One turn after another.
 use Rattle.std.proofs.Common.{◌≡◌, ℕ, ◌+◌, ◌≤◌, ◌<◌, refl, ◌∙◌, ap, arith}
 use Rattle.std.proofs.Math.Nat.{suc-mul}
-use Rattle.block_turns.specs.Seen.{IsLook}
-use Rattle.block_turns.specs.Steps.{turn_view, Step, IsSure}
-use Rattle.block_turns.proofs.Runs.{many_more, look_same, does_look}
+use Rattle.block_discharge.specs.Seen.{IsLook}
+use Rattle.block_discharge.specs.Steps.{turn_view, Step, IsSure}
+use Rattle.block_discharge.proofs.Runs.{many_more, look_same, does_look}
 use Rattle.block_workers.specs.declared.seat.Seat.{Seat}
 use Rattle.block_workers.specs.Ends.{ports}
 use Rattle.block_workers.specs.Seeing.{AreSame, ways_of_ports}

@@ -1,7 +1,7 @@
 -- What a port shows, and what its calls do.
 use Rattle.std.specs.Prelude.{◌≡◌, ℕ, ◌+◌, ◌≤◌, List, [], ◌∷◌, ◌++◌, Option, slice_get}
 use mathlib.Core.List.{IsPrefix}
-use Rattle.block_turns.specs.declared.letter.Letter.{Letter}
+use Rattle.block_discharge.specs.declared.letter.Letter.{Letter}
 use Rattle.block_workers.specs.declared.port.Port.{Port}
 use Rattle.block_workers.specs.RingEnds.{letters_in, letters_out, letters_seen, room_seen}
 use Rattle.block_workers.specs.RingEnds.{inlet_room, AreOfRing, CanServe, IsSameInlet, IsSameOutlet}

@@ -4,7 +4,7 @@ use Rattle.std.specs.Prelude.{Option, slice_get}
 use mathlib.Core.List.{IsPrefix}
 use Rattle.rtrb.specs.Ring.{sent, received, known_free, known_items, producer_capacity, IsPair}
 use Rattle.rtrb.specs.Ring.{SameProducer, SameConsumer}
-use Rattle.block_turns.specs.declared.letter.Letter.{Letter}
+use Rattle.block_discharge.specs.declared.letter.Letter.{Letter}
 use Rattle.block_workers.specs.declared.ring_end.Inlet.{Inlet}
 use Rattle.block_workers.specs.declared.ring_end.Outlet.{Outlet}
 

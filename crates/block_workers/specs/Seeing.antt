@@ -3,8 +3,8 @@ use Rattle.std.specs.Prelude.{◌≡◌, ℕ, ◌<◌, ◌==◌, nat_lt, false, 
 use Rattle.std.specs.Prelude.{slice_index, slice_get, Some, None}
 use Rattle.std.specs.List.{AllZip}
 use Rattle.block_events.specs.declared.message.Message.{Message}
-use Rattle.block_turns.specs.declared.letter.Letter.{Letter}
-use Rattle.block_turns.specs.Seen.{WaysView}
+use Rattle.block_discharge.specs.declared.letter.Letter.{Letter}
+use Rattle.block_discharge.specs.Seen.{WaysView}
 use Rattle.block_workers.specs.declared.port.Port.{Port}
 use Rattle.block_workers.specs.Ports.{other, letters_put, letters_taken, free, first, IsSamePort}
 

@@ -1,7 +1,7 @@
 -- What turns do to a block at its worker's.
 use Rattle.std.specs.Prelude.{◌≡◌, ℕ, ◌+◌, ◌*◌, ◌<◌, ◌≤◌, false}
 use Rattle.block_net.specs.Views.{CellsView, count}
-use Rattle.block_turns.specs.Steps.{DoesMany, IsSure, Step, turn_view}
+use Rattle.block_discharge.specs.Steps.{DoesMany, IsSure, Step, turn_view}
 use Rattle.block_workers.specs.declared.ends.Ends.{Ends}
 use Rattle.block_workers.specs.declared.seat.Seat.{Seat}
 use Rattle.block_workers.specs.Ends.{ports}

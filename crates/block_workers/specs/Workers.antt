@@ -1,6 +1,6 @@
 -- What a worker does to its blocks.
 use Rattle.std.specs.Prelude.{◌≡◌, ℕ, ◌+◌, ◌*◌, ◌<◌, ◌≤◌, List, length, slice_index_or, sum_by}
-use Rattle.block_turns.specs.Steps.{IsSure, Step}
+use Rattle.block_discharge.specs.Steps.{IsSure, Step}
 use Rattle.block_workers.specs.declared.seat.Seat.{Seat}
 use Rattle.block_workers.specs.Ends.{ports}
 use Rattle.block_workers.specs.Seeing.{ways_of_ports}

@@ -1,11 +1,11 @@
 //! A block's ends of the rings to other blocks.
 ghost use Rattle.std.specs.Prelude.{◌≡◌, ◌<◌, IfOk, MatchOption};
-ghost use Rattle.block_turns.specs.Seen.{IsLook};
+ghost use Rattle.block_discharge.specs.Seen.{IsLook};
 ghost use Rattle.block_workers.specs.Seeing.{AreFound, AreRising, AreSame, IsPlaceOfPort};
 ghost use Rattle.block_workers.specs.Seeing.{LeadNotTo, ways_of_ports};
 
 use crate::Port;
-use block_turns::Letter;
+use block_discharge::Letter;
 use std::alloc::{AllocError, Global};
 use std::mem::replace;
 
@@ -67,8 +67,8 @@ fn has_letter(ports: &mut Vec<Port>) -> bool
 impl Ends {
     ghost use Rattle.std.specs.Prelude.{Option, Some, is_some, true};
     ghost use Rattle.block_events.specs.Workers.{IsFair};
-    ghost use Rattle.block_turns.specs.declared.letter.Letter.{Letter};
-    ghost use Rattle.block_turns.specs.Seen.{IsPut, IsTake};
+    ghost use Rattle.block_discharge.specs.declared.letter.Letter.{Letter};
+    ghost use Rattle.block_discharge.specs.Seen.{IsPut, IsTake};
     ghost use Rattle.block_workers.specs.Ends.{ports};
 
     /// The ends with these ports, which lead to blocks below `blocks` by rising numbers. The only

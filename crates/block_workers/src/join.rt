@@ -7,7 +7,7 @@ ghost use Rattle.block_workers.specs.Ports.{letters_put, letters_taken, letters_
 
 use crate::port::Port;
 use crate::ring_end::Inlet;
-use block_turns::Letter;
+use block_discharge::Letter;
 use std::alloc::{AllocError, Global};
 
 /// Two new rings, one each way between two blocks, with room for so many letters each; the port of

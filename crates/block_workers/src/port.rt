@@ -3,7 +3,7 @@ ghost use Rattle.std.specs.Prelude.{◌≡◌, ◌<◌, ◌↔◌, IsSome, IsTru
 ghost use Rattle.block_events.specs.Workers.{IsFair};
 
 use crate::ring_end::{Inlet, Outlet};
-use block_turns::Letter;
+use block_discharge::Letter;
 
 /// A block's ends of the rings to and from another block.
 #[derive(Drop)]

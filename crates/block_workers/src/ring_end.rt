@@ -5,7 +5,7 @@ ghost use Rattle.block_events.specs.Workers.{IsFair};
 ghost use Rattle.rtrb.specs.Ring.{sent, received, known_free};
 
 use crate::rule::Fair;
-use block_turns::Letter;
+use block_discharge::Letter;
 use rtrb::{Consumer, Producer, RingBuffer};
 use std::alloc::{AllocError, Global};
 

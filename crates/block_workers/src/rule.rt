@@ -1,7 +1,7 @@
 //! The rule that letters of a ring keep.
 ghost use Rattle.block_events.specs.Workers.{IsFair};
 
-use block_turns::Letter;
+use block_discharge::Letter;
 use rtrb::Protocol;
 
 /// The rule of the rings: who takes a letter knows that its message is fair, since none other may

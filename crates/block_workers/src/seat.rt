@@ -5,7 +5,7 @@ ghost use Rattle.block_net.specs.Views.{count};
 
 use crate::turn_ends::turn_with;
 use crate::{Ends, Job, TurnBook};
-use block_turns::Block;
+use block_discharge::Block;
 use std::sync::{Mutex, Wait};
 use worker_options::Gate;
 
@@ -29,7 +29,7 @@ pub struct Seat {
 
 impl Seat {
     ghost use Rattle.std.specs.Prelude.{◌<◌, ◌^◌};
-    ghost use Rattle.block_turns.specs.Steps.{IsSure, Step};
+    ghost use Rattle.block_discharge.specs.Steps.{IsSure, Step};
     ghost use Rattle.block_workers.specs.Ends.{ports};
     ghost use Rattle.block_workers.specs.Seeing.{ways_of_ports};
     ghost use Rattle.block_workers.specs.Turns.{IsNewSeat, Went, WentOn, HasWorkedTurns, most};

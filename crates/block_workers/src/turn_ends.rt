@@ -1,12 +1,12 @@
 //! A block's ends in the course of one turn.
 ghost use Rattle.std.specs.Prelude.{◌≡◌, ◌<◌, ◌≤◌, true};
 ghost use Rattle.block_net.specs.Views.{count};
-ghost use Rattle.block_turns.specs.Steps.{DoesMany, IsSure, Step, turn_view};
+ghost use Rattle.block_discharge.specs.Steps.{DoesMany, IsSure, Step, turn_view};
 ghost use Rattle.block_workers.specs.Ends.{ports};
 ghost use Rattle.block_workers.specs.Seeing.{AreSame, ways_of_ports};
 
 use crate::Ends;
-use block_turns::{Block, Letter, Ways, turn};
+use block_discharge::{Block, Letter, Ways, turn};
 use std::marker::{Brand, Model, PhantomData};
 
 /// The ports with which a turn begins.

@@ -13,8 +13,8 @@ use Rattle.run_options.specs.declared.options.StereoOptions.{StereoOptions}
 use Rattle.run_options.specs.declared.options.SegmentOptions.{SegmentOptions}
 use Rattle.label_field.specs.Limits.{label_limit, weight_limit}
 use Rattle.run_options.specs.Names.{shape_named}
-use Rattle.labellings.specs.Names.{moves_named}
-use Rattle.labellings.specs.declared.cycles.Moves.{Moves}
+use Rattle.label_energies.specs.Names.{moves_named}
+use Rattle.label_energies.specs.declared.cycles.Moves.{Moves}
 use Rattle.run_options.specs.declared.shape.Shape.{Shape}
 use Rattle.worker_options.specs.Limits.{ring_limit, round_limit, thread_limit, turn_limit}
 use Rattle.worker_options.specs.declared.options.Options.{Options}

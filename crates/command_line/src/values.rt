@@ -12,8 +12,8 @@ ghost use Rattle.command_line.specs.Task.{HasNo};
 use crate::OptionName;
 use crate::rules::MOST_BLOCKS;
 use clap::ArgMatches;
+use label_energies::Moves;
 use label_field::{LABEL_LIMIT, WEIGHT_LIMIT};
-use labellings::Moves;
 use run_options::{
     CAP_LIMIT, CYCLE_LIMIT, LABEL_COST_LIMIT, MAXVAL_LIMIT, Neighbours, RestoreOptions,
     SegmentOptions, Shape, StereoOptions, TRUNC_LIMIT,

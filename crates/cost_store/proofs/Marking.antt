@@ -3,8 +3,8 @@ use Rattle.std.proofs.Common.{◌≡◌, ◌≢◌, ◌==◌, ◌||◌, ℕ, suc
 use Rattle.std.proofs.lemmas.Bool.{cases_eq}
 use Rattle.std.proofs.lemmas.Bool.Decides.{nat_tests}
 use Rattle.std.proofs.lemmas.List.{get_or-replicate, get_or-set_same, get_or-set_other, length-set, length-replicate}
-use Rattle.labellings.specs.Energies.{is_used}
-use Rattle.labellings.proofs.Energy.{equal_is}
+use Rattle.label_energies.specs.Energies.{is_used}
+use Rattle.label_energies.proofs.Energy.{equal_is}
 use Rattle.cost_store.specs.LabelCosts.{AreLabelMarks}
 
 any_true : (b : Bool) → (b || true) ≡ true

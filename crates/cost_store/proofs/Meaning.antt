@@ -3,7 +3,7 @@ use Rattle.std.proofs.Common.{ℕ, ◌∙◌, IsTrue, List, All, sym, subst}
 use Rattle.label_field.specs.declared.pair.Pair.{Pair}
 use Rattle.label_field.specs.LabelFields.{LabelField}
 use Rattle.label_field.specs.PairLists.{IsPair}
-use Rattle.labellings.specs.Energies.{Instance, IsInstance, IsMetric}
+use Rattle.label_energies.specs.Energies.{Instance, IsInstance, IsMetric}
 use Rattle.cost_store.specs.Promises.{AnswersTable}
 use Rattle.cost_store.specs.Posed.{Closure, gives, IsPosed, IsMeant, FitsProblem, AreOfOneSize}
 use Rattle.cost_store.specs.declared.problem.Problem.{Problem}

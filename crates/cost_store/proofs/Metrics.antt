@@ -2,7 +2,7 @@
 use Rattle.std.proofs.Common.{◌≡◌, ◌≢◌, ◌∙◌, ℕ, ◌+◌, ◌-◌, ◌<◌, ◌≤◌, List, ℤ, pos, unsigned_abs, min, max, refl, sym, ap, subst, arith}
 use Rattle.cost_store.specs.Promises.{IsMetricTable, IsTable, cost_in}
 use Rattle.cost_store.specs.Metrics.{potts, linear}
-use Rattle.labellings.specs.Energies.{IsMetric, IsRatio}
+use Rattle.label_energies.specs.Energies.{IsMetric, IsRatio}
 
 potts_same : (a : ℕ) → potts a a ≡ 0
 potts_same a = grind arith

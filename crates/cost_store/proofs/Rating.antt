@@ -1,7 +1,7 @@
 -- The least and the greatest cost, cost by cost.
 use Rattle.std.proofs.Common.{◌≡◌, ◌≢◌, ◌⊎◌, ℕ, ◌+◌, ◌<◌, ◌≤◌, refl, sym, ◌∙◌, inl, inr, subst, arith}
 use Rattle.std.proofs.lemmas.Bool.{cases_lt}
-use Rattle.labellings.specs.Energies.{IsRatio}
+use Rattle.label_energies.specs.Energies.{IsRatio}
 use Rattle.cost_store.specs.declared.ratio.Ratio.{Ratio}
 use Rattle.cost_store.specs.Ratios.{IsRatioSoFar, IsWithCost}
 

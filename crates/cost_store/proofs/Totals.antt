@@ -15,7 +15,7 @@ use Rattle.cost_store.specs.LabelCosts.{costs_of, AreLabelCosts, HasCosts}
 use Rattle.sums.proofs.IntegerSumLemmas.{within_fits, abs-add, add_is}
 use Rattle.label_field.specs.declared.pair.Pair.{Pair}
 use Rattle.cost_store.specs.Promises.{IsCost}
-use Rattle.labellings.specs.Energies.{Instance, is_used, label_energy}
+use Rattle.label_energies.specs.Energies.{Instance, is_used, label_energy}
 
 pub sum_next : (n : ℕ) (f : ℕ → ℕ) (total r : ℕ) → total ≡ sum_below n f → r ≡ f n → total + r ≡ sum_below (n + 1) f
 sum_next n f total r so_far own = (let next = ap (λ k. sum_below k f) (sym (add-one n)) in omega (arith, so_far, own, next))

@@ -4,7 +4,7 @@ use Rattle.std.specs.Prelude.{pos, unsigned_abs, slice_index_or}
 use Rattle.std.specs.List.{All}
 use Rattle.std.specs.Global.{Vec}
 use Rattle.label_field.specs.Limits.{label_limit}
-use Rattle.labellings.specs.Energies.{Instance, is_used}
+use Rattle.label_energies.specs.Energies.{Instance, is_used}
 use Rattle.cost_store.specs.Limits.{label_cost_limit}
 use Rattle.cost_store.specs.Promises.{IsCost, IsFirstOutside}
 use Rattle.cost_store.specs.declared.error.CostError.TheVariants.{CostRange as AtPlace}

@@ -1,7 +1,7 @@
 -- Smooth costs that are a metric, whatever the number of labels.
 use Rattle.std.specs.Prelude.{ℕ, ℤ, List, ◌==◌, ◌-◌, ◌<◌, ◌≤◌, min, max, if◌then◌else◌}
 use Rattle.label_field.specs.Grids.{distance}
-use Rattle.labellings.specs.Energies.{IsMetric, IsRatio}
+use Rattle.label_energies.specs.Energies.{IsMetric, IsRatio}
 use Rattle.cost_store.specs.Promises.{IsTable, IsMetricTable}
 
 -- the Potts model: two unequal labels cost 1

@@ -4,9 +4,9 @@ use Rattle.std.specs.Fn.{Shared}
 use Rattle.std.specs.List.{All}
 use Rattle.label_field.specs.LabelFields.{LabelField}
 use Rattle.label_field.specs.PairLists.{PairList, IsPairList}
-use Rattle.labellings.specs.declared.change.Move.{Move}
-use Rattle.labellings.specs.Energies.{Instance, labelling}
-use Rattle.labellings.specs.Moves.{IsMoveOf}
+use Rattle.label_energies.specs.declared.change.Move.{Move}
+use Rattle.label_energies.specs.Energies.{Instance, labelling}
+use Rattle.label_energies.specs.Moves.{IsMoveOf}
 use Rattle.cost_store.specs.Limits.{data_limit}
 use Rattle.cost_store.specs.Promises.{AnswersTable, Keeps, KeepsSmooth, IsCost, IsTable, IsColumn}
 use Rattle.cost_store.specs.LabelCosts.{AreLabelCosts, HasCosts}

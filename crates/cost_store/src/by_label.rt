@@ -1,7 +1,7 @@
 //! What labels cost by themselves.
 ghost use Rattle.std.specs.Prelude.{◌≡◌, ◌≤◌, pos, unsigned_abs, All, length, IsTrue, IsFalse};
 ghost use Rattle.sums.specs.Sums.{sum_below, count_if};
-ghost use Rattle.labellings.specs.Energies.{labelling as labels_of, is_used as is_used_in};
+ghost use Rattle.label_energies.specs.Energies.{labelling as labels_of, is_used as is_used_in};
 ghost use Rattle.label_field.specs.Limits.{label_limit};
 ghost use Rattle.cost_store.specs.Limits.{label_cost_limit, label_energy_limit};
 ghost use Rattle.cost_store.specs.Promises.{IsCost};

@@ -1,6 +1,6 @@
 //! Which labels some site has.
 ghost use Rattle.std.specs.Prelude.{length};
-ghost use Rattle.labellings.specs.Energies.{labelling};
+ghost use Rattle.label_energies.specs.Energies.{labelling};
 ghost use Rattle.cost_store.specs.LabelCosts.{AreLabelMarks};
 
 /// Of each label that there can be whether some site has it, in one pass over the sites.

@@ -3,10 +3,11 @@ ghost use Rattle.std.specs.Prelude.{◌≡◌, ◌*◌, ℕ, pos, ◌<◌, ◌�
 ghost use Rattle.std.specs.Prelude.{OnErr, IfErr};
 ghost use Rattle.label_field.specs.Limits.{weight_limit};
 ghost use Rattle.label_field.specs.PairLists.{IsPair};
-ghost use Rattle.labellings.specs.Energies.{IsInstance, IsMetric, labelling as labels_of};
-ghost use Rattle.labellings.specs.Energies.{energy as energy_of, data_energy as data_of};
-ghost use Rattle.labellings.specs.Energies.{smooth_energy as smooth_of, label_energy as label_of};
-ghost use Rattle.labellings.specs.Energies.{pair_cost as cost_of_pair};
+ghost use Rattle.label_energies.specs.Energies.{IsInstance, IsMetric, labelling as labels_of};
+ghost use Rattle.label_energies.specs.Energies.{energy as energy_of, data_energy as data_of};
+ghost use Rattle.label_energies.specs.Energies.{smooth_energy as smooth_of};
+ghost use Rattle.label_energies.specs.Energies.{label_energy as label_of};
+ghost use Rattle.label_energies.specs.Energies.{pair_cost as cost_of_pair};
 ghost use Rattle.cost_store.specs.Limits.{data_energy_limit, smooth_energy_limit};
 ghost use Rattle.cost_store.specs.Limits.{label_energy_limit, site_cost_limit, pair_cost_limit};
 ghost use Rattle.cost_store.specs.LabelCosts.{costs_of as costs_in, AreLabelCosts, IsSetRefusal};

@@ -1,6 +1,6 @@
 //! The least and the greatest cost of two unequal labels.
 ghost use Rattle.std.specs.Prelude.{◌+◌, ◌<◌, ◌≤◌, ℕ};
-ghost use Rattle.labellings.specs.Energies.{IsRatio};
+ghost use Rattle.label_energies.specs.Energies.{IsRatio};
 ghost use Rattle.cost_store.specs.Promises.{AnswersTable};
 ghost use Rattle.cost_store.specs.Posed.{KeepsSmoothCosts};
 ghost use Rattle.cost_store.specs.Ratios.{IsRatioSoFar, IsWithCost};

@@ -3,10 +3,10 @@ pub use Rattle.flow_network.specs.Cut
 pub use Rattle.flow_network.specs.Limits
 pub use Rattle.flow_network.specs.Preflow
 pub use Rattle.block_net.specs.Views
-pub use Rattle.block_turns.specs.Active
-pub use Rattle.block_turns.specs.Calls
-pub use Rattle.block_turns.specs.Seen
-pub use Rattle.block_turns.specs.Steps
-pub use Rattle.block_turns.specs.Turns
-pub use Rattle.block_cut.specs.Lowers
-pub use Rattle.block_cut.specs.Takes
+pub use Rattle.block_discharge.specs.Active
+pub use Rattle.block_discharge.specs.Calls
+pub use Rattle.block_discharge.specs.Seen
+pub use Rattle.block_discharge.specs.Steps
+pub use Rattle.block_discharge.specs.Turns
+pub use Rattle.cut_in_blocks.specs.Lowers
+pub use Rattle.cut_in_blocks.specs.Takes

@@ -6,5 +6,5 @@
 //! state to the least cut, and `solve` begins with a net.
 #![tactic(auto)]
 
-pub use block_cut::{finish, solve, take_in};
-pub use block_turns::{Block, push_inner, push_sink, receive, relabel, send, settle, turn};
+pub use block_discharge::{Block, push_inner, push_sink, receive, relabel, send, settle, turn};
+pub use cut_in_blocks::{finish, solve, take_in};

@@ -10,7 +10,7 @@ use Rattle.sums.specs.IntegerSums.{int_sum_below, int_counted}
 use Rattle.sums.proofs.IntegerSumLemmas.{int_sum_below-change, int_sum_below-zero}
 use Rattle.label_field.specs.declared.pair.Pair.{Pair}
 use Rattle.label_field.specs.PairLists.{IsPair}
-use Rattle.labellings.specs.Energies.{Instance, IsLabelled, pair_cost}
+use Rattle.label_energies.specs.Energies.{Instance, IsLabelled, pair_cost}
 use Rattle.dual_bound.specs.Duality.{added_at, adjusted_cost, AreAfforded, WeakDuality}
 
 sum-add : (n : ℕ) (f g : ℕ → ℤ) → int_sum_below n (λ i. f i +ℤ g i) ≡ int_sum_below n f +ℤ int_sum_below n g

@@ -10,7 +10,7 @@ use Rattle.std.proofs.lemmas.Option.{get_or_from_slice_get}
 use Rattle.std.proofs.Math.Nat.{mul_comm}
 use Rattle.sums.proofs.SumLemmas.{sum_below-same}
 use Rattle.label_field.specs.declared.pair.Pair.{Pair}
-use Rattle.labellings.specs.Energies.{Instance, energy, data_energy, pair_cost}
+use Rattle.label_energies.specs.Energies.{Instance, energy, data_energy, pair_cost}
 use Rattle.dual_bound.specs.Rows.{ground, AreRaised, row_entry, entries_of}
 use Rattle.dual_bound.specs.Costs.{parts, AreSmoothCosts}
 use Rattle.dual_bound.specs.Bounds.{ArePaid, AreUnder, IsLowerBound}

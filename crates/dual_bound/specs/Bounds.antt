@@ -1,7 +1,7 @@
 -- Bounds from below of the energies of all labellings.
 use Rattle.std.specs.Prelude.{ℕ, ℤ, pos, ◌+◌, ◌*◌, ◌<◌, ◌≤◌, ◌≤ℤ◌, List, slice_index, take}
 use Rattle.std.specs.List.{sum_by}
-use Rattle.labellings.specs.Energies.{Instance, IsLabelled, energy, data_energy, pair_cost}
+use Rattle.label_energies.specs.Energies.{Instance, IsLabelled, energy, data_energy, pair_cost}
 use Rattle.dual_bound.specs.Rows.{ground, entries_of}
 use Rattle.dual_bound.specs.Costs.{parts}
 

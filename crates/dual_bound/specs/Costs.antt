@@ -1,7 +1,7 @@
 -- What two labels cost, in parts of a unit.
 use Rattle.std.specs.Prelude.{◌≡◌, ℕ, ◌+◌, ◌*◌, ◌<◌, ◌≤◌, List, length, slice_index, min}
 use Rattle.label_field.specs.Grids.{distance}
-use Rattle.labellings.specs.Energies.{Instance}
+use Rattle.label_energies.specs.Energies.{Instance}
 use Rattle.dual_bound.specs.declared.costs.Slope.{Slope}
 use Rattle.dual_bound.specs.declared.costs.Form.{Form}
 use Rattle.dual_bound.specs.declared.costs.Form.TheVariants.{Linear, Square, Table}

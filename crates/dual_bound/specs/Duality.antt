@@ -3,7 +3,7 @@
 use Rattle.std.specs.Prelude.{◌==◌, ℕ, suc, ◌*◌, ◌<◌, ℤ, pos, ◌+ℤ◌, ◌≤ℤ◌, List, [], ◌∷◌}
 use Rattle.sums.specs.IntegerSums.{int_sum_below, int_counted}
 use Rattle.label_field.specs.declared.pair.Pair.{Pair}
-use Rattle.labellings.specs.Energies.{Instance, IsInstance}
+use Rattle.label_energies.specs.Energies.{Instance, IsInstance}
 use Rattle.dual_bound.specs.Bounds.{IsLowerBound}
 
 -- what the messages of pairs, the first of them number k, add at a label of a site: each pair has a

@@ -1,7 +1,7 @@
 -- The ends of pairs by their sites.
 use Rattle.std.specs.Prelude.{◌≡◌, ℕ, ◌+◌, ◌*◌, ◌<◌, ◌≤◌, length}
-use Rattle.grouping.specs.declared.Groups.{Groups}
-use Rattle.grouping.specs.Grouping.{start_of, place_at}
+use Rattle.counting_sort.specs.declared.Groups.{Groups}
+use Rattle.counting_sort.specs.Grouping.{start_of, place_at}
 use Rattle.label_field.specs.PairLists.{PairList}
 
 -- each site has its part of the places, in which ends of pairs stand, two of each pair

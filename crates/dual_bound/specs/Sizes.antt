@@ -1,6 +1,6 @@
 -- How much memory a search for a bound takes, and why it is refused.
 use Rattle.std.specs.Prelude.{◌≡◌, ℕ, ◌+◌, ◌*◌, ◌<◌, ◌≤◌, length}
-use Rattle.labellings.specs.Energies.{Instance}
+use Rattle.label_energies.specs.Energies.{Instance}
 use Rattle.dual_bound.specs.declared.error.BoundError.{BoundError}
 use Rattle.dual_bound.specs.declared.error.BoundError.TheVariants.{TooLarge, OutOfMemory}
 

@@ -10,13 +10,13 @@ ghost use Rattle.cost_store.specs.Posed.{IsPosed, FitsProblem};
 ghost use Rattle.label_field.specs.Limits.{label_limit};
 ghost use Rattle.label_field.specs.PairLists.{IsPair};
 ghost use Rattle.dual_bound.specs.Ends.{ArePairEnds};
-ghost use Rattle.grouping.specs.Grouping.{start_of};
+ghost use Rattle.counting_sort.specs.Grouping.{start_of};
 
 use crate::costs::{Form, PARTS, form_of, smooth_costs};
 use crate::rows::least;
 use crate::squares::spread_squares;
 use cost_store::Problem;
-use grouping::{Groups, group};
+use counting_sort::{Groups, group};
 use label_field::{Labelling, Pair, Pairs};
 use std::alloc::{AllocError, Global};
 

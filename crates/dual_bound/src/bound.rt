@@ -1,6 +1,6 @@
 //! A bound from below of the energies of all labellings.
 ghost use Rattle.std.specs.Prelude.{◌≡◌, ◌⊎◌, ℕ, pos, ◌<◌, ◌≤◌, ◌≤ℤ◌, IfOk, IfErr};
-ghost use Rattle.labellings.specs.Energies.{IsLabelled, data_energy};
+ghost use Rattle.label_energies.specs.Energies.{IsLabelled, data_energy};
 ghost use Rattle.cost_store.specs.Posed.{IsPosed, WhereMeant, FitsProblem};
 ghost use Rattle.label_field.specs.Limits.{label_limit};
 ghost use Rattle.cost_store.specs.Limits.{site_cost_limit, data_energy_limit};

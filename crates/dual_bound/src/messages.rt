@@ -2,7 +2,7 @@
 ghost use Rattle.std.specs.Prelude.{◌≡◌, ℕ, pos, ◌+◌, ◌-◌, ◌*◌, ◌^◌, ◌<◌, ◌≤◌, length, slice_index};
 ghost use Rattle.std.specs.Prelude.{IfOk, IfSome, IsTrue, List};
 ghost use Rattle.label_field.specs.Limits.{label_limit, weight_limit};
-ghost use Rattle.labellings.specs.Energies.{Instance};
+ghost use Rattle.label_energies.specs.Energies.{Instance};
 ghost use Rattle.cost_store.specs.Posed.{IsPosed, WhereMeant};
 ghost use Rattle.dual_bound.specs.Rows.{ground, AreRowsInRange};
 ghost use Rattle.dual_bound.specs.Bounds.{IsLowerBound, ArePaid, AreTakenOff, AreUnder};

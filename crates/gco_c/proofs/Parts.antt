@@ -5,13 +5,13 @@ use Rattle.label_field.specs.LabelFields.{LabelField}
 use Rattle.label_field.specs.PairLists.{PairList, IsPairList}
 use Rattle.cost_store.specs.Limits.{data_limit, smooth_limit, label_cost_limit}
 use Rattle.cost_store.specs.Promises.{IsCost, cost_in}
-use Rattle.labellings.specs.declared.change.Move.{Move}
+use Rattle.label_energies.specs.declared.change.Move.{Move}
 use Rattle.moves.specs.declared.tables.Run.{Run}
 use Rattle.moves.specs.Instances.{instance_of}
 use Rattle.moves.specs.Runs.{AnswersRun}
-use Rattle.single_moves.specs.declared.error.MoveError.{MoveError}
+use Rattle.one_move.specs.declared.error.MoveError.{MoveError}
 use Rattle.cost_store.specs.LabelCosts.{AreLabelCosts, costs_of}
-use Rattle.labellings.specs.declared.cycles.Moves.{Moves}
+use Rattle.label_energies.specs.declared.cycles.Moves.{Moves}
 use Rattle.gco_c.specs.Calls.{CallArrays, AreCostsInRange, AreLong, ArePartsOf, instance_given, list_given}
 use Rattle.dual_bound.specs.declared.bound.LowerBound.{LowerBound}
 use Rattle.dual_bound.specs.declared.error.BoundError.{BoundError}

@@ -1,7 +1,7 @@
 -- What is told of a run and of a move is what the labels come to where it ended.
 use Rattle.std.proofs.Common.{◌≡◌, ◌∙◌, ℕ, List, Ok, sym, subst}
-use Rattle.labellings.specs.declared.change.Move.{Move}
-use Rattle.labellings.specs.declared.cycles.Moves.{Moves}
+use Rattle.label_energies.specs.declared.change.Move.{Move}
+use Rattle.label_energies.specs.declared.cycles.Moves.{Moves}
 use Rattle.moves.specs.Runs.{AnswersRun}
 use Rattle.moves.specs.declared.tables.Run.{Run}
 use Rattle.gco_c.specs.Calls.{CallArrays, IsGiven, IsMoveTold, IsRunTold, instance_given, moves_number}

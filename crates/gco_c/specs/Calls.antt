@@ -6,16 +6,16 @@ use Rattle.label_field.specs.PairLists.{PairList, IsPairList}
 use Rattle.label_field.specs.declared.pair.Pair.{Pair}
 use Rattle.cost_store.specs.Limits.{data_limit, smooth_limit, label_cost_limit}
 use Rattle.cost_store.specs.Promises.{IsCost, cost_in}
-use Rattle.labellings.specs.declared.change.Move.{Move}
-use Rattle.labellings.specs.Energies.{Instance}
-use Rattle.labellings.specs.Chains.{IsChain, moves_of}
+use Rattle.label_energies.specs.declared.change.Move.{Move}
+use Rattle.label_energies.specs.Energies.{Instance}
+use Rattle.label_energies.specs.Chains.{IsChain, moves_of}
 use Rattle.moves.specs.declared.bound.Bound.{Bound}
 use Rattle.cost_store.specs.LabelCosts.{AreLabelCosts, costs_of}
-use Rattle.single_moves.specs.Moved.{IsMoved}
+use Rattle.one_move.specs.Moved.{IsMoved}
 use Rattle.moves.specs.Instances.{instance_of}
 use Rattle.moves.specs.Runs.{MayMake, TellsBound}
-use Rattle.labellings.specs.declared.cycles.Moves.{Moves}
-use Rattle.labellings.specs.declared.cycles.Moves.TheVariants.{Expansion, Swap}
+use Rattle.label_energies.specs.declared.cycles.Moves.{Moves}
+use Rattle.label_energies.specs.declared.cycles.Moves.TheVariants.{Expansion, Swap}
 use Rattle.gco_c.specs.Outcomes.{energy_told, move_told, run_told}
 use Rattle.gco_c.specs.declared.pairs.GcoPair.{GcoPair}
 use Rattle.gco_c.specs.declared.outcome.GcoOutcome.{GcoOutcome}

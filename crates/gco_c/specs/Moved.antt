@@ -1,9 +1,10 @@
 -- What one move answers.
 use Rattle.std.specs.Prelude.{◌≡◌, ℕ, List, pos, Result, Ok, Err}
-use Rattle.labellings.specs.declared.change.Move.{Move}
-use Rattle.labellings.specs.Energies.{Instance, labelling, data_energy, smooth_energy, label_energy}
-use Rattle.single_moves.specs.Moved.{IsMoved, IsCauseOfRefusal}
-use Rattle.single_moves.specs.declared.error.MoveError.{MoveError}
+use Rattle.label_energies.specs.declared.change.Move.{Move}
+use Rattle.label_energies.specs.Energies.{Instance, labelling, data_energy, smooth_energy}
+use Rattle.label_energies.specs.Energies.{label_energy}
+use Rattle.one_move.specs.Moved.{IsMoved, IsCauseOfRefusal}
+use Rattle.one_move.specs.declared.error.MoveError.{MoveError}
 use Rattle.gco_c.specs.declared.moving.Moved.{Moved}
 
 -- where one move from a labelling ended, and the three parts of the energy there; or its refusal

@@ -1,6 +1,7 @@
 -- All that a call tells beside its status: of each record every field, 0 where nothing is said.
 use Rattle.std.specs.Prelude.{ℕ, ℤ, Bool, cond, pos, List, Option, Some, None}
-use Rattle.labellings.specs.Energies.{Instance, labelling, data_energy, smooth_energy, label_energy}
+use Rattle.label_energies.specs.Energies.{Instance, labelling, data_energy, smooth_energy}
+use Rattle.label_energies.specs.Energies.{label_energy}
 use Rattle.moves.specs.declared.bound.Bound.{Bound}
 use Rattle.gco_c.specs.Statuses.{fixed_of, labels_of, told_place}
 use Rattle.gco_c.specs.declared.minimise.GcoMinimum.{GcoMinimum}

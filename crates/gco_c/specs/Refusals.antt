@@ -11,14 +11,14 @@ use Rattle.label_field.specs.declared.error.LabelFieldError.TheVariants as pair_
 use Rattle.cost_store.specs.Limits.{data_limit, smooth_limit, label_cost_limit}
 use Rattle.cost_store.specs.Promises.{IsCost, IsFirstOutside}
 use Rattle.cost_store.specs.declared.error.CostError.TheVariants.{CostRange}
-use Rattle.labellings.specs.declared.change.Move.{Move}
+use Rattle.label_energies.specs.declared.change.Move.{Move}
 use Rattle.moves.specs.Runs.{AnswersRun}
 use Rattle.moves.specs.Problems.{IsRunRefusal}
-use Rattle.single_moves.specs.Moved.{IsCauseOfRefusal}
-use Rattle.solvers.specs.declared.solve_error.SolveError.TheVariants.{OutOfMemory as NoMemory}
-use Rattle.single_moves.specs.declared.error.MoveError.{MoveError}
-use Rattle.single_moves.specs.declared.error.MoveError.TheVariants as move_why
-use Rattle.labellings.specs.declared.cycles.Moves.{Moves}
+use Rattle.one_move.specs.Moved.{IsCauseOfRefusal}
+use Rattle.cut_ways.specs.declared.solve_error.SolveError.TheVariants.{OutOfMemory as NoMemory}
+use Rattle.one_move.specs.declared.error.MoveError.{MoveError}
+use Rattle.one_move.specs.declared.error.MoveError.TheVariants as move_why
+use Rattle.label_energies.specs.declared.cycles.Moves.{Moves}
 use Rattle.gco_c.specs.Calls.{CallArrays, AreLong, AreTables, IsGiven}
 use Rattle.gco_c.specs.Calls.{instance_given, list_given, moves_number}
 use Rattle.gco_c.specs.Outcomes.{refusal_told}

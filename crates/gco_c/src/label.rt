@@ -11,7 +11,7 @@ use crate::pairs::GcoPair;
 use crate::ready::{Arrays, ready_of};
 use crate::refusal::Refusal;
 use crate::running::{refusal_of, run_over};
-use labellings::Moves;
+use label_energies::Moves;
 use moves::Run;
 use std::alloc::Global;
 

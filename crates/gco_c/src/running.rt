@@ -8,14 +8,14 @@ ghost use Rattle.moves.specs.Instances.{instance_of};
 ghost use Rattle.moves.specs.Runs.{AnswersRun, IsRunInRange};
 ghost use Rattle.cost_store.specs.LabelCosts.{AreLabelCosts, costs_of};
 ghost use Rattle.moves.specs.Problems.{IsRunRefusal};
-ghost use Rattle.solvers.specs.declared.solve_error.SolveError.TheVariants.{OutOfMemory};
+ghost use Rattle.cut_ways.specs.declared.solve_error.SolveError.TheVariants.{OutOfMemory};
 ghost use Rattle.gco_c.specs.Refusals.{move_refusal};
 
 use crate::cost::Number;
 use crate::ready::Ready;
 use crate::refusal::Refusal;
 use cost_store::{DataCost, is_metric};
-use labellings::Moves;
+use label_energies::Moves;
 use moves::{Alone, LabelPrices, MoveError, Request, Run, run_with_table};
 use std::alloc::Global;
 

@@ -2,8 +2,8 @@
 use Rattle.std.specs.Prelude.{◌≡◌, Option, Some, None}
 use Rattle.byte_streams.specs.Streams.{Stream}
 use Rattle.command_line.specs.declared.task.Request.{Request}
-use Rattle.solvers.specs.declared.solve_error.SolveError.{SolveError}
-use Rattle.solvers.specs.declared.solve_error.SolveError.TheVariants.{OutOfMemory}
+use Rattle.cut_ways.specs.declared.solve_error.SolveError.{SolveError}
+use Rattle.cut_ways.specs.declared.solve_error.SolveError.TheVariants.{OutOfMemory}
 use Rattle.worker_options.specs.declared.options.Options.{Options}
 use Rattle.rounds.specs.SolveErrors.{MayFailToSolve}
 use Rattle.program_texts.specs.declared.fault.Fault.{Fault}

@@ -12,10 +12,10 @@ ghost use Rattle.program_texts.specs.Writing.{Writes};
 
 use byte_streams::{Sink, Source};
 use command_line::{Request, Task, parse};
+use cut_ways::Alone;
 use program_tasks::run_task;
 use program_texts::{Fault, Line, Refusal, end_without_task, refuse_unread, say_end};
 use rounds::{Open, Workers};
-use solvers::Alone;
 use std::alloc::Global;
 use std::convert::AsStr;
 use std::io;

@@ -4,8 +4,8 @@
 use Rattle.std.specs.Prelude.{◌≡◌, ◌⊎◌, ◌<◌, ℕ, List, All, length, Option, Some, None, pos}
 use Rattle.pgm_image.specs.declared.error.PgmError.{PgmError}
 use Rattle.pgm_image.specs.declared.error.PgmError.TheVariants as image
-use Rattle.solvers.specs.declared.solve_error.SolveError.{SolveError}
-use Rattle.solvers.specs.declared.solve_error.SolveError.TheVariants.{OutOfMemory as NoMemory}
+use Rattle.cut_ways.specs.declared.solve_error.SolveError.{SolveError}
+use Rattle.cut_ways.specs.declared.solve_error.SolveError.TheVariants.{OutOfMemory as NoMemory}
 use Rattle.vision.specs.Jobs.{Job}
 use Rattle.vision.specs.declared.error.VisionError.{VisionError}
 use Rattle.vision.specs.declared.error.VisionError.TheVariants as vision

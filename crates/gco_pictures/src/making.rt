@@ -11,7 +11,7 @@ ghost use Rattle.gco_pictures.specs.Refusals.{IsCause, alone};
 use crate::held::Held;
 use crate::options::{GcoRestore, GcoSegment, GcoStereo, first_wrong};
 use crate::refusal::{Refusal, refusal_of};
-use solvers::Alone;
+use cut_ways::Alone;
 use std::alloc::Global;
 use vision::{Report, run_restore, run_segment, run_stereo};
 

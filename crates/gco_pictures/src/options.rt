@@ -6,8 +6,8 @@ ghost use Rattle.gco_pictures.specs.Options.{restore_numbers, restore_options, s
 ghost use Rattle.gco_pictures.specs.Options.{segment_options, shape_numbered, stereo_numbers};
 ghost use Rattle.gco_pictures.specs.Options.{stereo_options};
 
+use label_energies::Moves;
 use label_field::{LABEL_LIMIT, WEIGHT_LIMIT};
-use labellings::Moves;
 use run_options::{
     CAP_LIMIT, CYCLE_LIMIT, LABEL_COST_LIMIT, MAXVAL_LIMIT, Neighbours, RestoreOptions,
     SegmentOptions, Shape, StereoOptions, TRUNC_LIMIT,

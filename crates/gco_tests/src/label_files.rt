@@ -1,6 +1,6 @@
 //! Files that are read. What each names was worked by hand.
+use label_energies::Moves;
 use label_field::Pair;
-use labellings::Moves;
 use problem_files::{LabelProblem, read_label};
 use std::test::Fail;
 

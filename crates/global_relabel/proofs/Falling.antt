@@ -10,8 +10,8 @@ use Rattle.block_events.specs.States.{lane_at}
 use Rattle.block_events.proofs.Lanes.{near_opposite, far_opposite, opposite_twice, border_opposite}
 use Rattle.block_net.specs.Views.{CellsView, count, lane_in, room_in}
 use Rattle.block_net.specs.Whole.{Whole, block_at, node_block, place, slot, is_outer, state_shown, StandsAt, IsPlaced}
-use Rattle.laid_blocks.specs.Views.{IsLaid, IsSpot, blocks_in}
-use Rattle.laid_blocks.proofs.Steps.{IsAt, far_spot, node_below}
+use Rattle.net_in_blocks.specs.Views.{IsLaid, IsSpot, blocks_in}
+use Rattle.net_in_blocks.proofs.Steps.{IsAt, far_spot, node_below}
 use Rattle.sink_distances.specs.Search.{Search, found_of, search_label, node_at}
 use Rattle.global_relabel.specs.Lowering.{LeadsWithin, AreTight, IsReadyFor, FallsTo, IsTightBehind, IsTightUpTo, StepsWithin, ComeDown, AreLengthsWithin}
 use Rattle.global_relabel.proofs.Apart.{few_apart}

@@ -4,7 +4,7 @@ use Rattle.std.proofs.lemmas.Bool.{cases_lt}
 use Rattle.flow_network.specs.Cut.{nodes}
 use Rattle.block_net.specs.Views.{count}
 use Rattle.block_net.specs.Whole.{Whole, block_at, node_block}
-use Rattle.laid_blocks.specs.Views.{IsLaid, IsSpot}
+use Rattle.net_in_blocks.specs.Views.{IsLaid, IsSpot}
 use Rattle.global_relabel.specs.NodeBlocks.{AreNodeBlocks}
 
 -- the table tells a node's block, and so its place

@@ -8,10 +8,10 @@ use Rattle.block_events.specs.States.{State, lane_at, is_border}
 use Rattle.block_events.specs.Effects.{BlocksView, state_of}
 use Rattle.block_net.specs.Whole.{Whole, node_block, slot, is_outer, block_at, state_shown, StandsAt, IsPlaced}
 use Rattle.block_net.specs.Views.{count}
-use Rattle.block_opening.specs.declared.parts.Parts.{Parts}
-use Rattle.block_opening.specs.Split.{whole_of}
-use Rattle.laid_blocks.specs.Views.{blocks_in}
-use Rattle.block_core.specs.Parts.{IsIn}
+use Rattle.block_split.specs.declared.parts.Parts.{Parts}
+use Rattle.block_split.specs.Split.{whole_of}
+use Rattle.net_in_blocks.specs.Views.{blocks_in}
+use Rattle.block_state.specs.Parts.{IsIn}
 use Rattle.global_relabel.specs.Local.{GivesSink, StepsTo, IsLocallyExact, AreLocallyExactIn, LeadsOnFrom, IsLeastStep}
 use Rattle.global_relabel.proofs.Homing.{number, is_inside}
 

@@ -11,8 +11,8 @@ use Rattle.block_events.proofs.Lanes.{near_opposite, border_opposite}
 use Rattle.block_net.specs.declared.lanes.Border.{Border}
 use Rattle.block_net.specs.Views.{CellsView, count, lane_in, border_in, first_lane, first_border}
 use Rattle.block_net.specs.Whole.{Whole, block_at, block_with, node_block, place, slot, is_outer, border_of, state_shown, StandsAt}
-use Rattle.laid_blocks.specs.Views.{blocks_in, IsLaid, IsSpot, IsRow}
-use Rattle.laid_blocks.proofs.Steps.{IsAt, lane_below, border_below, inner_read, border_read, far_spot, back_row, back_spot}
+use Rattle.net_in_blocks.specs.Views.{blocks_in, IsLaid, IsSpot, IsRow}
+use Rattle.net_in_blocks.proofs.Steps.{IsAt, lane_below, border_below, inner_read, border_read, far_spot, back_row, back_spot}
 
 -- the number of the node at a place of a block
 node_of : (w : Whole) (u b p : ℕ) → IsLaid w → IsSpot w u b p → slice_index w.firsts b + p ≡ u

@@ -21,9 +21,9 @@ use Rattle.block_events.specs.Reach.{AreExact}
 use Rattle.sink_distances.specs.Search.{Search, search_label, node_at, AreStarts, Grows}
 use Rattle.sink_distances.proofs.Searching.{IsSearched, searched_begins, searched_more, searched_exact}
 use Rattle.block_net.specs.Whole.{state_shown}
-use Rattle.block_opening.specs.declared.parts.Parts.{Parts}
-use Rattle.block_opening.specs.Split.{whole_of}
-use Rattle.block_core.specs.Parts.{IsIn}
+use Rattle.block_split.specs.declared.parts.Parts.{Parts}
+use Rattle.block_split.specs.Split.{whole_of}
+use Rattle.block_state.specs.Parts.{IsIn}
 use Rattle.global_relabel.specs.Search.{HasResidualLane}
 use Rattle.global_relabel.proofs.Bridge.{exact_of}
 use Rattle.global_relabel.proofs.Seeing.{grows_because}

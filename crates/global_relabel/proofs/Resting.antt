@@ -13,11 +13,11 @@ use Rattle.block_events.specs.Soundness.{IsFinished}
 use Rattle.block_events.proofs.Raising.{told_is}
 use Rattle.block_net.specs.Views.{count, excess_in}
 use Rattle.block_net.specs.Whole.{Whole, LiesAt, block_at, node_block, place}
-use Rattle.block_opening.specs.declared.parts.Parts.{Parts}
-use Rattle.block_opening.specs.Split.{whole_of}
-use Rattle.laid_blocks.specs.Views.{blocks_in}
-use Rattle.block_core.specs.Parts.{IsIn}
-use Rattle.laid_blocks.proofs.Steps.{excess_read}
+use Rattle.block_split.specs.declared.parts.Parts.{Parts}
+use Rattle.block_split.specs.Split.{whole_of}
+use Rattle.net_in_blocks.specs.Views.{blocks_in}
+use Rattle.block_state.specs.Parts.{IsIn}
+use Rattle.net_in_blocks.proofs.Steps.{excess_read}
 use Rattle.global_relabel.specs.Rest.{IsAtRest}
 
 -- a path is one after the labels have changed, too

@@ -7,11 +7,11 @@ use Rattle.sink_distances.proofs.Order.{grows_falls}
 use Rattle.block_events.specs.States.{State, room_of}
 use Rattle.block_net.specs.Views.{CellsView, count, room_in}
 use Rattle.block_net.specs.Whole.{Whole, LiesAt, block_at, node_block, place}
-use Rattle.block_opening.specs.declared.parts.Parts.{Parts}
-use Rattle.block_opening.specs.Split.{whole_of}
-use Rattle.laid_blocks.specs.Views.{blocks_in}
-use Rattle.block_core.specs.Parts.{IsIn}
-use Rattle.laid_blocks.proofs.Steps.{room_read}
+use Rattle.block_split.specs.declared.parts.Parts.{Parts}
+use Rattle.block_split.specs.Split.{whole_of}
+use Rattle.net_in_blocks.specs.Views.{blocks_in}
+use Rattle.block_state.specs.Parts.{IsIn}
+use Rattle.net_in_blocks.proofs.Steps.{room_read}
 use Rattle.global_relabel.specs.Search.{GivesIn}
 
 module _ (s : State) (p : Parts) (is : IsIn s p) where

@@ -8,7 +8,7 @@ use Rattle.block_net.specs.declared.lanes.Border.{Border}
 use Rattle.block_net.specs.Views.{border_in, count, room_in}
 use Rattle.block_net.specs.Whole.{Whole, block_at, place, near_node_block, is_outer}
 use Rattle.block_net.specs.Whole.{state_shown}
-use Rattle.block_opening.specs.Split.{whole_of}
+use Rattle.block_split.specs.Split.{whole_of}
 use Rattle.sink_distances.specs.Search.{Search, IsAtMost, node_at, search_label}
 use Rattle.global_relabel.specs.declared.block_labels.Offer.{Offer}
 use Rattle.global_relabel.specs.declared.exactness.NetBlocks.{NetBlocks}

@@ -6,7 +6,7 @@ ghost use Rattle.block_events.specs.Reach.{AreExact, IsReachOf};
 ghost use Rattle.block_events.specs.Events.{IsQuiet, Happens};
 
 use crate::workspace::Workspace;
-use block_core::State;
+use block_state::State;
 use std::alloc::{AllocError, Global};
 
 /// The exact label of each node: the least number of residual directions that lead from it to the

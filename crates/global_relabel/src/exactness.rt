@@ -4,14 +4,14 @@ ghost use Rattle.std.specs.Prelude.{length, slice_index, slice_index_or};
 ghost use Rattle.flow_network.specs.Cut.{nodes};
 ghost use Rattle.block_net.specs.Views.{count, room_in, border_in};
 ghost use Rattle.block_net.specs.Whole.{no_block, state_shown};
-ghost use Rattle.laid_blocks.specs.Views.{IsLaid, IsSpot};
+ghost use Rattle.net_in_blocks.specs.Views.{IsLaid, IsSpot};
 ghost use Rattle.global_relabel.specs.Lowering.{whole_in};
 ghost use Rattle.global_relabel.specs.Local.{AreLocallyExactIn, IsLeastStep, IsLocallyExact};
 
 use crate::search::Spot;
-use block_core::State;
 use block_net::{Border, Cells};
-use block_opening::Parts;
+use block_split::Parts;
+use block_state::State;
 use flow_network::Net;
 
 /// A net and its blocks.

@@ -1,4 +1,4 @@
-//! Exact labels of a state of the core (`block_core`).
+//! Exact labels of a state of the core (`block_state`).
 //!
 //! The exact distance of a node is the least number of residual directions that lead from it to the
 //! sink, within blocks and between them, whatever is on the way (Goldberg, Tarjan 1988, section 3).

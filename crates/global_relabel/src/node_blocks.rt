@@ -3,7 +3,7 @@ ghost use Rattle.std.specs.Prelude.{◌≡◌, ◌+◌, ◌<◌, ◌≤◌, ℕ,
 ghost use Rattle.flow_network.specs.Cut.{nodes};
 ghost use Rattle.global_relabel.specs.NodeBlocks.{AreNodeBlocks};
 
-use block_core::State;
+use block_state::State;
 
 /// Writes the number of a block to each of its nodes, of which `first` is the first.
 fn write_block(node_blocks: &mut [u8], first: usize, count: usize, block: u8)

@@ -6,8 +6,8 @@ ghost use Rattle.block_events.specs.Soundness.{IsFinished};
 ghost use Rattle.block_net.specs.Views.{count};
 ghost use Rattle.global_relabel.specs.Rest.{IsAtRest};
 
-use block_core::State;
 use block_net::Cells;
+use block_state::State;
 
 /// Whether no node of a block that has excess reaches the sink, by the exact labels of all nodes.
 /// `first` is the block's first node.

@@ -6,16 +6,16 @@ ghost use Rattle.sink_distances.specs.Search.{found_of, AreStarts, IsNextLabel, 
 ghost use Rattle.block_events.specs.Reach.{AreExact};
 ghost use Rattle.block_net.specs.Views.{lane_in, border_in};
 ghost use Rattle.block_net.specs.Whole.{state_shown};
-ghost use Rattle.block_opening.specs.Split.{whole_of};
-ghost use Rattle.laid_blocks.specs.Views.{IsLaid, IsSpot};
+ghost use Rattle.block_split.specs.Split.{whole_of};
+ghost use Rattle.net_in_blocks.specs.Views.{IsLaid, IsSpot};
 ghost use Rattle.global_relabel.specs.Search.{AreNodesWithin, GivesIn, HasResidualLane};
 ghost use Rattle.global_relabel.specs.Search.{AreNeighboursLabelled};
 ghost use Rattle.global_relabel.specs.NodeBlocks.{AreNodeBlocks};
 ghost use Rattle.global_relabel.specs.Workspaces.{IsLabelOrder};
 
-use block_core::State;
 use block_net::Cells;
-use block_opening::Parts;
+use block_split::Parts;
+use block_state::State;
 use flow_network::Net;
 use sink_distances::{mark, top_label};
 

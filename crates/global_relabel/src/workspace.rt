@@ -8,7 +8,7 @@ ghost use Rattle.global_relabel.specs.Workspaces.{IsLabelOrder, Serves};
 
 use crate::node_blocks::write_node_blocks;
 use crate::search::write_exact;
-use block_core::State;
+use block_state::State;
 use flow_network::Net;
 use std::alloc::{AllocError, Global};
 

@@ -13,17 +13,17 @@ pub use Rattle.label_field.specs.Grids
 pub use Rattle.label_field.specs.LabelFields
 pub use Rattle.label_field.specs.Limits as LabelLimits
 pub use Rattle.label_field.specs.PairLists
-pub use Rattle.labellings.specs.Chains
-pub use Rattle.labellings.specs.Energies as Labellings
-pub use Rattle.labellings.specs.Laws as LabellingLaws
-pub use Rattle.labellings.specs.Moves
+pub use Rattle.label_energies.specs.Chains
+pub use Rattle.label_energies.specs.Energies as Labellings
+pub use Rattle.label_energies.specs.Laws as LabellingLaws
+pub use Rattle.label_energies.specs.Moves
 pub use Rattle.cost_store.specs.LabelCosts
 pub use Rattle.cost_store.specs.Limits as CostLimits
 pub use Rattle.cost_store.specs.Metrics
 pub use Rattle.cost_store.specs.Posed
 pub use Rattle.cost_store.specs.Promises
-pub use Rattle.single_moves.specs.Moved
-pub use Rattle.single_moves.specs.Refusals as MoveRefusals
+pub use Rattle.one_move.specs.Moved
+pub use Rattle.one_move.specs.Refusals as MoveRefusals
 pub use Rattle.moves.specs.Bounds
 pub use Rattle.moves.specs.Courses
 pub use Rattle.moves.specs.Instances

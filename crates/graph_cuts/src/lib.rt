@@ -6,10 +6,11 @@ pub use compile_cut::{Compiled, compile};
 pub use cost_store::{
     CostError, DataCost, LabelCostError, Problem, SmoothCost, check_table, is_metric, laws as costs,
 };
+pub use cut_ways::{Alone, Fork, How, InOrder, SolveError};
 pub use dual_bound::{BoundError, LowerBound, laws as duality, lower_bound, search_bytes};
 pub use flow_network::{Arc, Net, Solved, check_cut};
+pub use label_energies::{Move, Moves};
 pub use label_field::{LabelFieldError, Labelling, Pair, Pairs};
-pub use labellings::{Move, Moves};
 pub use minimum::{Minimum, minimise, minimise_by};
 pub use moves::{
     Bound, Columns, Ended, LabelPrices, MoveError, Request, Run, RunUnderWay, Step, expand,
@@ -25,7 +26,6 @@ pub use regular::{Fixed, NotRegular, Regular, check, is_regular_table};
 pub use rounds::{
     BadOptions, ByThreads, Gate, Open, Options, ParallelError, Workers, solve_parallel,
 };
-pub use solvers::{Alone, Fork, How, InOrder, SolveError};
 pub use vision::{
     Neighbours, Report, RestoreOptions, SegmentOptions, Shape, StereoOptions, VisionError,
     run_restore, run_segment, run_stereo,

@@ -5,11 +5,11 @@
 ghost use Rattle.std.specs.Prelude.{◌≡◌, ◌⊎◌, IfOk, IfErr, length};
 ghost use Rattle.pseudo_bool.specs.Energies.{assignment, value_at};
 ghost use Rattle.compile_cut.specs.Shown.{IsSmallestLeastAssignment};
-ghost use Rattle.solvers.specs.declared.solve_error.SolveError.TheVariants.{OutOfMemory};
+ghost use Rattle.cut_ways.specs.declared.solve_error.SolveError.TheVariants.{OutOfMemory};
 
 use compile_cut::compile;
+use cut_ways::{Alone, How, SolveError};
 use regular::Regular;
-use solvers::{Alone, How, SolveError};
 use std::alloc::{AllocError, Global};
 
 /// The least value of an energy, and an assignment that has it.

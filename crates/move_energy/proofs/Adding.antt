@@ -12,9 +12,9 @@ use Rattle.label_field.specs.PairLists.{PairList, IsPair}
 use Rattle.move_energy.specs.BySite.{AreBySite, degree, pair_of, is_counted, has_chosen, rising_sites, met_below, met_at}
 use Rattle.move_energy.proofs.Listings.{listed_sites_are_summed}
 use Rattle.move_energy.proofs.Beside.{pairs_are_met_once}
-use Rattle.labellings.specs.declared.change.Move.{Move}
-use Rattle.labellings.specs.Energies.{Instance, labelling, pair_cost, plain_energy}
-use Rattle.labellings.specs.Moves.{label_after}
+use Rattle.label_energies.specs.declared.change.Move.{Move}
+use Rattle.label_energies.specs.Energies.{Instance, labelling, pair_cost, plain_energy}
+use Rattle.label_energies.specs.Moves.{label_after}
 use Rattle.compile_cut.specs.declared.quadratic.Quadratic.{Quadratic}
 use Rattle.compile_cut.specs.Quadratics.{IsQuadraticBounded, IsConstant}
 use Rattle.compile_cut.proofs.TermLemmas.{bounded-weaker, constant_value}

@@ -10,8 +10,8 @@ use Rattle.sums.specs.IntegerSums.{int_sum_below, int_sum_by}
 use Rattle.sums.proofs.SumLemmas.{sum_below-same, counted-same, counted-other, sum_by-sum_below}
 use Rattle.label_field.specs.declared.pair.Pair.{Pair}
 use Rattle.label_field.specs.PairLists.{IsPair}
-use Rattle.grouping.specs.declared.Groups.{Groups}
-use Rattle.grouping.specs.Grouping.{IsGrouped}
+use Rattle.counting_sort.specs.declared.Groups.{Groups}
+use Rattle.counting_sort.specs.Grouping.{IsGrouped}
 use Rattle.move_energy.specs.BySite.{pair_ends, pair_in}
 use Rattle.move_energy.proofs.Grouped.{degree, pair_of}
 use Rattle.move_energy.proofs.PairEnds.{ends_first, ends_second, ends_len}

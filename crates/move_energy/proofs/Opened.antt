@@ -8,7 +8,7 @@ use Rattle.sums.specs.Sums.{count_if}
 use Rattle.sums.proofs.SumLemmas.{sum_below-same}
 use Rattle.move_energy.specs.BySite.{rising_sites}
 use Rattle.move_energy.proofs.Listings.{chosen_below, listing_length, listing_short, listing_place, listing_has}
-use Rattle.labellings.specs.Energies.{labelling}
+use Rattle.label_energies.specs.Energies.{labelling}
 use Rattle.move_energy.specs.declared.choice.Choice.{Choice}
 use Rattle.move_energy.specs.declared.choice.Choice.TheVariants.{Open, Zero as DecidedZero, One as DecidedOne}
 use Rattle.move_energy.specs.Choices.{bit_of, choice_at, openness, is_open, open_at, open_rank, open_count, choice_of, value_of, AreOpenSites, IsNumbering, AreAssigned}

@@ -16,9 +16,9 @@ use Rattle.label_field.specs.PairLists.{PairList, IsPair}
 use Rattle.move_energy.specs.declared.by_site.Neighbours.{Neighbours}
 use Rattle.move_energy.specs.BySite.{AreBySite, has_chosen, rising_sites, met_at}
 use Rattle.move_energy.proofs.Beside.{pairs_are_met_once}
-use Rattle.labellings.specs.declared.change.Move.{Move}
-use Rattle.labellings.specs.Energies.{Instance}
-use Rattle.labellings.specs.Moves.{label_after, pair_entry, IsRegularPair, IsAllowed}
+use Rattle.label_energies.specs.declared.change.Move.{Move}
+use Rattle.label_energies.specs.Energies.{Instance}
+use Rattle.label_energies.specs.Moves.{label_after, pair_entry, IsRegularPair, IsAllowed}
 use Rattle.pseudo_bool.specs.Energies.{entry, digit}
 use Rattle.compile_cut.specs.declared.quadratic.Quadratic.{Quadratic}
 use Rattle.compile_cut.specs.Quadratics.{quadratic_value, IsQuadraticBounded}

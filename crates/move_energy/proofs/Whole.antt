@@ -6,10 +6,10 @@ use Rattle.std.proofs.lemmas.List.{get_or_push, get_or_append_left, length-appen
 use Rattle.std.proofs.lemmas.List.Elements.{All-take}
 use Rattle.label_field.specs.declared.pair.Pair.{Pair}
 use Rattle.label_field.specs.PairLists.{IsPair}
-use Rattle.labellings.specs.declared.change.Move.{Move}
-use Rattle.labellings.specs.Energies.{Instance, IsInstance, labelling}
-use Rattle.labellings.specs.Moves.{label_after, IsRegularPair}
-use Rattle.labellings.proofs.Reaching.{cases_label_in}
+use Rattle.label_energies.specs.declared.change.Move.{Move}
+use Rattle.label_energies.specs.Energies.{Instance, IsInstance, labelling}
+use Rattle.label_energies.specs.Moves.{label_after, IsRegularPair}
+use Rattle.label_energies.proofs.Reaching.{cases_label_in}
 use Rattle.move_energy.specs.declared.building.MoveEnergy.{MoveEnergy}
 use Rattle.move_energy.specs.declared.choice.Choice.{Choice}
 use Rattle.move_energy.specs.declared.choice.Choice.TheVariants.{Open, One}

@@ -1,9 +1,9 @@
 -- What a pair adds to the form of a partly decided move.
 use Rattle.std.specs.Prelude.{ℕ, Bool}
 use Rattle.label_field.specs.declared.pair.Pair.{Pair}
-use Rattle.labellings.specs.declared.change.Move.{Move}
-use Rattle.labellings.specs.Energies.{Instance, pair_cost}
-use Rattle.labellings.specs.Moves.{IsRegularPair}
+use Rattle.label_energies.specs.declared.change.Move.{Move}
+use Rattle.label_energies.specs.Energies.{Instance, pair_cost}
+use Rattle.label_energies.specs.Moves.{IsRegularPair}
 use Rattle.move_energy.specs.declared.choice.Choice.{Choice}
 use Rattle.move_energy.specs.declared.open_pairs.Adds.{Adds}
 use Rattle.move_energy.specs.declared.open_pairs.Adds.TheVariants.{Costs, Savings}

@@ -4,9 +4,9 @@ use Rattle.std.specs.Prelude.{◌≡◌, ◌≢◌, ◌↔◌, ℕ, ◌<◌, Boo
 use Rattle.std.specs.Prelude.{slice_index_or, ℤ, pos, ◌+ℤ◌, vec_len}
 use Rattle.sums.specs.Sums.{sum_below}
 use Rattle.move_energy.specs.BySite.{IsListing}
-use Rattle.labellings.specs.declared.change.Move.{Move}
-use Rattle.labellings.specs.Energies.{Instance, labelling, plain_energy}
-use Rattle.labellings.specs.Moves.{label_after, labelling_made}
+use Rattle.label_energies.specs.declared.change.Move.{Move}
+use Rattle.label_energies.specs.Energies.{Instance, labelling, plain_energy}
+use Rattle.label_energies.specs.Moves.{label_after, labelling_made}
 use Rattle.pseudo_bool.specs.Energies.{assignment}
 use Rattle.compile_cut.specs.declared.quadratic.Quadratic.{Quadratic}
 use Rattle.compile_cut.specs.Quadratics.{quadratic_value}

@@ -6,8 +6,8 @@ pub use Rattle.cost_store.specs.Posed.{IsPosed, IsAsked, WhereMeant}
 pub use Rattle.cost_store.specs.Promises.{IsCost}
 pub use Rattle.label_field.specs.Limits.{site_limit, pair_limit, weight_limit}
 pub use Rattle.label_field.specs.PairLists.{IsPair}
-pub use Rattle.labellings.specs.Energies.{labelling}
-pub use Rattle.labellings.specs.Moves.{IsMoveOf, label_after, IsRegularPair, IsAllowed}
+pub use Rattle.label_energies.specs.Energies.{labelling}
+pub use Rattle.label_energies.specs.Moves.{IsMoveOf, label_after, IsRegularPair, IsAllowed}
 pub use Rattle.move_energy.specs.Added.{added_by_pair, open_met, IsRightFor}
 pub use Rattle.move_energy.specs.Built.{label_given, AddsCost, IsLonger, IsBuilt, AddsEnds}
 pub use Rattle.move_energy.specs.BySite.{AreBySite, is_counted, met_at}

@@ -6,8 +6,8 @@ ghost use Rattle.move_energy.specs.Prelude.{IsWithin, IsCost, IsPosed, IsAsked, 
 ghost use Rattle.move_energy.specs.Prelude.{pair_cost_limit, surplus_limit, surplus_of, pair_table};
 
 use cost_store::Problem;
+use label_energies::Move;
 use label_field::Pair;
-use labellings::Move;
 
 /// What a pair costs at two labels.
 #[derive(Clone, Copy)]

@@ -8,7 +8,7 @@ use crate::costs::pair_table;
 use crate::variables::End;
 use compile_cut::Quadratic;
 use cost_store::Problem;
-use labellings::Move;
+use label_energies::Move;
 use regular::is_regular_table;
 use std::alloc::AllocError;
 

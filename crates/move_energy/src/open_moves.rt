@@ -2,7 +2,7 @@
 
 use crate::{Neighbours, Variables};
 use cost_store::Problem;
-use labellings::Move;
+use label_energies::Move;
 
 /// A partly decided move whose open sites are numbered: a problem, the labels that the move begins
 /// with, what the move is, and the variables of its sites.

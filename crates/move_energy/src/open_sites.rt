@@ -12,7 +12,7 @@ use crate::open_moves::{NumberedMove, OpenSites};
 use crate::open_pairs::{Adds, add_listed_pairs};
 use compile_cut::Quadratic;
 use cost_store::Problem;
-use labellings::Move;
+use label_energies::Move;
 use std::alloc::{AllocError, Global};
 
 /// Adds what each listed site costs.

@@ -20,8 +20,8 @@ use crate::open_moves::NumberedMove;
 use crate::variables::Variables;
 use compile_cut::Quadratic;
 use cost_store::Problem;
+use label_energies::Move;
 use label_field::Pair;
-use labellings::Move;
 use std::alloc::{AllocError, Global};
 
 /// Adds a weight to a list where it is chosen.

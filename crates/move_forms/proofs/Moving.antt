@@ -5,17 +5,17 @@ use Rattle.sums.specs.IntegerSums.{int_sum_below}
 use Rattle.sums.proofs.IntegerSumLemmas.{int_sum_below-same}
 use Rattle.label_field.specs.declared.pair.Pair.{Pair}
 use Rattle.label_field.specs.PairLists.{IsPair}
-use Rattle.labellings.specs.declared.change.Move.{Move}
-use Rattle.labellings.specs.Energies.{Instance, IsInstance}
-use Rattle.labellings.specs.Moves.{label_after, pair_entry, IsRegularPair, IsAllowed}
+use Rattle.label_energies.specs.declared.change.Move.{Move}
+use Rattle.label_energies.specs.Energies.{Instance, IsInstance}
+use Rattle.label_energies.specs.Moves.{label_after, pair_entry, IsRegularPair, IsAllowed}
 use Rattle.move_energy.specs.declared.by_site.Neighbours.{Neighbours}
 use Rattle.move_energy.specs.BySite.{AreNeighboursOf, degree, neighbours_start, neighbour_at, is_first, weight_at, pair_from, pair_beside, pair_of}
 use Rattle.move_energy.proofs.Parts.{beside_has, pair_has}
-use Rattle.move_rises.specs.Ends.{AreEnds}
-use Rattle.move_rises.specs.MoveValues.{move_value, data_rise, pair_rise}
-use Rattle.move_rises.specs.Rising.{label_rise}
-use Rattle.move_rises.proofs.Rising.{move_over}
-use Rattle.move_rises.proofs.SiteSums.{asked_rise, risen_all, test_true, test_false}
+use Rattle.move_prices.specs.Ends.{AreEnds}
+use Rattle.move_prices.specs.MoveValues.{move_value, data_rise, pair_rise}
+use Rattle.move_prices.specs.Rising.{label_rise}
+use Rattle.move_prices.proofs.Rising.{move_over}
+use Rattle.move_prices.proofs.SiteSums.{asked_rise, risen_all, test_true, test_false}
 use Rattle.rise_forms.specs.Forms.{Form, TellsRises, places, place_rise, rise_below, form_value}
 use Rattle.move_forms.specs.MoveForms.{move_form, end_rise_at}
 use Rattle.move_forms.proofs.Told.{told_value}

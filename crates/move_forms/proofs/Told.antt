@@ -4,8 +4,8 @@ use Rattle.std.proofs.lemmas.Int.{ints}
 use Rattle.std.proofs.lemmas.Bool.{cases_eq, cases_lt}
 use Rattle.std.proofs.lemmas.Bool.Decides.{nat_tests}
 use Rattle.sums.specs.IntegerSums.{int_sum_below}
-use Rattle.move_rises.specs.Assignments.{rise, set_bit, OnesWithin, IsSubmodular, IsOver}
-use Rattle.move_rises.proofs.Assignments.{set_at, set_other}
+use Rattle.move_prices.specs.Assignments.{rise, set_bit, OnesWithin, IsSubmodular, IsOver}
+use Rattle.move_prices.proofs.Assignments.{set_at, set_other}
 use Rattle.rise_forms.specs.Forms.{Form, TellsRises, places, place_rise, rise_below, form_value}
 
 -- ---- submodular

@@ -1,14 +1,14 @@
 -- The form of a move, and what its numbers tell of the energies of the labellings that it makes.
 use Rattle.std.specs.Prelude.{◌≡◌, ℕ, ◌+◌, ◌<◌, ◌≤◌, Bool, false, true, ℤ, ◌-ℤ◌, ◌≤ℤ◌}
-use Rattle.labellings.specs.declared.change.Move.{Move}
-use Rattle.labellings.specs.Energies.{Instance, IsInstance}
-use Rattle.labellings.specs.Moves.{IsAllowed}
+use Rattle.label_energies.specs.declared.change.Move.{Move}
+use Rattle.label_energies.specs.Energies.{Instance, IsInstance}
+use Rattle.label_energies.specs.Moves.{IsAllowed}
 use Rattle.move_energy.specs.declared.by_site.Neighbours.{Neighbours}
 use Rattle.move_energy.specs.BySite.{AreNeighboursOf, neighbours_start, neighbour_at, is_first}
 use Rattle.move_energy.specs.BySite.{weight_at}
-use Rattle.move_rises.specs.Assignments.{IsSubmodular, IsOver}
-use Rattle.move_rises.specs.MoveValues.{move_value, data_rise}
-use Rattle.move_rises.specs.Rising.{label_rise}
+use Rattle.move_prices.specs.Assignments.{IsSubmodular, IsOver}
+use Rattle.move_prices.specs.MoveValues.{move_value, data_rise}
+use Rattle.move_prices.specs.Rising.{label_rise}
 use Rattle.rise_forms.specs.Forms.{Form, TellsRises, form_value}
 
 -- by how much a pair's cost rises where the site turns that has this neighbour at a place, while

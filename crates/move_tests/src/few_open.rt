@@ -1,14 +1,14 @@
 //! Listed moves of which few sites are left for a cut, or none, or all.
 ghost use Rattle.std.specs.Prelude.{◌≡◌, ◌≤◌, ◌<◌, ◌≤ℤ◌, pos, length};
-ghost use Rattle.labellings.specs.Moves.{IsMoveOf};
+ghost use Rattle.label_energies.specs.Moves.{IsMoveOf};
 ghost use Rattle.cost_store.specs.Posed.{IsPosed, FitsProblem};
 
 use crate::listed::LISTED;
 use crate::opened::open_in;
 use crate::random::CutAlone;
 use cost_store::{DataCost, Problem, SmoothCost};
+use label_energies::Move;
 use label_field::{Labelling, Pairs};
-use labellings::Move;
 use moves::{Alone, How, expand, swap};
 use std::alloc::Global;
 use std::process::Abort;

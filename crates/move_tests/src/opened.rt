@@ -1,15 +1,15 @@
 //! How many sites of the moves of a first cycle are left for a cut, on a picture that a formula
 //! gives.
 ghost use Rattle.std.specs.Prelude.{◌<◌, ◌≤ℤ◌, pos};
-ghost use Rattle.labellings.specs.Moves.{IsMoveOf};
+ghost use Rattle.label_energies.specs.Moves.{IsMoveOf};
 ghost use Rattle.cost_store.specs.Posed.{IsPosed, FitsProblem};
 
 use cost_store::{DataCost, Problem, SmoothCost};
-use deciding::Deciding;
+use label_energies::Move;
 use label_field::{Labelling, Pairs};
-use labellings::Move;
 use move_energy::Choice;
 use moves::{Alone, expand};
+use site_bounds::Deciding;
 use std::alloc::Global;
 use std::process::Abort;
 use std::test::Fail;

@@ -2,14 +2,14 @@
 //! are those of one part.
 ghost use Rattle.std.specs.Prelude.{◌≡◌, ◌<◌, ◌≤◌, ◌≤ℤ◌, pos, IfOk, length};
 ghost use Rattle.cost_store.specs.Posed.{IsPosed};
-ghost use Rattle.solvers.specs.declared.solve_error.SolveError.TheVariants.{OutOfMemory};
+ghost use Rattle.cut_ways.specs.declared.solve_error.SolveError.TheVariants.{OutOfMemory};
 
 use cost_store::{DataCost, Problem, SmoothCost};
+use cut_ways::InOrder;
 use flow_network::{Net, Solved};
+use label_energies::Move;
 use label_field::{Labelling, Pairs};
-use labellings::Move;
 use moves::{Alone, How, MoveError, SolveError, expand, swap};
-use solvers::InOrder;
 use std::alloc::Global;
 use std::process::Abort;
 use std::test::Fail;

@@ -2,15 +2,15 @@
 //! answers worked out over all labellings.
 ghost use Rattle.std.specs.Prelude.{◌≡◌, ◌≤◌, ◌<◌, ◌+◌, ◌*◌, ◌≤ℤ◌, pos, length};
 ghost use Rattle.cost_store.specs.Posed.{IsPosed, FitsProblem, AreOfOneSize};
-ghost use Rattle.solvers.specs.declared.solve_error.SolveError.TheVariants.{OutOfMemory};
+ghost use Rattle.cut_ways.specs.declared.solve_error.SolveError.TheVariants.{OutOfMemory};
 
 use crate::cases::MOVES;
 use crate::chains::RUNS;
 use cost_store::{DataCost, Problem, SmoothCost};
+use cut_ways::InOrder;
 use flow_network::{Net, Solved};
 use label_field::{Labelling, Pairs};
 use moves::{Alone, How, MoveError, SolveError, expand, run_expansion, run_swap, swap};
-use solvers::InOrder;
 use std::alloc::Global;
 use std::process::Abort;
 

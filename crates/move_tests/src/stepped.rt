@@ -8,8 +8,8 @@ use crate::random::{
 };
 use crate::steps::{RUNS_MADE, STEPS};
 use cost_store::{DataCost, Problem, SmoothCost};
+use label_energies::{Move, Moves};
 use label_field::Labelling;
-use labellings::{Move, Moves};
 use moves::{Alone, Ended, How, MoveError, RunUnderWay, Step};
 use std::alloc::Global;
 use std::process::Abort;

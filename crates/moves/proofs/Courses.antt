@@ -4,16 +4,16 @@ use Rattle.std.specs.Prelude.{slice_get}
 use Rattle.std.proofs.lemmas.Bool.{ne_eqb, eq-eqb}
 use Rattle.sums.specs.Sums.{sum_below, count_if}
 use Rattle.std.proofs.lemmas.Option.{slice_get_within, slice_get-get_or}
-use Rattle.labellings.specs.declared.change.Move.{Move}
-use Rattle.labellings.specs.declared.change.Move.TheVariants.{Expand}
-use Rattle.labellings.specs.Energies.{Instance, IsInstance}
-use Rattle.labellings.specs.Chains.{MovesLead, IsChain, IsBeginning, Cycles, moves_of}
-use Rattle.labellings.proofs.Chains.{cycles_more, chain_settles, chain_runs_out, chain_breaks}
+use Rattle.label_energies.specs.declared.change.Move.{Move}
+use Rattle.label_energies.specs.declared.change.Move.TheVariants.{Expand}
+use Rattle.label_energies.specs.Energies.{Instance, IsInstance}
+use Rattle.label_energies.specs.Chains.{MovesLead, IsChain, IsBeginning, Cycles, moves_of}
+use Rattle.label_energies.proofs.Chains.{cycles_more, chain_settles, chain_runs_out, chain_breaks}
 use Rattle.moves.specs.declared.runs.Ended.{Ended}
 use Rattle.moves.specs.declared.course.Course.{Course}
 use Rattle.moves.specs.Cycles.{AreBestFrom, IsSoFar}
 use Rattle.moves.specs.Courses.{IsBetweenMoves, StandsOnCourse, HasComeTo, LeadsBest, cycles_unless, cycle_of, left_unless, moves_left}
-use Rattle.single_moves.specs.Building.{TellsChange}
+use Rattle.one_move.specs.Building.{TellsChange}
 use Rattle.moves.proofs.Running.{so_far_starts, so_far_more, moves_split, stopped_leads, ended_leads, ended_known}
 
 -- where a run has come to, within its chain or at its end

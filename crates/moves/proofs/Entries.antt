@@ -6,11 +6,11 @@ use Rattle.std.proofs.Math.Nat.{mul_comm}
 use Rattle.cost_store.specs.Promises.{IsCost, IsMetricTable, IsTable, cost_in, entry_at}
 use Rattle.cost_store.proofs.Metrics.{table_of_metric}
 use Rattle.label_field.specs.LabelFields.{LabelField}
-use Rattle.labellings.specs.declared.change.Move.{Move}
-use Rattle.labellings.specs.Energies.{Instance, IsInstance, IsMetric}
+use Rattle.label_energies.specs.declared.change.Move.{Move}
+use Rattle.label_energies.specs.Energies.{Instance, IsInstance, IsMetric}
 use Rattle.moves.specs.Instances.{data_entry}
 use Rattle.moves.specs.Problems.{IsRunOfCycles, TellsPairNotRegular}
-use Rattle.single_moves.specs.declared.error.MoveError.{MoveError}
+use Rattle.one_move.specs.declared.error.MoveError.{MoveError}
 use Rattle.moves.proofs.Refused.{metric_refusal}
 
 pub place_in : (a b k n len : ℕ) → a < n → b < k → len ≡ n * k → a * k + b < len

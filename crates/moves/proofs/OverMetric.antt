@@ -1,22 +1,22 @@
 -- What is refused over a metric, and how near a settled run is.
 use Rattle.std.proofs.Common.{◌≡◌, ◌<◌, ℕ, List, length, All, Bool, IsTrue, IfErr, IfOk, Result, Ok, Err, refl, sym, subst, inl, inr, arith}
 use Rattle.label_field.specs.LabelFields.{LabelField}
-use Rattle.labellings.specs.declared.change.Move.{Move}
-use Rattle.labellings.specs.declared.cycles.Moves.{Moves}
-use Rattle.labellings.specs.declared.cycles.Moves.TheVariants.{Swap as Swaps}
-use Rattle.labellings.specs.Energies.{Instance, IsInstance, IsLabelled, IsMetric, AreLabelsFree, labelling}
-use Rattle.labellings.specs.Moves.{IsMoveOf, IsSwap}
-use Rattle.labellings.specs.Chains.{IsChain, expansions}
-use Rattle.labellings.proofs.Chains.{settled_is_local}
-use Rattle.labellings.proofs.Ratio.{expansion_bound}
-use Rattle.solvers.specs.declared.solve_error.SolveError.{SolveError}
-use Rattle.solvers.specs.declared.solve_error.SolveError.TheVariants.{Workers as NoWorkers, BadOptions as NoOptions}
-use Rattle.single_moves.specs.declared.error.MoveError.{MoveError}
-use Rattle.single_moves.specs.declared.error.MoveError.TheVariants.{NoSuchLabel, LabelCostInSwap, PairNotRegular, Workers, BadOptions, NoBound, OutOfMemory}
+use Rattle.label_energies.specs.declared.change.Move.{Move}
+use Rattle.label_energies.specs.declared.cycles.Moves.{Moves}
+use Rattle.label_energies.specs.declared.cycles.Moves.TheVariants.{Swap as Swaps}
+use Rattle.label_energies.specs.Energies.{Instance, IsInstance, IsLabelled, IsMetric, AreLabelsFree, labelling}
+use Rattle.label_energies.specs.Moves.{IsMoveOf, IsSwap}
+use Rattle.label_energies.specs.Chains.{IsChain, expansions}
+use Rattle.label_energies.proofs.Chains.{settled_is_local}
+use Rattle.label_energies.proofs.Ratio.{expansion_bound}
+use Rattle.cut_ways.specs.declared.solve_error.SolveError.{SolveError}
+use Rattle.cut_ways.specs.declared.solve_error.SolveError.TheVariants.{Workers as NoWorkers, BadOptions as NoOptions}
+use Rattle.one_move.specs.declared.error.MoveError.{MoveError}
+use Rattle.one_move.specs.declared.error.MoveError.TheVariants.{NoSuchLabel, LabelCostInSwap, PairNotRegular, Workers, BadOptions, NoBound, OutOfMemory}
 use Rattle.moves.specs.declared.runs.Ended.{Ended}
 use Rattle.moves.specs.Bounds.{IsWithinBound}
 use Rattle.moves.specs.Problems.{IsRunOfCycles, IsRunRefusal}
-use Rattle.single_moves.specs.Moved.{IsMoved, IsCauseOfRefusal, IsMoveRefusal}
+use Rattle.one_move.specs.Moved.{IsMoved, IsCauseOfRefusal, IsMoveRefusal}
 use Rattle.moves.specs.Refusals.{IsMemoryOrCut, IsRefusalOver}
 use Rattle.moves.specs.Runs.{MayMake}
 use Rattle.moves.proofs.Refused.{metric_refusal}

@@ -1,16 +1,16 @@
 -- What a run may refuse, and what no move over a metric refuses.
 use Rattle.std.proofs.Common.{◌≡◌, Bool, List, ℕ, Result, Ok, Err, IfErr, subst, length, ◌<◌, arith, All}
-use Rattle.labellings.specs.declared.change.Move.{Move}
-use Rattle.labellings.specs.Energies.{Instance, IsInstance, IsMetric, labelling}
+use Rattle.label_energies.specs.declared.change.Move.{Move}
+use Rattle.label_energies.specs.Energies.{Instance, IsInstance, IsMetric, labelling}
 use Rattle.label_field.specs.LabelFields.{LabelField}
-use Rattle.labellings.specs.Moves.{IsMoveOf}
-use Rattle.labellings.proofs.Metric.{metric_never}
-use Rattle.solvers.specs.declared.solve_error.SolveError.{SolveError}
-use Rattle.single_moves.specs.declared.error.MoveError.{MoveError}
-use Rattle.single_moves.specs.declared.error.MoveError.TheVariants.{NoSuchLabel, LabelCostInSwap, PairNotRegular, Workers, BadOptions, NoBound, OutOfMemory}
-use Rattle.labellings.specs.Moves.{IsSwap}
+use Rattle.label_energies.specs.Moves.{IsMoveOf}
+use Rattle.label_energies.proofs.Metric.{metric_never}
+use Rattle.cut_ways.specs.declared.solve_error.SolveError.{SolveError}
+use Rattle.one_move.specs.declared.error.MoveError.{MoveError}
+use Rattle.one_move.specs.declared.error.MoveError.TheVariants.{NoSuchLabel, LabelCostInSwap, PairNotRegular, Workers, BadOptions, NoBound, OutOfMemory}
+use Rattle.label_energies.specs.Moves.{IsSwap}
 use Rattle.moves.specs.Problems.{IsRunRefusal, TellsPairNotRegular}
-use Rattle.single_moves.specs.Moved.{IsMoveRefusal, IsCauseOfRefusal, IsMoved}
+use Rattle.one_move.specs.Moved.{IsMoveRefusal, IsCauseOfRefusal, IsMoved}
 
 -- what a move between labels refuses, a run may refuse
 pub run_may_come : (refuses : SolveError → Type 0) (labels : ℕ) (move : Move) (e : MoveError) → IsMoveOf labels move → IsMoveRefusal refuses labels move e → IsRunRefusal refuses e

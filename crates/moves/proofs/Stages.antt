@@ -6,31 +6,31 @@ use Rattle.std.proofs.lemmas.Bool.{cases_Bool, cases_eq, cases_lt, eqb-true}
 use Rattle.std.proofs.lemmas.List.{length-set, get_or-set_same, get_or-set_other, set-get_or}
 use Rattle.std.proofs.lemmas.Grind.{get_or_default_zero}
 use Rattle.label_field.specs.PairLists.{PairList}
-use Rattle.labellings.specs.declared.change.Move.{Move}
-use Rattle.labellings.specs.declared.change.Move.TheVariants.{Expand}
-use Rattle.labellings.specs.Energies.{Instance, IsInstance, IsMetric, AreLabelsFree, labelling}
-use Rattle.labellings.proofs.Metric.{metric_allows}
-use Rattle.labellings.specs.Moves.{IsAllowed, IsBest}
+use Rattle.label_energies.specs.declared.change.Move.{Move}
+use Rattle.label_energies.specs.declared.change.Move.TheVariants.{Expand}
+use Rattle.label_energies.specs.Energies.{Instance, IsInstance, IsMetric, AreLabelsFree, labelling}
+use Rattle.label_energies.proofs.Metric.{metric_allows}
+use Rattle.label_energies.specs.Moves.{IsAllowed, IsBest}
 use Rattle.pseudo_bool.specs.Energies.{assignment}
 use Rattle.compile_cut.specs.declared.quadratic.Quadratic.{Quadratic}
 use Rattle.compile_cut.specs.Quadratics.{quadratic_value}
 use Rattle.move_energy.specs.declared.choice.Choice.{Choice}
 use Rattle.move_energy.specs.declared.choice.Choice.TheVariants.{Zero}
 use Rattle.move_energy.specs.Choices.{choice_at, choice_of, bit_of, value_of, open_rank, StandsFor}
-use Rattle.deciding.specs.Decisions.{IsSmallestLeast}
-use Rattle.move_rises.specs.MoveValues.{move_value}
-use Rattle.move_rises.proofs.Rising.{move_falls, move_over}
-use Rattle.closing_in.specs.Fixing.{with_choices, AreLeastZeros}
-use Rattle.stages.specs.Fresh.{WasExpanded, AreFresh, IsApart}
-use Rattle.stages.specs.Looking.{IsClosedIn}
-use Rattle.stages.proofs.Parts.{ones_can_take}
-use Rattle.closing_in.specs.Forms.{bits_by_site}
-use Rattle.closing_in.proofs.Fixing.{ones_bound}
-use Rattle.closing_in.proofs.Forms.{open_bit, form_smallest}
-use Rattle.stages.proofs.Ending.{stage_ends}
+use Rattle.site_bounds.specs.Decisions.{IsSmallestLeast}
+use Rattle.move_prices.specs.MoveValues.{move_value}
+use Rattle.move_prices.proofs.Rising.{move_falls, move_over}
+use Rattle.persistency.specs.Fixing.{with_choices, AreLeastZeros}
+use Rattle.near_changes.specs.Fresh.{WasExpanded, AreFresh, IsApart}
+use Rattle.near_changes.specs.Looking.{IsClosedIn}
+use Rattle.near_changes.proofs.Parts.{ones_can_take}
+use Rattle.persistency.specs.Forms.{bits_by_site}
+use Rattle.persistency.proofs.Fixing.{ones_bound}
+use Rattle.persistency.proofs.Forms.{open_bit, form_smallest}
+use Rattle.near_changes.proofs.Ending.{stage_ends}
 use Rattle.strips.specs.Looking.{IsStageLeast}
-use Rattle.single_moves.specs.Building.{HasTaken}
-use Rattle.single_moves.proofs.Least.{expanded_best, free_least}
+use Rattle.one_move.specs.Building.{HasTaken}
+use Rattle.one_move.proofs.Least.{expanded_best, free_least}
 
 -- ---- the cut of a stage
 

@@ -5,21 +5,21 @@ use Rattle.std.proofs.lemmas.Bool.{cases_lt}
 use Rattle.cost_store.specs.Promises.{IsCost, IsTable}
 use Rattle.cost_store.specs.LabelCosts.{cost_at, AreFree, AreLabelCosts, HasCosts, costs_of}
 use Rattle.label_field.specs.LabelFields.{LabelField}
-use Rattle.labellings.specs.Chains.{IsChain, moves_of}
-use Rattle.labellings.specs.Energies.{Instance, IsInstance, AreLabelsFree, IsRatio, labelling}
-use Rattle.labellings.specs.declared.change.Move.{Move}
-use Rattle.labellings.proofs.Chains.{settled_is_local}
-use Rattle.labellings.proofs.Ratio.{expansion_bound}
+use Rattle.label_energies.specs.Chains.{IsChain, moves_of}
+use Rattle.label_energies.specs.Energies.{Instance, IsInstance, AreLabelsFree, IsRatio, labelling}
+use Rattle.label_energies.specs.declared.change.Move.{Move}
+use Rattle.label_energies.proofs.Chains.{settled_is_local}
+use Rattle.label_energies.proofs.Ratio.{expansion_bound}
 use Rattle.moves.specs.Bounds.{IsBoundOf}
 use Rattle.moves.specs.Problems.{IsRunOfCycles}
-use Rattle.single_moves.specs.Moved.{IsCauseOfRefusal}
+use Rattle.one_move.specs.Moved.{IsCauseOfRefusal}
 use Rattle.moves.specs.declared.bound.Bound.{Bound}
-use Rattle.single_moves.specs.declared.error.MoveError.{MoveError}
-use Rattle.single_moves.specs.declared.error.MoveError.TheVariants.{LabelCostInSwap}
+use Rattle.one_move.specs.declared.error.MoveError.{MoveError}
+use Rattle.one_move.specs.declared.error.MoveError.TheVariants.{LabelCostInSwap}
 use Rattle.moves.specs.declared.runs.Ended.{Ended}
-use Rattle.single_moves.proofs.Answers.{costs_costly, costs_free}
-use Rattle.labellings.specs.declared.cycles.Moves.{Moves}
-use Rattle.labellings.specs.declared.cycles.Moves.TheVariants.{Expansion, Swap}
+use Rattle.one_move.proofs.Answers.{costs_costly, costs_free}
+use Rattle.label_energies.specs.declared.cycles.Moves.{Moves}
+use Rattle.label_energies.specs.declared.cycles.Moves.TheVariants.{Expansion, Swap}
 use Rattle.moves.specs.Runs.{AnswersRun, HasBound, IsNearLeast, MayMake, TellsBound}
 use Rattle.moves.specs.declared.tables.Run.{Run}
 use Rattle.moves.proofs.Entries.{place_in}

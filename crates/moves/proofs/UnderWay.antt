@@ -3,15 +3,15 @@ use Rattle.std.proofs.Common.{◌≡◌, ◌<◌, ℕ, Bool, List, length, slice
 use Rattle.label_field.specs.LabelFields.{LabelField}
 use Rattle.cost_store.specs.declared.problem.Problem.{Problem}
 use Rattle.cost_store.specs.Posed.{Closure, IsMeant}
-use Rattle.labellings.specs.declared.change.Move.{Move}
-use Rattle.labellings.specs.declared.cycles.Moves.{Moves}
-use Rattle.labellings.specs.Energies.{Instance}
-use Rattle.labellings.specs.Chains.{IsBeginning, moves_of}
-use Rattle.single_moves.specs.Building.{TellsChange}
-use Rattle.single_moves.specs.Moved.{IsCauseOfRefusal}
-use Rattle.single_moves.specs.declared.error.MoveError.{MoveError}
-use Rattle.single_moves.specs.declared.workspace.Workspace.{Workspace}
-use Rattle.stages.specs.declared.changes.Changes.{Changes}
+use Rattle.label_energies.specs.declared.change.Move.{Move}
+use Rattle.label_energies.specs.declared.cycles.Moves.{Moves}
+use Rattle.label_energies.specs.Energies.{Instance}
+use Rattle.label_energies.specs.Chains.{IsBeginning, moves_of}
+use Rattle.one_move.specs.Building.{TellsChange}
+use Rattle.one_move.specs.Moved.{IsCauseOfRefusal}
+use Rattle.one_move.specs.declared.error.MoveError.{MoveError}
+use Rattle.one_move.specs.declared.workspace.Workspace.{Workspace}
+use Rattle.near_changes.specs.declared.changes.Changes.{Changes}
 use Rattle.moves.specs.declared.runs.Ended.{Ended}
 use Rattle.moves.specs.declared.course.Course.{Course}
 use Rattle.moves.specs.declared.under_way.RunUnderWay.{RunUnderWay}

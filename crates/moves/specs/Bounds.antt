@@ -1,7 +1,7 @@
 -- What is known of a problem that has a bound.
 use Rattle.std.specs.Prelude.{ℕ, List}
-use Rattle.labellings.specs.Energies.{Instance, IsMetric, IsRatio, AreLabelsFree}
-use Rattle.labellings.specs.Laws.{IsWithinTwice}
+use Rattle.label_energies.specs.Energies.{Instance, IsMetric, IsRatio, AreLabelsFree}
+use Rattle.label_energies.specs.Laws.{IsWithinTwice}
 use Rattle.moves.specs.declared.bound.Bound.{Bound}
 
 -- the smooth costs are a metric, these are the least and the greatest of two unequal labels, and no

@@ -2,10 +2,10 @@
 use Rattle.std.specs.Prelude.{◌≡◌, ℕ, ◌-◌, ◌*◌, ◌<◌, ◌==◌, not, List, ◌∷◌, ◌++◌, length}
 use Rattle.std.specs.Prelude.{slice_index, Option, Some, None}
 use Rattle.sums.specs.Sums.{sum_below, count_if}
-use Rattle.labellings.specs.declared.change.Move.{Move}
-use Rattle.labellings.specs.Energies.{Instance, labelling}
-use Rattle.labellings.specs.Moves.{IsAllowed, IsBest}
-use Rattle.labellings.specs.Chains.{MovesLead, IsChain, IsBeginning, Cycles, moves_of}
+use Rattle.label_energies.specs.declared.change.Move.{Move}
+use Rattle.label_energies.specs.Energies.{Instance, labelling}
+use Rattle.label_energies.specs.Moves.{IsAllowed, IsBest}
+use Rattle.label_energies.specs.Chains.{MovesLead, IsChain, IsBeginning, Cycles, moves_of}
 use Rattle.moves.specs.declared.runs.Ended.{Ended}
 use Rattle.moves.specs.declared.course.Course.{Course}
 use Rattle.moves.specs.Cycles.{IsSoFar}

@@ -1,9 +1,9 @@
 -- Which moves of a cycle are known, and where a cycle stands.
 use Rattle.std.specs.Prelude.{◌≡◌, ℕ, ◌<◌, ◌≤◌, Bool, true, false, List, take, slice_get, Some}
-use Rattle.labellings.specs.declared.change.Move.{Move}
-use Rattle.labellings.specs.Chains.{MovesLead}
-use Rattle.labellings.specs.Energies.{Instance, energy, labelling}
-use Rattle.labellings.specs.Moves.{IsAllowed, IsBest}
+use Rattle.label_energies.specs.declared.change.Move.{Move}
+use Rattle.label_energies.specs.Chains.{MovesLead}
+use Rattle.label_energies.specs.Energies.{Instance, energy, labelling}
+use Rattle.label_energies.specs.Moves.{IsAllowed, IsBest}
 
 -- from this place on, each move of the list has regular terms and changes nothing where it is made
 -- from f

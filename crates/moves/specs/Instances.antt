@@ -2,7 +2,7 @@
 use Rattle.std.specs.Prelude.{◌≡◌, ℕ, ℤ, List, ◌+◌, ◌*◌, slice_index}
 use Rattle.label_field.specs.PairLists.{PairList}
 use Rattle.cost_store.specs.Promises.{AnswersTable, IsTable, cost_in}
-use Rattle.labellings.specs.Energies.{Instance}
+use Rattle.label_energies.specs.Energies.{Instance}
 use Rattle.cost_store.specs.LabelCosts.{cost_at}
 
 -- the instance has these pairs and their sites, and so many labels; the closure answers its data

@@ -1,20 +1,20 @@
 -- What is true of every move and every run over a metric, and of every refusal of one thread.
 use Rattle.std.specs.Prelude.{◌≡◌, ◌*◌, ℕ, List, pos, ◌≤ℤ◌, IsTrue, Ok, Err}
-use Rattle.labellings.specs.declared.change.Move.{Move}
-use Rattle.labellings.specs.Energies.{Instance, IsInstance, IsMetric, IsLabelled, AreLabelsFree}
-use Rattle.labellings.specs.Energies.{labelling, energy}
-use Rattle.labellings.specs.Chains.{expansions}
-use Rattle.labellings.specs.Laws.{IsWithinTwice}
+use Rattle.label_energies.specs.declared.change.Move.{Move}
+use Rattle.label_energies.specs.Energies.{Instance, IsInstance, IsMetric, IsLabelled, AreLabelsFree}
+use Rattle.label_energies.specs.Energies.{labelling, energy}
+use Rattle.label_energies.specs.Chains.{expansions}
+use Rattle.label_energies.specs.Laws.{IsWithinTwice}
 use Rattle.label_field.specs.LabelFields.{LabelField}
 use Rattle.cost_store.specs.Metrics.{potts}
-use Rattle.solvers.specs.declared.solve_error.SolveError.TheVariants.{OutOfMemory as NoMemory}
+use Rattle.cut_ways.specs.declared.solve_error.SolveError.TheVariants.{OutOfMemory as NoMemory}
 use Rattle.moves.specs.declared.bound.Bound.{Bound}
-use Rattle.single_moves.specs.declared.error.MoveError.{MoveError}
-use Rattle.single_moves.specs.declared.error.MoveError.TheVariants.{OutOfMemory}
+use Rattle.one_move.specs.declared.error.MoveError.{MoveError}
+use Rattle.one_move.specs.declared.error.MoveError.TheVariants.{OutOfMemory}
 use Rattle.moves.specs.declared.runs.Ended.{Ended}
 use Rattle.moves.specs.Bounds.{IsBoundOf, IsWithinBound}
 use Rattle.moves.specs.Problems.{IsRunOfCycles, IsLabelledBy, TellsPairNotRegular}
-use Rattle.single_moves.specs.Moved.{IsMoved}
+use Rattle.one_move.specs.Moved.{IsMoved}
 use Rattle.moves.specs.Refusals.{IsMemoryOrCut}
 
 -- a run of expansions that ended settled is within twice its bound of every labelling (Boykov,

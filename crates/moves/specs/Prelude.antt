@@ -3,11 +3,11 @@ pub use Rattle.cost_store.specs.LabelCosts.{costs_of, AreFree, AreCostly, AreLab
 pub use Rattle.cost_store.specs.Limits.{data_limit, site_cost_limit, smooth_limit}
 pub use Rattle.cost_store.specs.Posed.{IsPosed, WhereMeant, IsAsked, AreOfOneSize, FitsProblem}
 pub use Rattle.cost_store.specs.Promises.{Keeps, IsCost, IsMetricTable, entry_at}
-pub use Rattle.labellings.specs.Chains.{expansions, swaps, moves_of}
-pub use Rattle.labellings.specs.Energies.{labelling, AreLabelsFree, Instance, IsMetric}
-pub use Rattle.labellings.specs.Moves.{IsBest}
-pub use Rattle.labellings.specs.declared.change.Move.TheVariants.{Expand, Swap}
-pub use Rattle.labellings.specs.declared.cycles.Moves.TheVariants.{Expansion}
+pub use Rattle.label_energies.specs.Chains.{expansions, swaps, moves_of}
+pub use Rattle.label_energies.specs.Energies.{labelling, AreLabelsFree, Instance, IsMetric}
+pub use Rattle.label_energies.specs.Moves.{IsBest}
+pub use Rattle.label_energies.specs.declared.change.Move.TheVariants.{Expand, Swap}
+pub use Rattle.label_energies.specs.declared.cycles.Moves.TheVariants.{Expansion}
 pub use Rattle.move_energy.specs.Choices.{choice_at, value_of, open_count, IsNumbering}
 pub use Rattle.move_energy.specs.OpenMoves.{IsValuedMove, IsAllowedFrom, AreSitesListed}
 pub use Rattle.move_energy.specs.declared.choice.Choice.TheVariants.{Zero}
@@ -23,10 +23,10 @@ pub use Rattle.moves.specs.Stages.{KeepsFreshSites}
 pub use Rattle.moves.specs.Courses.{LeadsBest, labels_changed}
 pub use Rattle.moves.specs.UnderWay.{IsRunFrom, IsSomeRun, IsStepOf, TellsStep, IsAhead, ended_of}
 pub use Rattle.moves.specs.UnderWay.{cycles_of, left_of}
-pub use Rattle.single_moves.specs.Building.{IsGroupedFor, KeepsDecided, site_values, TellsChange}
-pub use Rattle.single_moves.specs.Building.{HasTaken}
-pub use Rattle.single_moves.specs.Moved.{IsMade, IsCutRefusal, IsMoveRefusal, IsMoved}
-pub use Rattle.stages.specs.Changes.{made_of, changed_after, AreStamped}
-pub use Rattle.stages.specs.Fresh.{WasExpanded}
-pub use Rattle.stages.specs.Looking.{is_marked, AreTaking, IsClosedIn}
+pub use Rattle.one_move.specs.Building.{IsGroupedFor, KeepsDecided, site_values, TellsChange}
+pub use Rattle.one_move.specs.Building.{HasTaken}
+pub use Rattle.one_move.specs.Moved.{IsMade, IsCutRefusal, IsMoveRefusal, IsMoved}
+pub use Rattle.near_changes.specs.Changes.{made_of, changed_after, AreStamped}
+pub use Rattle.near_changes.specs.Fresh.{WasExpanded}
+pub use Rattle.near_changes.specs.Looking.{is_marked, AreTaking, IsClosedIn}
 pub use Rattle.strips.specs.Looking.{IsStageLeast}

@@ -1,10 +1,10 @@
 -- What may be refused over a metric.
 use Rattle.std.specs.Prelude.{◌≡◌, ◌⊎◌}
-use Rattle.labellings.specs.Energies.{Instance, IsMetric}
-use Rattle.solvers.specs.declared.solve_error.SolveError.{SolveError}
-use Rattle.single_moves.specs.Refusals.{cut_told}
-use Rattle.single_moves.specs.declared.error.MoveError.{MoveError}
-use Rattle.single_moves.specs.declared.error.MoveError.TheVariants.{OutOfMemory}
+use Rattle.label_energies.specs.Energies.{Instance, IsMetric}
+use Rattle.cut_ways.specs.declared.solve_error.SolveError.{SolveError}
+use Rattle.one_move.specs.Refusals.{cut_told}
+use Rattle.one_move.specs.declared.error.MoveError.{MoveError}
+use Rattle.one_move.specs.declared.error.MoveError.TheVariants.{OutOfMemory}
 
 -- memory; or what was refused of a cut, as a move tells it
 abbrev pub IsMemoryOrCut : (SolveError → Type 0) → MoveError → Type 0

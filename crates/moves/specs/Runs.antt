@@ -3,15 +3,16 @@ use Rattle.std.specs.Prelude.{◌≡◌, ℕ, ◌*◌, ◌≤◌, pos, ◌≤ℤ
 use Rattle.std.specs.Prelude.{IsTrue, Result, Ok, Err}
 use Rattle.label_field.specs.LabelFields.{LabelField}
 use Rattle.cost_store.specs.Limits.{data_energy_limit, smooth_energy_limit, label_energy_limit}
-use Rattle.labellings.specs.declared.cycles.Moves.{Moves}
-use Rattle.labellings.specs.declared.cycles.Moves.TheVariants.{Expansion, Swap}
-use Rattle.labellings.specs.Chains.{moves_of}
-use Rattle.labellings.specs.Energies.{Instance, AreLabelsFree, IsLabelled, IsMetric, IsRatio}
-use Rattle.labellings.specs.Energies.{labelling, energy, data_energy, smooth_energy, label_energy}
+use Rattle.label_energies.specs.declared.cycles.Moves.{Moves}
+use Rattle.label_energies.specs.declared.cycles.Moves.TheVariants.{Expansion, Swap}
+use Rattle.label_energies.specs.Chains.{moves_of}
+use Rattle.label_energies.specs.Energies.{Instance, AreLabelsFree, IsLabelled, IsMetric, IsRatio}
+use Rattle.label_energies.specs.Energies.{labelling, energy, data_energy, smooth_energy}
+use Rattle.label_energies.specs.Energies.{label_energy}
 use Rattle.moves.specs.Problems.{IsRunOfCycles}
 use Rattle.moves.specs.declared.bound.Bound.{Bound}
-use Rattle.single_moves.specs.declared.error.MoveError.{MoveError}
-use Rattle.single_moves.specs.declared.error.MoveError.TheVariants.{LabelCostInSwap}
+use Rattle.one_move.specs.declared.error.MoveError.{MoveError}
+use Rattle.one_move.specs.declared.error.MoveError.TheVariants.{LabelCostInSwap}
 use Rattle.moves.specs.declared.tables.Run.{Run}
 
 -- expansions may always be made, swaps where no label costs anything by itself

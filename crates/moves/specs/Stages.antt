@@ -6,21 +6,21 @@ use Rattle.label_field.specs.LabelFields.{LabelField}
 use Rattle.label_field.specs.PairLists.{PairList}
 use Rattle.cost_store.specs.declared.problem.Problem.{Problem}
 use Rattle.cost_store.specs.Posed.{Closure, IsPosed, FitsProblem, WhereMeant}
-use Rattle.labellings.specs.declared.change.Move.TheVariants.{Expand}
-use Rattle.labellings.specs.Energies.{Instance, labelling}
+use Rattle.label_energies.specs.declared.change.Move.TheVariants.{Expand}
+use Rattle.label_energies.specs.Energies.{Instance, labelling}
 use Rattle.move_energy.specs.BySite.{AreBySite}
 use Rattle.move_energy.specs.Choices.{choice_at, AreOpenSites}
-use Rattle.deciding.specs.Decisions.{IsSmallestLeast}
-use Rattle.move_rises.specs.MoveValues.{move_value}
-use Rattle.stages.specs.declared.changes.Changes.{Changes}
-use Rattle.stages.specs.Changes.{AreStamped, changed_after}
-use Rattle.closing_in.specs.Fixing.{AreLeastZeros}
-use Rattle.stages.specs.Fresh.{WasExpanded, AreFresh}
-use Rattle.stages.specs.Looking.{is_marked}
-use Rattle.single_moves.specs.declared.error.MoveError.{MoveError}
-use Rattle.single_moves.specs.declared.workspace.Workspace.{Workspace}
-use Rattle.single_moves.specs.Building.{IsGroupedFor}
-use Rattle.single_moves.specs.Moved.{IsMoved}
+use Rattle.site_bounds.specs.Decisions.{IsSmallestLeast}
+use Rattle.move_prices.specs.MoveValues.{move_value}
+use Rattle.near_changes.specs.declared.changes.Changes.{Changes}
+use Rattle.near_changes.specs.Changes.{AreStamped, changed_after}
+use Rattle.persistency.specs.Fixing.{AreLeastZeros}
+use Rattle.near_changes.specs.Fresh.{WasExpanded, AreFresh}
+use Rattle.near_changes.specs.Looking.{is_marked}
+use Rattle.one_move.specs.declared.error.MoveError.{MoveError}
+use Rattle.one_move.specs.declared.workspace.Workspace.{Workspace}
+use Rattle.one_move.specs.Building.{IsGroupedFor}
+use Rattle.one_move.specs.Moved.{IsMoved}
 
 -- a stage can be cut: its choices are of the sites, its open sites and its fresh sites are listed,
 -- and the pairs are by their sites

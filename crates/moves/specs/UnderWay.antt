@@ -3,10 +3,10 @@ use Rattle.std.specs.Prelude.{◌≡◌, ℕ, List, slice_get, Option, Some, Non
 use Rattle.label_field.specs.LabelFields.{LabelField}
 use Rattle.cost_store.specs.declared.problem.Problem.{Problem}
 use Rattle.cost_store.specs.Posed.{Closure, WhereMeant}
-use Rattle.labellings.specs.declared.change.Move.{Move}
-use Rattle.labellings.specs.declared.cycles.Moves.{Moves}
-use Rattle.labellings.specs.declared.cycles.Moves.TheVariants.{Swap as Swaps}
-use Rattle.labellings.specs.Chains.{moves_of}
+use Rattle.label_energies.specs.declared.change.Move.{Move}
+use Rattle.label_energies.specs.declared.cycles.Moves.{Moves}
+use Rattle.label_energies.specs.declared.cycles.Moves.TheVariants.{Swap as Swaps}
+use Rattle.label_energies.specs.Chains.{moves_of}
 use Rattle.moves.specs.declared.runs.Ended.{Ended}
 use Rattle.moves.specs.declared.under_way.RunUnderWay.{RunUnderWay}
 use Rattle.moves.specs.declared.under_way.Step.{Step}
@@ -14,8 +14,8 @@ use Rattle.moves.specs.Courses.{StandsOnCourse, HasComeTo, cycles_unless, cycle_
 use Rattle.moves.specs.Courses.{labels_changed}
 use Rattle.moves.specs.Problems.{IsRunOfCycles}
 use Rattle.moves.specs.Stages.{IsUnderWay}
-use Rattle.single_moves.specs.declared.error.MoveError.{MoveError}
-use Rattle.single_moves.specs.declared.error.MoveError.TheVariants.{LabelCostInSwap}
+use Rattle.one_move.specs.declared.error.MoveError.{MoveError}
+use Rattle.one_move.specs.declared.error.MoveError.TheVariants.{LabelCostInSwap}
 
 -- how a run ended, and nothing while it goes on
 abbrev pub ended_of : RunUnderWay → Option Ended

@@ -4,7 +4,7 @@ ghost use Rattle.cost_store.specs.Limits.{data_limit};
 ghost use Rattle.cost_store.specs.Promises.{Keeps, AnswersTable, IsColumn};
 
 use cost_store::DataCost;
-use solvers::How;
+use cut_ways::How;
 use std::alloc::{AllocError, Global};
 
 /// What one label costs each site, asked of the way to cut nets.

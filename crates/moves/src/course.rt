@@ -1,10 +1,10 @@
 //! Where a run stands in its cycles of moves.
 ghost use Rattle.std.specs.Prelude.{◌≡◌, ◌<◌, ◌≤◌, length, None};
 ghost use Rattle.label_field.specs.Limits.{label_limit};
-ghost use Rattle.labellings.specs.Chains.{moves_of};
+ghost use Rattle.label_energies.specs.Chains.{moves_of};
 
 use crate::runs::Ended;
-use labellings::{Move, Moves};
+use label_energies::{Move, Moves};
 
 /// Where a run stands: how many whole cycles were done, the place of its next move in the cycle
 /// after these, whether a move of that cycle changed a label, the place of the move that changed
@@ -29,14 +29,14 @@ pub(crate) struct Course {
 
 impl Course {
     ghost use Rattle.std.specs.Prelude.{ℕ, ◌+◌, List, slice_get, Some};
-    ghost use Rattle.labellings.specs.Chains.{Cycles};
-    ghost use Rattle.labellings.specs.Energies.{Instance, IsInstance};
-    ghost use Rattle.labellings.specs.Moves.{IsMoveOf, IsSwap};
-    ghost use Rattle.labellings.specs.declared.change.Move.{Move as ChangeOf};
+    ghost use Rattle.label_energies.specs.Chains.{Cycles};
+    ghost use Rattle.label_energies.specs.Energies.{Instance, IsInstance};
+    ghost use Rattle.label_energies.specs.Moves.{IsMoveOf, IsSwap};
+    ghost use Rattle.label_energies.specs.declared.change.Move.{Move as ChangeOf};
     ghost use Rattle.moves.specs.Cycles.{IsSoFar};
     ghost use Rattle.moves.specs.Courses.{StandsOnCourse, IsBetweenMoves, LeadsBest, cycle_of};
     ghost use Rattle.moves.specs.Courses.{moves_left};
-    ghost use Rattle.single_moves.specs.Building.{TellsChange};
+    ghost use Rattle.one_move.specs.Building.{TellsChange};
 
     /// Where a run stands that begins. It has ended where no cycle is allowed, and where a cycle
     /// has no move.

@@ -9,10 +9,10 @@ ghost use Rattle.moves.specs.Prelude.{KeepsFreshSites};
 
 use crate::How;
 use cost_store::Problem;
-use labellings::Move;
-use single_moves::Workspace;
-use stage_parts::{PartSizes, find_zeros};
-use stages::{Window, choose_first};
+use label_energies::Move;
+use near_change_parts::{PartSizes, find_zeros};
+use near_changes::{Window, choose_first};
+use one_move::Workspace;
 use std::alloc::{AllocError, Global};
 
 /// Stages look at some so many sites for each fresh one. So there are as many parts as a move of

@@ -6,15 +6,15 @@ ghost use Rattle.moves.specs.Prelude.{AreOfOneSize, AreStamped, is_marked, AreTa
 ghost use Rattle.moves.specs.Prelude.{site_values, IsMoved, IsMoveRefusal, HasTaken, IsUnderWay};
 ghost use Rattle.moves.specs.Prelude.{AreStampsOf};
 
-use crate::near_changes::make_later;
+use crate::later_expansion::make_later;
 use crate::under_way::RunUnderWay;
 use crate::{How, MoveError};
 use cost_store::{Problem, costs_of, has_cost};
+use label_energies::{Move, Moves};
 use label_field::Labelling;
-use labellings::{Move, Moves};
 use move_energy::Choice;
-use single_moves::make_move;
-use stages::{Changes, Stage};
+use near_changes::{Changes, Stage};
+use one_move::make_move;
 use std::alloc::Global;
 
 /// What a run remembers at its beginning: its moves from then on where it is one of expansions that

@@ -11,11 +11,11 @@ ghost use Rattle.moves.specs.Prelude.{IsStageReady, AreStageZeros, EndsMove};
 use crate::{How, MoveError};
 use compile_cut::Quadratic;
 use cost_store::Problem;
+use label_energies::Move;
 use label_field::Pairs;
-use labellings::Move;
 use move_energy::{MoveEnergy, OpenSites};
-use single_moves::{Workspace, cut_small, least_nodes};
-use stages::Window;
+use near_changes::Window;
+use one_move::{Workspace, cut_small, least_nodes};
 use std::alloc::{AllocError, Global};
 use std::mem::replace;
 

@@ -10,8 +10,8 @@ ghost use Rattle.moves.specs.Prelude.{IsRefusalOver, AnswersRun, IsRunInRange, M
 
 use crate::{Bound, Ended, How, MoveError, expansion_bound, run};
 use cost_store::{DataCost, Problem, SmoothCost, is_metric};
+use label_energies::Moves;
 use label_field::{Labelling, Pairs};
-use labellings::Moves;
 use std::alloc::Global;
 
 /// What a run is asked for: the labels that it starts from, the kind of its moves, and how many

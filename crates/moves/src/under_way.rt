@@ -1,8 +1,8 @@
 //! A run of moves that is under way.
 ghost use Rattle.std.specs.Prelude.{◌≡◌, ◌<◌, ◌≤◌, ℕ, List, length, IfOk, IfErr, IfSome, OnOk};
 ghost use Rattle.std.specs.Prelude.{OnErr, None, Some, All};
-ghost use Rattle.labellings.specs.declared.cycles.Moves.{Moves as Kind};
-ghost use Rattle.labellings.specs.declared.change.Move.{Move as Change};
+ghost use Rattle.label_energies.specs.declared.cycles.Moves.{Moves as Kind};
+ghost use Rattle.label_energies.specs.declared.change.Move.{Move as Change};
 ghost use Rattle.label_field.specs.Limits.{site_limit};
 ghost use Rattle.moves.specs.Prelude.{IsPosed, WhereMeant, FitsProblem, AreOfOneSize};
 ghost use Rattle.moves.specs.Prelude.{IsRunRefusal};
@@ -15,10 +15,10 @@ use crate::run_moves::begin_changes;
 use crate::runs::Ended;
 use crate::{How, MoveError};
 use cost_store::Problem;
+use label_energies::{Move, Moves};
 use label_field::Labelling;
-use labellings::{Move, Moves};
-use single_moves::Workspace;
-use stages::Changes;
+use near_changes::Changes;
+use one_move::Workspace;
 use std::alloc::{AllocError, Global};
 
 /// A run of moves of one kind that is under way: what it works with, what it remembers of its

@@ -8,4 +8,4 @@ pub use Rattle.block_events.specs.declared.flight.Flight.{Flight}
 pub use Rattle.block_events.specs.declared.lane.Lane.{Lane}
 pub use Rattle.block_events.specs.declared.message.Message.{Message}
 pub use Rattle.block_events.specs.declared.message.Message.TheVariants.{Parcel, Accepted, Refused}
-pub use Rattle.block_turns.specs.declared.letter.Letter.{Letter}
+pub use Rattle.block_discharge.specs.declared.letter.Letter.{Letter}

@@ -8,8 +8,8 @@
 //! `Letter`.
 #![tactic(auto)]
 
-pub use block_core::{Core, NotEnabled, State};
+pub use block_discharge::{Letter, Ways};
 pub use block_events::{Direction, Event, Flight, Lane, Message, laws, rounds};
 pub use block_net::{ARC_LIMIT, BLOCK_LIMIT, Cells};
-pub use block_opening::Parts;
-pub use block_turns::{Letter, Ways};
+pub use block_split::Parts;
+pub use block_state::{Core, NotEnabled, State};

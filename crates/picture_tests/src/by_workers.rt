@@ -1,6 +1,6 @@
 //! A picture restored by workers.
 use byte_streams::Watched;
-use labellings::Moves;
+use label_energies::Moves;
 use rounds::Workers;
 use run_options::{Neighbours, RestoreOptions, Shape};
 use std::alloc::{AllocError, Global};

@@ -1,6 +1,6 @@
 //! Pictures and their answers.
 use crate::tasks::{RESTORE, SEGMENT, STEREO, Task, expect, plain};
-use labellings::Moves;
+use label_energies::Moves;
 use run_options::{Neighbours, RestoreOptions, SegmentOptions, Shape, StereoOptions};
 use std::test::Fail;
 

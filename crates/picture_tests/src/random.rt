@@ -3,7 +3,7 @@ ghost use Rattle.std.specs.Prelude.{◌<◌};
 
 use crate::by_workers::{Counter, Kept};
 use byte_streams::Watched;
-use labellings::Moves;
+use label_energies::Moves;
 use moves::{Alone, How};
 use rounds::Workers;
 use run_options::{Neighbours, RestoreOptions, Shape};

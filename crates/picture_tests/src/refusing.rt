@@ -4,10 +4,10 @@ ghost use Rattle.std.specs.Prelude.{◌≤◌, ◌<◌, ◌+◌, ◌*◌, ◌≤
 use crate::by_workers::{Kept, RESTORE};
 use byte_streams::Watched;
 use cost_store::{DataCost, Problem, SmoothCost};
+use cut_ways::InOrder;
 use flow_network::{Net, Solved};
 use label_field::{Labelling, Pairs};
 use moves::{Alone, Ended, How, MoveError, SolveError, run_expansion};
-use solvers::InOrder;
 use std::alloc::Global;
 use std::process::Abort;
 use std::sync::atomic::{AtomicU32, Ordering};

@@ -1,7 +1,7 @@
 //! A command and its options.
 use crate::streams::CutWriter;
 use byte_streams::Watched;
-use labellings::Moves;
+use label_energies::Moves;
 use moves::Alone;
 use run_options::{Neighbours, RestoreOptions, SegmentOptions, Shape, StereoOptions};
 use std::alloc::Global;

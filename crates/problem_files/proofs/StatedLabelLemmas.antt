@@ -8,9 +8,9 @@ use Rattle.toml.specs.Parse.{parse_document}
 use Rattle.label_field.specs.LabelFields.{LabelField}
 use Rattle.label_field.specs.Limits.{label_limit, pair_limit, site_limit}
 use Rattle.label_field.specs.declared.pair.Pair.{Pair}
-use Rattle.labellings.specs.Names.{moves_named}
-use Rattle.labellings.specs.declared.cycles.Moves.{Moves}
-use Rattle.labellings.specs.declared.cycles.Moves.TheVariants.{Expansion, Swap}
+use Rattle.label_energies.specs.Names.{moves_named}
+use Rattle.label_energies.specs.declared.cycles.Moves.{Moves}
+use Rattle.label_energies.specs.declared.cycles.Moves.TheVariants.{Expansion, Swap}
 use Rattle.run_options.specs.Limits.{cycle_limit, greatest_data_cost, greatest_label_cost, greatest_smooth_cost, trunc_limit}
 use Rattle.run_options.specs.Names.{shape_named}
 use Rattle.run_options.specs.Shapes.{shape_table}

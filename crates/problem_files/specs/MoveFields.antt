@@ -5,9 +5,9 @@ use Rattle.problem_files.specs.LabelFieldNames.{field_name}
 use Rattle.problem_files.specs.declared.label_fault.LabelKey.TheVariants as field
 use Rattle.problem_files.specs.declared.label_fault.LabelFault.{LabelFault}
 use Rattle.problem_files.specs.declared.label_fault.LabelFault.TheVariants.{BadField}
-use Rattle.labellings.specs.Names.{moves_named}
-use Rattle.labellings.specs.declared.cycles.Moves.{Moves}
-use Rattle.labellings.specs.declared.cycles.Moves.TheVariants.{Expansion}
+use Rattle.label_energies.specs.Names.{moves_named}
+use Rattle.label_energies.specs.declared.cycles.Moves.{Moves}
+use Rattle.label_energies.specs.declared.cycles.Moves.TheVariants.{Expansion}
 
 abbrev pub moves_or_fault : Option Moves → Result Moves LabelFault
 moves_or_fault None = Err (BadField field.Moves)

@@ -19,7 +19,7 @@ use Rattle.problem_files.specs.declared.label_fault.LabelFault.{LabelFault}
 use Rattle.problem_files.specs.declared.label_fault.LabelFault.TheVariants.{BadToml}
 use Rattle.problem_files.specs.declared.label_problem.LabelProblem.{LabelProblem}
 use Rattle.run_options.specs.Limits.{trunc_limit, cycle_limit}
-use Rattle.labellings.specs.declared.cycles.Moves.{Moves}
+use Rattle.label_energies.specs.declared.cycles.Moves.{Moves}
 
 -- what a problem says
 pub record Problem : Type 0 where

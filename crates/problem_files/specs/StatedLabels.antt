@@ -6,8 +6,8 @@ use Rattle.toml.specs.Data.{Data, string, integer, array, Items, no_items, item,
 use Rattle.toml.specs.Data.{get_member}
 use Rattle.toml.specs.Parse.{parse_document}
 use Rattle.label_field.specs.declared.pair.Pair.{Pair}
-use Rattle.labellings.specs.declared.cycles.Moves.{Moves}
-use Rattle.labellings.specs.declared.cycles.Moves.TheVariants.{Expansion, Swap}
+use Rattle.label_energies.specs.declared.cycles.Moves.{Moves}
+use Rattle.label_energies.specs.declared.cycles.Moves.TheVariants.{Expansion, Swap}
 use Rattle.run_options.specs.Shapes.{shape_table}
 use Rattle.run_options.specs.declared.shape.Shape.TheVariants.{Potts, Linear, Quadratic}
 use Rattle.problem_files.specs.Names.{Problem}

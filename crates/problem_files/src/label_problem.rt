@@ -1,6 +1,6 @@
 //! A labelling problem, and the run that it asks for.
+use label_energies::Moves;
 use label_field::{Labelling, Pairs};
-use labellings::Moves;
 
 /// A problem of labels, and the run that is to better its labelling.
 #[derive(Drop)]

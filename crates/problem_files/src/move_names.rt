@@ -5,7 +5,7 @@ ghost use Rattle.problem_files.specs.MoveFields.{moves_from, moves_in};
 
 use crate::numbers::value_of;
 use crate::{LabelFault, LabelKey};
-use labellings::Moves;
+use label_energies::Moves;
 use toml::Table;
 
 /// The moves that a table names.

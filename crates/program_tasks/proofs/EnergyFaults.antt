@@ -3,8 +3,8 @@ use Rattle.std.proofs.Common.{◌≡◌, ◌≤◌, ℕ, List, ◌⊎◌, IfSome
 use Rattle.byte_streams.specs.Input.{IsReadRefusal, input_limit}
 use Rattle.byte_streams.specs.Streams.{Stream}
 use Rattle.byte_streams.specs.declared.input.ReadError.{ReadError}
-use Rattle.solvers.specs.declared.solve_error.SolveError.{SolveError}
-use Rattle.solvers.specs.declared.solve_error.SolveError.TheVariants.{OutOfMemory}
+use Rattle.cut_ways.specs.declared.solve_error.SolveError.{SolveError}
+use Rattle.cut_ways.specs.declared.solve_error.SolveError.TheVariants.{OutOfMemory}
 use Rattle.problem_files.specs.Text.{HasFault}
 use Rattle.problem_files.specs.declared.energy_fault.EnergyFault.{EnergyFault}
 use Rattle.pseudo_bool.specs.Energies.{Energy}

@@ -13,10 +13,10 @@ use Rattle.problem_files.specs.declared.label_fault.LabelFault.TheVariants as la
 use Rattle.pgm_image.specs.declared.error.PgmError.{PgmError}
 use Rattle.pgm_image.specs.declared.error.PgmError.TheVariants as image
 use Rattle.pseudo_bool.specs.Energies.{Energy as YesNoEnergy}
-use Rattle.solvers.specs.declared.solve_error.SolveError.{SolveError}
-use Rattle.solvers.specs.declared.solve_error.SolveError.TheVariants as solve
-use Rattle.single_moves.specs.declared.error.MoveError.{MoveError}
-use Rattle.single_moves.specs.declared.error.MoveError.TheVariants as move
+use Rattle.cut_ways.specs.declared.solve_error.SolveError.{SolveError}
+use Rattle.cut_ways.specs.declared.solve_error.SolveError.TheVariants as solve
+use Rattle.one_move.specs.declared.error.MoveError.{MoveError}
+use Rattle.one_move.specs.declared.error.MoveError.TheVariants as move
 use Rattle.run_options.specs.declared.options.RestoreOptions.{RestoreOptions}
 use Rattle.run_options.specs.declared.options.StereoOptions.{StereoOptions}
 use Rattle.run_options.specs.declared.options.SegmentOptions.{SegmentOptions}

@@ -10,8 +10,8 @@ use Rattle.problem_files.specs.declared.label_fault.LabelFault.{LabelFault}
 use Rattle.problem_files.specs.declared.label_fault.LabelFault.TheVariants.{OutOfMemory, BadToml, BadField, BadElement, CostRange, NoSuchSite, SamePair, TooManyPairs, WeightRange, NoSuchLabel}
 use Rattle.moves.specs.Runs.{AnswersRun}
 use Rattle.moves.specs.Problems.{IsRunRefusal}
-use Rattle.single_moves.specs.declared.error.MoveError.{MoveError}
-use Rattle.solvers.specs.declared.solve_error.SolveError.{SolveError}
+use Rattle.one_move.specs.declared.error.MoveError.{MoveError}
+use Rattle.cut_ways.specs.declared.solve_error.SolveError.{SolveError}
 use Rattle.program_tasks.specs.Instances.{instance_named}
 use Rattle.program_tasks.proofs.InputLemmas.{IsWhole, of_read, of_refusal}
 use Rattle.program_tasks.specs.Label.{HasLabelFault, HasProblemFault, HasReadingFault, HoldsProblem, IsRunFault}

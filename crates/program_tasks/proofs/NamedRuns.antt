@@ -6,7 +6,7 @@ use Rattle.cost_store.specs.Limits.{smooth_limit}
 use Rattle.cost_store.specs.LabelCosts.{AreLabelCosts, costs_of}
 use Rattle.problem_files.specs.LabelCostFields.{AreCostsOfLabels, costs_told}
 use Rattle.moves.specs.declared.bound.Bound.{Bound}
-use Rattle.single_moves.specs.declared.error.MoveError.{MoveError}
+use Rattle.one_move.specs.declared.error.MoveError.{MoveError}
 use Rattle.moves.specs.declared.tables.Run.{Run}
 use Rattle.run_options.specs.Limits.{greatest_smooth_cost}
 use Rattle.program_tasks.specs.Instances.{costs_or_none}

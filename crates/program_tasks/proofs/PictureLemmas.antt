@@ -8,7 +8,7 @@ use Rattle.byte_streams.specs.declared.sink.WriteFailed.{WriteFailed}
 use Rattle.command_line.specs.declared.task.PictureOptions.{PictureOptions}
 use Rattle.command_line.specs.declared.task.PictureOptions.TheVariants.{Restore, Stereo, Segment}
 use Rattle.pgm_image.specs.Written.{written_form}
-use Rattle.solvers.specs.declared.solve_error.SolveError.{SolveError}
+use Rattle.cut_ways.specs.declared.solve_error.SolveError.{SolveError}
 use Rattle.vision.specs.Faults.{IsWrite, LeavesWriter}
 use Rattle.vision.specs.Jobs.{WritesPicture, Job, StopsAfter, Reports, picture_of}
 use Rattle.vision.specs.declared.error.VisionError.{VisionError}

@@ -1,7 +1,7 @@
 -- How the refusal of what a command needs becomes that of the command.
 use Rattle.std.proofs.Common.{◌≡◌, ℕ, List, inl, inr, Result, Ok, Err, IfErr, refl, sym, subst}
 use Rattle.std.specs.Result.{IsErrAnd}
-use Rattle.solvers.specs.declared.solve_error.SolveError.{SolveError}
+use Rattle.cut_ways.specs.declared.solve_error.SolveError.{SolveError}
 use Rattle.command_line.specs.declared.task.Task.{Task}
 use Rattle.byte_streams.specs.Streams.{Stream}
 use Rattle.program_texts.specs.Writing.{IsCutIn}

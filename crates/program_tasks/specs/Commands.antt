@@ -3,7 +3,7 @@ use Rattle.std.specs.Prelude.{◌≡◌, ℕ, List, []}
 use Rattle.byte_streams.specs.Streams.{Stream}
 use Rattle.command_line.specs.declared.task.Task.{Task}
 use Rattle.command_line.specs.declared.task.Task.TheVariants.{Energy, Label, Picture}
-use Rattle.solvers.specs.declared.solve_error.SolveError.{SolveError}
+use Rattle.cut_ways.specs.declared.solve_error.SolveError.{SolveError}
 use Rattle.program_texts.specs.declared.fault.Fault.{Fault}
 use Rattle.program_tasks.specs.Energy.{AnswersInput, HasEnergyFault}
 use Rattle.program_tasks.specs.Label.{AnswersLabels, HasLabelFault}

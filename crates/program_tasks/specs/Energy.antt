@@ -2,7 +2,7 @@
 use Rattle.std.specs.Prelude.{◌≡◌, ◌≤◌, ◌⊎◌, ℕ, List, length}
 use Rattle.byte_streams.specs.Input.{IsReadRefusal, input_limit}
 use Rattle.pseudo_bool.specs.Energies.{Energy}
-use Rattle.solvers.specs.declared.solve_error.SolveError.{SolveError}
+use Rattle.cut_ways.specs.declared.solve_error.SolveError.{SolveError}
 use Rattle.regular.specs.Regularity.{IsFirstFailing, IsRegular}
 use Rattle.regular.specs.declared.fixed.NotRegular.{NotRegular}
 use Rattle.problem_files.specs.Text.{HasFault, NamesEnergy, TextStates}

@@ -1,8 +1,8 @@
 -- What the libraries of moves and of pictures refuse, as the program tells it: memory as memory,
 -- whoever asked for it.
 use Rattle.std.specs.Prelude.{◌≡◌}
-use Rattle.single_moves.specs.declared.error.MoveError.{MoveError}
-use Rattle.single_moves.specs.declared.error.MoveError.TheVariants as move
+use Rattle.one_move.specs.declared.error.MoveError.{MoveError}
+use Rattle.one_move.specs.declared.error.MoveError.TheVariants as move
 use Rattle.vision.specs.declared.error.VisionError.{VisionError}
 use Rattle.vision.specs.declared.error.VisionError.TheVariants as vision
 use Rattle.program_texts.specs.declared.fault.Fault.{Fault}

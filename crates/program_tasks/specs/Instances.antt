@@ -1,7 +1,7 @@
 -- The instance that a problem of tables is.
 use Rattle.std.specs.Prelude.{List, [], ℤ, Option, Some, None}
 use Rattle.problem_files.specs.Names.{Problem}
-use Rattle.labellings.specs.Energies.{Instance}
+use Rattle.label_energies.specs.Energies.{Instance}
 use Rattle.moves.specs.Instances.{data_entry, instance_of}
 
 -- the label costs that were named, none where none were

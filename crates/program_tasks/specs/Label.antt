@@ -7,8 +7,8 @@ use Rattle.problem_files.specs.StatedLabels.{TextStatesProblem}
 use Rattle.problem_files.specs.declared.label_fault.LabelFault.{LabelFault}
 use Rattle.problem_files.specs.declared.label_fault.LabelFault.TheVariants as label
 use Rattle.moves.specs.Problems.{IsRunRefusal}
-use Rattle.single_moves.specs.declared.error.MoveError.{MoveError}
-use Rattle.solvers.specs.declared.solve_error.SolveError.{SolveError}
+use Rattle.one_move.specs.declared.error.MoveError.{MoveError}
+use Rattle.cut_ways.specs.declared.solve_error.SolveError.{SolveError}
 use Rattle.program_tasks.specs.Instances.{instance_named}
 use Rattle.moves.specs.Runs.{AnswersRun}
 use Rattle.moves.specs.declared.tables.Run.{Run}

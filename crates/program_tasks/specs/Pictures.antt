@@ -4,10 +4,11 @@ use Rattle.std.specs.Prelude.{is_some, unsigned_abs}
 use Rattle.command_line.specs.declared.task.PictureOptions.{PictureOptions}
 use Rattle.command_line.specs.declared.task.PictureOptions.TheVariants.{Restore, Stereo, Segment}
 use Rattle.byte_streams.specs.Input.{IsReadRefusal, input_limit}
-use Rattle.labellings.specs.Energies.{data_energy, energy, label_energy, labelling, smooth_energy}
+use Rattle.label_energies.specs.Energies.{data_energy, energy, label_energy, labelling}
+use Rattle.label_energies.specs.Energies.{smooth_energy}
 use Rattle.moves.specs.Runs.{TellsBound}
 use Rattle.moves.specs.declared.bound.Bound.{Bound}
-use Rattle.solvers.specs.declared.solve_error.SolveError.{SolveError}
+use Rattle.cut_ways.specs.declared.solve_error.SolveError.{SolveError}
 use Rattle.pgm_image.specs.Written.{written_form}
 use Rattle.vision.specs.Jobs.{EndsAt, Job, picture_of}
 use Rattle.vision.specs.Faults.{HasRestoreError, HasSegmentError, HasStereoError}

@@ -7,11 +7,11 @@ ghost use Rattle.program_tasks.specs.Refusals.{TellsRead};
 ghost use Rattle.program_tasks.specs.Inputs.{OfSomeInput};
 
 use byte_streams::{Source, read_input};
+use cut_ways::How;
 use problem_files::read_energy;
 use program_texts::{Answer, Fault, Line, energy_answer};
 use pseudo_bool::Energy;
 use regular::check;
-use solvers::How;
 use std::alloc::Global;
 
 /// The answer to the problem file that the input is. Nothing is said beside it.

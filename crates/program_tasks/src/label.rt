@@ -18,10 +18,10 @@ ghost use Rattle.program_tasks.specs.Inputs.{OfSomeInput};
 use crate::bounds::near_of_bound;
 use crate::library_faults::move_fault;
 use byte_streams::{Source, read_input};
+use cut_ways::How;
 use moves::{MoveError, Request, Run, run_tables};
 use problem_files::{LabelProblem, read_label};
 use program_texts::{Answer, Fault, Line, Parts, label_text};
-use solvers::How;
 use std::alloc::{AllocError, Global};
 
 /// Where the moves of the problem that the input is end, and how near that is to the least energy

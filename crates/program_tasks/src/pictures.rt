@@ -18,8 +18,8 @@ use crate::bounds::near_of_bound;
 use crate::library_faults::picture_fault;
 use byte_streams::{Sink, Source, read_input};
 use command_line::PictureOptions;
+use cut_ways::How;
 use program_texts::{Fault, Line, Parts, picture_lines};
-use solvers::How;
 use std::alloc::Global;
 use vision::{Report, VisionError, run_restore, run_segment, run_stereo};
 

@@ -10,8 +10,8 @@ use crate::label::answer_label;
 use crate::pictures::picture;
 use byte_streams::{Sink, Source};
 use command_line::Task;
+use cut_ways::How;
 use program_texts::{Fault, Line, write_text};
-use solvers::How;
 use std::alloc::Global;
 
 /// One command over its input. Nothing is written before the whole answer is there.

@@ -6,8 +6,8 @@ use Rattle.problem_files.specs.declared.energy_fault.EnergyFault.{EnergyFault}
 use Rattle.problem_files.specs.declared.energy_fault.EnergyFault.TheVariants as energy
 use Rattle.problem_files.specs.declared.label_fault.LabelFault.{LabelFault}
 use Rattle.problem_files.specs.declared.label_fault.LabelFault.TheVariants as label
-use Rattle.solvers.specs.declared.solve_error.SolveError.{SolveError}
-use Rattle.solvers.specs.declared.solve_error.SolveError.TheVariants as solve
+use Rattle.cut_ways.specs.declared.solve_error.SolveError.{SolveError}
+use Rattle.cut_ways.specs.declared.solve_error.SolveError.TheVariants as solve
 use Rattle.program_texts.specs.declared.fault.Fault.{Fault}
 use Rattle.program_texts.specs.declared.fault.Fault.TheVariants.{OutOfMemory, EnergyFile}
 use Rattle.program_texts.specs.declared.fault.Fault.TheVariants.{LabelFile, Workers, BadOptions}

@@ -4,10 +4,10 @@ ghost use Rattle.program_texts.specs.Answer.{AnswersEnergy, answer_text, digits_
 ghost use Rattle.program_texts.specs.Faults.{IsCutFault};
 
 use crate::fault::Fault;
+use cut_ways::How;
 use itoa::Buffer;
 use minimum::minimise_by;
 use regular::Regular;
-use solvers::How;
 use std::alloc::{AllocError, Global};
 
 /// The text of the answer to an energy. Refused where memory runs out, and as the cut is refused.

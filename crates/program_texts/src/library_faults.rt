@@ -5,9 +5,9 @@ ghost use Rattle.program_texts.specs.declared.fault.Fault.TheVariants.{OutOfMemo
 
 use crate::fault::Fault;
 use byte_streams::ReadError;
+use cut_ways::SolveError;
 use problem_files::{EnergyFault, LabelFault};
 use regular::NotRegular;
-use solvers::SolveError;
 use std::alloc::AllocError;
 
 impl From<AllocError> for Fault {

@@ -1,7 +1,7 @@
 -- Numbers that tell by how much a function of yes-no variables rises where one of them turns.
 use Rattle.std.specs.Prelude.{◌≡◌, ℕ, ◌+◌, ◌-◌, ◌<◌, Bool, cond, ℤ, pos, ◌+ℤ◌, nat_lt, ◌&&◌}
 use Rattle.sums.specs.IntegerSums.{int_sum_below}
-use Rattle.move_rises.specs.Assignments.{rise}
+use Rattle.move_prices.specs.Assignments.{rise}
 
 -- for each site where its places begin, and its own rise; at each place a neighbour, and by how
 -- much the value rises where the site turns, as far as this neighbour goes: while it is at 0, and

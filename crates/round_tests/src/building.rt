@@ -1,6 +1,6 @@
 //! Nets from tables, and their states in blocks with exact labels.
-use block_core::State;
 use block_net::{ARC_LIMIT, BLOCK_LIMIT};
+use block_state::State;
 use flow_network::{Arc, Net};
 use global_relabel::raise_all;
 use std::alloc::{AllocError, Global};

@@ -3,9 +3,9 @@ ghost use Rattle.std.specs.Prelude.{◌≡◌, ◌<◌, ℕ, IfOk, slice_index_o
 ghost use Rattle.block_workers.specs.Workers.{AreNew};
 
 use crate::gates::Open;
+use block_discharge::Block;
 use block_net::{ARC_LIMIT, Cells};
-use block_opening::Parts;
-use block_turns::Block;
+use block_split::Parts;
 use block_workers::{Ends, Job, Ledgers, RoundError, Seat, TurnBook, Worker, all_work};
 use flow_network::{Arc, Net};
 use rounds::join_all;

@@ -7,7 +7,7 @@ use crate::gates::Open;
 use crate::overlap::TWO;
 use crate::picture::{large_net_of_move, net_of_move};
 use crate::rows::expect;
-use block_core::State;
+use block_state::State;
 use flow_network::Net;
 use global_relabel::distances;
 use rounds::distances_by_blocks;

@@ -3,7 +3,7 @@
 use crate::alike::round;
 use crate::building::{idle_nodes, long_way, two_nodes};
 use crate::gates::{Alternate, Closed, Held, Overlap};
-use block_core::State;
+use block_state::State;
 use std::alloc::{AllocError, Global};
 use std::process::Abort;
 use std::sync::Wait;

@@ -3,8 +3,8 @@ ghost use Rattle.std.specs.Prelude.{◌≤◌};
 ghost use Rattle.block_events.specs.Workers.{IsFair};
 ghost use Rattle.block_workers.specs.Ports.{IsSamePort};
 
+use block_discharge::Letter;
 use block_events::{Direction, Message};
-use block_turns::Letter;
 use block_workers::{Port, join_blocks, take_left};
 use std::alloc::{AllocError, Global};
 use std::process::Abort;

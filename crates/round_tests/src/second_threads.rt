@@ -2,13 +2,13 @@
 //! their opening and the first pushes.
 use crate::building::{chain, full_chain, state_raised};
 use crate::gates::Calls;
-use block_core::State;
-use block_cut::push_first;
 use block_net::ARC_LIMIT;
+use block_state::State;
+use cut_in_blocks::push_first;
+use cut_ways::Fork;
+use distance_search::LabelSearch;
 use flow_network::Net;
-use label_search::LabelSearch;
 use rounds::ByThreads;
-use solvers::Fork;
 use std::alloc::{AllocError, Global};
 use std::process::Abort;
 use std::rt::Files;

@@ -6,7 +6,7 @@ use crate::calls::{Diary, Lowest, Only};
 use crate::gates::Open;
 use crate::overlap::{ONE, TWO};
 use crate::picture::net_of_move;
-use block_core::State;
+use block_state::State;
 use std::alloc::AllocError;
 use std::process::Abort;
 use std::sync::Wait;

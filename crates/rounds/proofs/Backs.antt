@@ -8,12 +8,12 @@ use Rattle.block_events.specs.declared.message.Message.{Message}
 use Rattle.block_events.specs.Workers.{MayStart}
 use Rattle.block_net.specs.Views.{CellsView, border_in, count}
 use Rattle.block_net.specs.Whole.{Whole, no_block, block_at}
-use Rattle.laid_blocks.specs.Views.{IsLaid}
-use Rattle.block_turns.specs.Seen.{WaysView}
-use Rattle.block_turns.specs.Steps.{TurnView, DoesMany, IsSure, turn_view}
-use Rattle.block_cut.specs.TurnEvents.{HasRoom}
-use Rattle.block_cut.specs.Rounds.{Ways, AreLeft, fresh, quiet_state}
-use Rattle.block_cut.proofs.Starting.{start_is_sure}
+use Rattle.net_in_blocks.specs.Views.{IsLaid}
+use Rattle.block_discharge.specs.Seen.{WaysView}
+use Rattle.block_discharge.specs.Steps.{TurnView, DoesMany, IsSure, turn_view}
+use Rattle.cut_in_blocks.specs.TurnEvents.{HasRoom}
+use Rattle.cut_in_blocks.specs.Rounds.{Ways, AreLeft, fresh, quiet_state}
+use Rattle.cut_in_blocks.proofs.Starting.{start_is_sure}
 use Rattle.block_workers.specs.declared.port.Port.{Port}
 use Rattle.block_workers.specs.Ports.{letters_put, letters_taken, free, capacity, IsNewPort}
 use Rattle.block_workers.specs.declared.ends.Ends.{Ends}

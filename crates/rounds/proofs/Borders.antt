@@ -7,8 +7,8 @@ use Rattle.block_events.specs.Directions.{far}
 use Rattle.block_events.proofs.Ends.{far_in}
 use Rattle.block_net.specs.Views.{CellsView, count, border_in}
 use Rattle.block_net.specs.Whole.{Whole, no_block, block_at, node_block, slot, state_shown}
-use Rattle.laid_blocks.specs.Views.{IsLaid}
-use Rattle.block_core.proofs.Effects.{border_apart}
+use Rattle.net_in_blocks.specs.Views.{IsLaid}
+use Rattle.block_state.proofs.Effects.{border_apart}
 use Rattle.rounds.specs.Seated.{AreBlocksSmall}
 
 -- a direction of block b leads to another block

@@ -1,8 +1,8 @@
 -- For those who call: what one thread refuses, as workers refuse it.
 use Rattle.std.proofs.Common.{◌≡◌, Result, Ok, Err, sym, subst}
 use Rattle.std.specs.Prelude.{IfErr}
-use Rattle.solvers.specs.declared.solve_error.SolveError.{SolveError}
-use Rattle.solvers.specs.declared.solve_error.SolveError.TheVariants.{OutOfMemory}
+use Rattle.cut_ways.specs.declared.solve_error.SolveError.{SolveError}
+use Rattle.cut_ways.specs.declared.solve_error.SolveError.TheVariants.{OutOfMemory}
 use Rattle.worker_options.specs.declared.options.Options.{Options}
 use Rattle.worker_options.specs.Ranges.{AreInRange}
 use Rattle.rounds.specs.SolveErrors.{MayFailToSolve}

@@ -8,8 +8,8 @@ use Rattle.flow_network.specs.Cut.{nodes}
 use Rattle.block_events.specs.declared.event.Event.{Event}
 use Rattle.block_net.specs.Views.{count}
 use Rattle.block_net.specs.Whole.{Whole, block_at, node_block}
-use Rattle.laid_blocks.specs.Views.{IsLaid}
-use Rattle.block_cut.specs.Rounds.{quiet_state}
+use Rattle.net_in_blocks.specs.Views.{IsLaid}
+use Rattle.cut_in_blocks.specs.Rounds.{quiet_state}
 use Rattle.rounds.specs.Short.{nodes_in, AreBlocksOf}
 
 -- ---- sums

@@ -6,9 +6,9 @@ use Rattle.block_events.specs.Soundness.{Belongs, direction_of}
 use Rattle.block_events.proofs.Local.{belongs_direction}
 use Rattle.block_net.specs.Views.{CellsView}
 use Rattle.block_net.specs.Whole.{Whole}
-use Rattle.block_core.specs.AllWays.{HasRooms}
-use Rattle.block_cut.specs.Rounds.{Ways, IsRoundOfTurns, state_after}
-use Rattle.block_cut.proofs.Quiet.{round_is_held}
+use Rattle.block_state.specs.AllWays.{HasRooms}
+use Rattle.cut_in_blocks.specs.Rounds.{Ways, IsRoundOfTurns, state_after}
+use Rattle.cut_in_blocks.proofs.Quiet.{round_is_held}
 use Rattle.block_rings.specs.Left.{AreFitting}
 
 pub round_fits : (w : Whole) (got : ℕ) (blocks : List CellsView) (left : Ways) (steps : ℕ → ℕ) (rooms : List (List ℕ)) → HasRooms w.net (length w.blocks) rooms

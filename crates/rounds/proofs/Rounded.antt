@@ -6,11 +6,11 @@ use Rattle.block_events.specs.Soundness.{IsSound, IsSquare}
 use Rattle.block_net.specs.Views.{CellsView}
 use Rattle.block_net.specs.Whole.{Whole, with_blocks}
 use Rattle.block_events.specs.Effects.{state_of}
-use Rattle.laid_blocks.specs.Views.{IsLaid, blocks_in}
-use Rattle.block_core.specs.AllWays.{IsHeld}
-use Rattle.block_cut.specs.Rounds.{Ways, AreBack, IsRoundOfTurns, quiet_state, state_after}
-use Rattle.block_cut.proofs.Quiet.{quiet_is_start, round_is_held}
-use Rattle.block_cut.proofs.Rounds.{seats_make_round}
+use Rattle.net_in_blocks.specs.Views.{IsLaid, blocks_in}
+use Rattle.block_state.specs.AllWays.{IsHeld}
+use Rattle.cut_in_blocks.specs.Rounds.{Ways, AreBack, IsRoundOfTurns, quiet_state, state_after}
+use Rattle.cut_in_blocks.proofs.Quiet.{quiet_is_start, round_is_held}
+use Rattle.cut_in_blocks.proofs.Rounds.{seats_make_round}
 use Rattle.block_rings.specs.Links.{RingsView, sent_in, taken_in, ring_room}
 use Rattle.block_rings.specs.Left.{AreLeft, AreFitting, HaveRoomFor}
 use Rattle.rounds.specs.Together.{AreBackAfter, HaveRun}

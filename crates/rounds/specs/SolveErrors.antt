@@ -1,8 +1,8 @@
 -- What workers may refuse.
 use Rattle.std.specs.Prelude.{◌<◌, ◌≤◌}
-use Rattle.solvers.specs.declared.solve_error.SolveError.{SolveError}
-use Rattle.solvers.specs.declared.solve_error.SolveError.TheVariants.{OutOfMemory, Workers}
-use Rattle.solvers.specs.declared.solve_error.SolveError.TheVariants.{BadOptions}
+use Rattle.cut_ways.specs.declared.solve_error.SolveError.{SolveError}
+use Rattle.cut_ways.specs.declared.solve_error.SolveError.TheVariants.{OutOfMemory, Workers}
+use Rattle.cut_ways.specs.declared.solve_error.SolveError.TheVariants.{BadOptions}
 use Rattle.worker_options.specs.declared.options.Options.{Options}
 use Rattle.worker_options.specs.Ranges.{AreInRange}
 use Rattle.rounds.specs.declared.parallel_error.ParallelError.{ParallelError}

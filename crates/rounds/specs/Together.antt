@@ -5,11 +5,11 @@ use Rattle.flow_network.specs.Cut.{Network}
 use Rattle.block_events.specs.States.{State}
 use Rattle.block_net.specs.Views.{CellsView, count}
 use Rattle.block_net.specs.Whole.{Whole, block_at}
-use Rattle.block_opening.specs.declared.parts.Parts.{Parts}
-use Rattle.block_opening.specs.Split.{whole_of}
+use Rattle.block_split.specs.declared.parts.Parts.{Parts}
+use Rattle.block_split.specs.Split.{whole_of}
 use Rattle.block_events.specs.Effects.{state_of}
-use Rattle.laid_blocks.specs.Views.{IsLaid, blocks_in}
-use Rattle.block_cut.specs.Rounds.{Ways, AreBack, rooms_lack}
+use Rattle.net_in_blocks.specs.Views.{IsLaid, blocks_in}
+use Rattle.cut_in_blocks.specs.Rounds.{Ways, AreBack, rooms_lack}
 use Rattle.block_rings.specs.Links.{RingsView, sent_in, taken_in}
 use Rattle.block_rings.specs.Left.{AreLeft}
 

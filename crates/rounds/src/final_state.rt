@@ -4,8 +4,8 @@ ghost use Rattle.flow_network.specs.Limits.{capacity_limit};
 ghost use Rattle.flow_network.specs.Cut.{nodes, set_of, IsSmallestLeastCut};
 ghost use Rattle.flow_network.specs.Answer.{side_of, IsRightCut};
 
-use block_core::State;
-use block_cut::{answer_of, finish, finish_side, least_side};
+use block_state::State;
+use cut_in_blocks::{answer_of, finish, finish_side, least_side};
 use flow_network::Solved;
 use global_relabel::Workspace;
 use std::alloc::{AllocError, Global};

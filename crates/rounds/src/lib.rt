@@ -7,8 +7,8 @@
 //!
 //! `solve_parallel` opens a net in blocks and makes such rounds, with exact labels before each,
 //! which in a large net the blocks find side by side (`distances_by_blocks`). What the rounds leave
-//! goes on to the end on one thread (`block_cut`), so that the answer rests on no round. `Workers`
-//! cuts the nets of moves and of yes-no energies by it.
+//! goes on to the end on one thread (`cut_in_blocks`), so that the answer rests on no round.
+//! `Workers` cuts the nets of moves and of yes-no energies by it.
 #![tactic(auto)]
 
 mod blocks;
@@ -30,10 +30,10 @@ mod workers;
 
 pub use block_rings::join_all;
 pub use block_workers::{Job, Ledgers, RoundError, TurnBook};
-pub use forks::ByThreads;
+pub use distance_search::distances_by_blocks;
 pub use gates::{Lent, Open};
-pub use label_search::distances_by_blocks;
 pub use parallel_error::ParallelError;
+pub use part_threads::ByThreads;
 pub use round::run_round;
 pub use solver::{side_parallel, solve_parallel};
 pub use worker_options::{BadOptions, Gate, Options};

@@ -1,19 +1,19 @@
 //! One round of running workers over the blocks of a state.
 ghost use Rattle.std.specs.Prelude.{◌≡◌, ◌<◌, IfErr, IfOk};
 ghost use Rattle.block_events.specs.Events.{IsQuiet};
-ghost use Rattle.laid_blocks.specs.Views.{IsLaid};
-ghost use Rattle.block_core.specs.AllWays.{IsHeld};
-ghost use Rattle.block_opening.specs.Split.{whole_of};
-ghost use Rattle.block_core.specs.Pieces.{state_in};
+ghost use Rattle.net_in_blocks.specs.Views.{IsLaid};
+ghost use Rattle.block_state.specs.AllWays.{IsHeld};
+ghost use Rattle.block_split.specs.Split.{whole_of};
+ghost use Rattle.block_state.specs.Pieces.{state_in};
 ghost use Rattle.block_workers.specs.declared.crew.RoundError.TheVariants.{Workers};
 ghost use Rattle.worker_options.specs.Ranges.{AreInRange};
 ghost use Rattle.rounds.specs.Short.{HasFewOnTheWay, IsShortRound};
 
 use crate::blocks::{Blanks, run_blocks};
 use crate::round_state::put_together;
-use block_core::{Pieces, State};
-use block_opening::Parts;
 use block_rings::Stock;
+use block_split::Parts;
+use block_state::{Pieces, State};
 use block_workers::{Job, Ledgers, RoundError};
 use std::alloc::Global;
 use std::marker::Brand;

@@ -1,12 +1,12 @@
 //! The state of the blocks and messages after a round.
 ghost use Rattle.std.specs.Prelude.{◌≡◌};
-ghost use Rattle.laid_blocks.specs.Views.{IsLaid};
-ghost use Rattle.block_core.specs.AllWays.{IsHeld};
-ghost use Rattle.block_opening.specs.Split.{whole_of};
+ghost use Rattle.net_in_blocks.specs.Views.{IsLaid};
+ghost use Rattle.block_state.specs.AllWays.{IsHeld};
+ghost use Rattle.block_split.specs.Split.{whole_of};
 ghost use Rattle.rounds.specs.Together.{gathered_state};
 
-use block_core::{AllWays, Pieces, State};
-use block_opening::Parts;
+use block_split::Parts;
+use block_state::{AllWays, Pieces, State};
 use flow_network::Net;
 
 /// The state that the blocks show with the messages on the way. What the sink got is what the rooms

@@ -7,9 +7,9 @@ ghost use Rattle.rounds.specs.Seated.{AreSeated, AreBlocksSmall, blocks_of, ends
 ghost use Rattle.rounds.specs.Seated.{ports_of};
 
 use crate::turned::{take_next, turn_round};
+use block_discharge::Block;
 use block_net::Cells;
 use block_rings::{Pile, Piles};
-use block_turns::Block;
 use block_workers::{Ends, Port, Seat};
 use std::alloc::{AllocError, Global};
 

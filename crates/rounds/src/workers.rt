@@ -13,9 +13,9 @@ ghost use Rattle.rounds.specs.SolveErrors.{MayFailToSolve, of_parallel};
 
 use crate::gates::Lent;
 use crate::{ParallelError, side_parallel, solve_parallel};
+use cut_ways::{Alone, How, SolveError};
 use flow_network::{Arc, Net, Solved};
-use forks::ByThreads;
-use solvers::{Alone, How, SolveError};
+use part_threads::ByThreads;
 use std::alloc::Global;
 use std::sync::Wait;
 use std::thread::Threads;

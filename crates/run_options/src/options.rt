@@ -6,8 +6,8 @@ ghost use Rattle.run_options.specs.Ranges.{AreStereoOptions};
 ghost use Rattle.run_options.specs.Limits.{greatest_label_cost};
 
 use crate::{CAP_LIMIT, CYCLE_LIMIT, LABEL_COST_LIMIT, MAXVAL_LIMIT, Shape, TRUNC_LIMIT};
+use label_energies::Moves;
 use label_field::{LABEL_LIMIT, WEIGHT_LIMIT};
-use labellings::Moves;
 
 /// Which pixels of a picture are in a pair.
 #[derive(Clone, Copy, Debug, PartialEq, Eq)]

@@ -1,7 +1,7 @@
 -- A loop over the arcs of a node, each of which may have one end labelled.
 use Rattle.std.proofs.Common.{◌≡◌, ℕ, ◌+◌, ◌<◌, ◌≤◌, inl, inr, List, length, slice_index, refl, ◌∙◌, ap, arith}
 use Rattle.std.proofs.lemmas.Bool.{cases_lt}
-use Rattle.grouping.specs.declared.Groups.{Groups}
+use Rattle.counting_sort.specs.declared.Groups.{Groups}
 use Rattle.flow_network.specs.Cut.{Network, nodes}
 use Rattle.flow_network.specs.Preflow.{arc_at}
 use Rattle.sink_distances.specs.declared.adjacency.Adjacency.{Adjacency}

@@ -1,6 +1,6 @@
 use Rattle.std.specs.Prelude.{map}
 use Rattle.flow_network.specs.Cut.{Network, nodes}
-use Rattle.grouping.specs.Grouping.{IsGrouped}
+use Rattle.counting_sort.specs.Grouping.{IsGrouped}
 use Rattle.sink_distances.specs.declared.adjacency.Adjacency.{Adjacency}
 
 -- the arcs' places, grouped by the node that each leaves, and by the node that each enters

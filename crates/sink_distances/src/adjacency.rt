@@ -2,8 +2,8 @@
 ghost use Rattle.std.specs.Prelude.{◌≡◌, IfOk, map};
 ghost use Rattle.sink_distances.specs.Adjacency.{IsAdjacency};
 
+use counting_sort::{Groups, group};
 use flow_network::{Arc, Graph};
-use grouping::{Groups, group};
 use std::alloc::{AllocError, Global};
 
 /// The arcs of a net by their nodes, as places of its list of arcs ("forward and reverse star").

@@ -4,7 +4,7 @@ use Rattle.std.proofs.lemmas.Int.{ints}
 use Rattle.std.proofs.lemmas.Bool.{cases_lt, lt-ltb, le-ltb}
 use Rattle.std.proofs.lemmas.List.{get_or_past}
 use Rattle.std.proofs.lemmas.List.Elements.{All-get_or}
-use Rattle.move_rises.specs.Rising.{entry_place}
+use Rattle.move_prices.specs.Rising.{entry_place}
 use Rattle.site_forms.specs.Fields.{table_cost, unit_rise, own_at}
 
 pub label_within : (at : List ℕ) (u k : ℕ) → u < length at → All (λ label. label < k) at → slice_index at u < k

@@ -3,7 +3,7 @@ use Rattle.std.proofs.Common.{◌≡◌, ℕ, suc, ◌+◌, ◌-◌, ◌*◌, �
 use Rattle.std.proofs.lemmas.Int.{ints, to_z-of_z}
 use Rattle.sums.specs.IntegerSums.{int_sum_below}
 use Rattle.sums.proofs.IntegerSumLemmas.{within_fits, abs-add}
-use Rattle.move_rises.specs.Assignments.{rise}
+use Rattle.move_prices.specs.Assignments.{rise}
 use Rattle.rise_forms.specs.Forms.{Form, TellsRises, places, place_rise, rise_below}
 
 next_place : (start place : ℕ) → start ≤ place → suc (place - start) ≡ place + 1 - start

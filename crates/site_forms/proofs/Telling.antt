@@ -1,13 +1,13 @@
 -- What was read for a move tells the rises of its energies.
 use Rattle.std.proofs.Common.{◌≡◌, ℕ, ◌+◌, ◌*◌, ◌<◌, ◌≤◌, Bool, true, false, cond, ℤ, pos, ◌+ℤ◌, ◌-ℤ◌, refl, sym, ap, ◌∙◌, arith, slice_index, length}
 use Rattle.sums.proofs.IntegerSumLemmas.{int_sum_below-same}
-use Rattle.labellings.specs.declared.change.Move.{Move}
-use Rattle.labellings.specs.Energies.{Instance, labelling}
-use Rattle.labellings.specs.Moves.{label_after}
+use Rattle.label_energies.specs.declared.change.Move.{Move}
+use Rattle.label_energies.specs.Energies.{Instance, labelling}
+use Rattle.label_energies.specs.Moves.{label_after}
 use Rattle.move_energy.specs.BySite.{neighbours_start, neighbour_at, is_first, weight_at, degree}
-use Rattle.move_rises.specs.MoveValues.{move_value}
-use Rattle.move_rises.specs.Rising.{label_rise}
-use Rattle.move_rises.specs.Ends.{end_rise}
+use Rattle.move_prices.specs.MoveValues.{move_value}
+use Rattle.move_prices.specs.Rising.{label_rise}
+use Rattle.move_prices.specs.Ends.{end_rise}
 use Rattle.rise_forms.specs.Forms.{place_rise, TellsRises}
 use Rattle.move_forms.specs.MoveForms.{move_form, end_rise_at}
 use Rattle.move_forms.proofs.Moving as moving

@@ -3,15 +3,15 @@ use Rattle.std.specs.Prelude.{◌≡◌, ℕ, ◌+◌, ◌*◌, ◌<◌, ◌≤�
 use Rattle.std.specs.Prelude.{List, length, slice_index, slice_index_or, unsigned_abs}
 use Rattle.std.specs.List.{All}
 use Rattle.label_field.specs.Limits.{site_limit, label_limit, weight_limit}
-use Rattle.labellings.specs.declared.change.Move.{Move}
-use Rattle.labellings.specs.Energies.{Instance, labelling}
-use Rattle.labellings.specs.Moves.{label_after}
+use Rattle.label_energies.specs.declared.change.Move.{Move}
+use Rattle.label_energies.specs.Energies.{Instance, labelling}
+use Rattle.label_energies.specs.Moves.{label_after}
 use Rattle.cost_store.specs.Limits.{site_cost_limit}
 use Rattle.move_energy.specs.declared.by_site.Neighbours.{Neighbours}
 use Rattle.move_energy.specs.BySite.{neighbours_start, neighbour_at, weight_at}
-use Rattle.move_rises.specs.MoveValues.{data_rise}
-use Rattle.move_rises.specs.declared.table.EndRises.{EndRises}
-use Rattle.move_rises.specs.Rising.{entry_place, table_labels}
+use Rattle.move_prices.specs.MoveValues.{data_rise}
+use Rattle.move_prices.specs.declared.table.EndRises.{EndRises}
+use Rattle.move_prices.specs.Rising.{entry_place, table_labels}
 
 -- what a pair of weight 1 costs by a table of costs, whose first end, or its second, has the one
 -- label and its other end the other

@@ -1,7 +1,7 @@
 -- The lists of which a form is lent.
 use Rattle.std.specs.Prelude.{ℕ, List}
-use Rattle.labellings.specs.declared.change.Move.{Move}
-use Rattle.labellings.specs.Energies.{Instance}
+use Rattle.label_energies.specs.declared.change.Move.{Move}
+use Rattle.label_energies.specs.Energies.{Instance}
 use Rattle.site_forms.specs.Fields.{AreReadableLists, AreReadOf}
 use Rattle.site_forms.specs.declared.lists.FormLists.{FormLists}
 

@@ -2,14 +2,14 @@
 use Rattle.std.specs.Prelude.{◌≡◌, ℕ, ◌+◌, ◌*◌, ◌<◌, ◌≤◌, Bool, true, false, cond, ℤ, pos, ◌-ℤ◌}
 use Rattle.std.specs.Prelude.{length, slice_index, unsigned_abs}
 use Rattle.label_field.specs.PairLists.{IsPairList}
-use Rattle.labellings.specs.declared.change.Move.{Move}
-use Rattle.labellings.specs.Energies.{Instance, IsInstance, labelling}
-use Rattle.labellings.specs.Moves.{IsAllowed}
+use Rattle.label_energies.specs.declared.change.Move.{Move}
+use Rattle.label_energies.specs.Energies.{Instance, IsInstance, labelling}
+use Rattle.label_energies.specs.Moves.{IsAllowed}
 use Rattle.cost_store.specs.Limits.{pair_cost_limit}
 use Rattle.move_energy.specs.BySite.{AreBySite, AreNeighboursOf, neighbours_start, neighbour_at}
 use Rattle.move_energy.specs.BySite.{is_first, weight_at}
-use Rattle.move_rises.specs.MoveValues.{move_value}
-use Rattle.move_rises.specs.declared.table.EndRises.{EndRises}
+use Rattle.move_prices.specs.MoveValues.{move_value}
+use Rattle.move_prices.specs.declared.table.EndRises.{EndRises}
 use Rattle.rise_forms.specs.Forms.{Form, TellsRises}
 use Rattle.site_forms.specs.Fields.{table_cost, own_at, AreReadOf}
 use Rattle.site_forms.specs.declared.numbers.SiteForm.{SiteForm}

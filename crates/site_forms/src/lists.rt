@@ -2,14 +2,14 @@
 ghost use Rattle.std.specs.Prelude.{◌≡◌, ◌*◌, ◌+◌, ◌<◌, ◌≤◌, ℕ, pos, length, slice_index, OnOk};
 ghost use Rattle.std.specs.Prelude.{true, unsigned_abs, Bool, slice_index_or};
 ghost use Rattle.label_field.specs.Limits.{label_limit};
-ghost use Rattle.labellings.specs.Energies.{labelling, Instance};
-ghost use Rattle.labellings.specs.Moves.{IsMoveOf, label_after, IsAllowed};
-ghost use Rattle.labellings.specs.declared.change.Move.{Move as AnyMove};
+ghost use Rattle.label_energies.specs.Energies.{labelling, Instance};
+ghost use Rattle.label_energies.specs.Moves.{IsMoveOf, label_after, IsAllowed};
+ghost use Rattle.label_energies.specs.declared.change.Move.{Move as AnyMove};
 ghost use Rattle.cost_store.specs.Limits.{site_cost_limit};
 ghost use Rattle.cost_store.specs.Posed.{IsPosed, IsAsked, WhereMeant};
 ghost use Rattle.move_energy.specs.BySite.{AreBySite};
-ghost use Rattle.move_rises.specs.MoveValues.{data_rise as data_rise_of};
-ghost use Rattle.move_rises.specs.Rising.{table_labels, entry_place};
+ghost use Rattle.move_prices.specs.MoveValues.{data_rise as data_rise_of};
+ghost use Rattle.move_prices.specs.Rising.{table_labels, entry_place};
 ghost use Rattle.site_forms.specs.Fields.{own_at, unit_rise, AreUnitRises};
 ghost use Rattle.site_forms.specs.Lists.{AreFormLists, IsReadOf};
 ghost use Rattle.site_forms.specs.Numbers.{IsFormOf, IsOverPairs};
@@ -17,10 +17,10 @@ ghost use Rattle.site_forms.specs.Numbers.{IsFormOf, IsOverPairs};
 use crate::numbers::SiteForm;
 use crate::reading::smooth_of;
 use cost_store::Problem;
+use label_energies::Move;
 use label_field::{LABEL_LIMIT, Pairs};
-use labellings::Move;
 use move_energy::Neighbours;
-use move_rises::{EndRises, data_rise};
+use move_prices::{EndRises, data_rise};
 use std::alloc::{AllocError, Global};
 
 /// The most labels of which a move has a table of rises.

@@ -1,18 +1,18 @@
 //! By how much a function of the sites rises where one of them turns, read of a form.
 ghost use Rattle.std.specs.Prelude.{◌≡◌, ◌+◌, ◌*◌, ◌<◌, ◌≤◌, true, false, length, unsigned_abs};
 ghost use Rattle.cost_store.specs.Limits.{site_cost_limit, pair_cost_limit};
-ghost use Rattle.labellings.specs.Energies.{labelling};
+ghost use Rattle.label_energies.specs.Energies.{labelling};
 ghost use Rattle.move_energy.specs.BySite.{degree, neighbours_start, neighbour_at};
 ghost use Rattle.move_energy.specs.BySite.{is_first as is_first_of, weight_at as weight_of};
-ghost use Rattle.move_rises.specs.Assignments.{rise};
-ghost use Rattle.move_rises.specs.Ends.{decided_or};
+ghost use Rattle.move_prices.specs.Assignments.{rise};
+ghost use Rattle.move_prices.specs.Ends.{decided_or};
 ghost use Rattle.rise_forms.specs.Forms.{place_rise};
 ghost use Rattle.site_forms.specs.Numbers.{form_of, Tells, IsSitePlace, AreEndRises};
 
 use crate::numbers::SiteForm;
 use crate::reading::end_rises;
 use move_energy::{Choice, is_first, weight_at};
-use move_rises::{EndRises, Rises, rises_by};
+use move_prices::{EndRises, Rises, rises_by};
 
 /// By how much the value rises where a site turns, as far as the neighbour at a place goes: while
 /// the neighbour is at 0, and while it is at 1.

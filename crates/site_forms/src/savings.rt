@@ -8,7 +8,7 @@ ghost use Rattle.site_forms.specs.Numbers.{WhereRead};
 use crate::numbers::SiteForm;
 use crate::reading::end_rises;
 use label_field::Pair;
-use move_rises::surplus_by;
+use move_prices::surplus_by;
 
 /// The surplus of a pair: by how much its costs at 01 and 10 are together above those at 00 and 11.
 #[inline]

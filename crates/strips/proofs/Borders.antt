@@ -12,9 +12,9 @@ use Rattle.sums.specs.Sums.{sum_below, count_if}
 use Rattle.sums.proofs.IntegerSumLemmas.{within_fits, abs-sub}
 use Rattle.label_field.specs.declared.pair.Pair.{Pair}
 use Rattle.label_field.specs.PairLists.{IsPair, IsPairList, PairList}
-use Rattle.labellings.specs.declared.change.Move.{Move}
-use Rattle.labellings.specs.Energies.{Instance, IsInstance}
-use Rattle.labellings.specs.Moves.{IsRegularPair, IsAllowed}
+use Rattle.label_energies.specs.declared.change.Move.{Move}
+use Rattle.label_energies.specs.Energies.{Instance, IsInstance}
+use Rattle.label_energies.specs.Moves.{IsRegularPair, IsAllowed}
 use Rattle.compile_cut.specs.Weights.{weights_size}
 use Rattle.move_energy.specs.declared.by_site.Neighbours.{Neighbours}
 use Rattle.move_energy.specs.declared.choice.Choice.{Choice}
@@ -24,12 +24,12 @@ use Rattle.move_energy.specs.Weights.{weight_at, pair_surplus, AreWeights}
 use Rattle.move_energy.proofs.Parts.{beside_has}
 use Rattle.move_energy.proofs.Listings.{listed_sites_are_summed}
 use Rattle.move_energy.proofs.Weighed.{open_size, listed_weights_are}
-use Rattle.deciding.specs.Parts.{site_weight}
-use Rattle.deciding.proofs.Left.{left_most}
-use Rattle.closing_in.specs.Agreeing.{choices_or}
-use Rattle.closing_in.specs.Borders.{range_of, not_ones, is_beyond, leads_beyond, pair_border, border_at}
-use Rattle.closing_in.proofs.Borders.{strip_weights, weights_go_on}
-use Rattle.closing_in.proofs.Rooms.{total_more}
+use Rattle.site_bounds.specs.Parts.{site_weight}
+use Rattle.site_bounds.proofs.Left.{left_most}
+use Rattle.persistency.specs.Agreeing.{choices_or}
+use Rattle.persistency.specs.Borders.{range_of, not_ones, is_beyond, leads_beyond, pair_border, border_at}
+use Rattle.persistency.proofs.Borders.{strip_weights, weights_go_on}
+use Rattle.persistency.proofs.Rooms.{total_more}
 use Rattle.strips.specs.Views.{strip_view, KeepsChosen, weight_now}
 use Rattle.strips.proofs.Views.{weights_same, view_is, goes_on_joined}
 

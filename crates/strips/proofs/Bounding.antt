@@ -8,9 +8,9 @@ use Rattle.std.proofs.lemmas.List.Elements.{Contains-get_or}
 use Rattle.std.proofs.lemmas.Grind.{get_or_default_zero}
 use Rattle.sums.specs.Sums.{count_if}
 use Rattle.label_field.specs.declared.pair.Pair.{Pair}
-use Rattle.labellings.specs.declared.change.Move.{Move}
-use Rattle.labellings.specs.Energies.{Instance, IsInstance}
-use Rattle.labellings.specs.Moves.{IsAllowed}
+use Rattle.label_energies.specs.declared.change.Move.{Move}
+use Rattle.label_energies.specs.Energies.{Instance, IsInstance}
+use Rattle.label_energies.specs.Moves.{IsAllowed}
 use Rattle.pseudo_bool.specs.Energies.{assignment, entry}
 use Rattle.compile_cut.specs.declared.quadratic.Quadratic.{Quadratic}
 use Rattle.compile_cut.specs.Quadratics.{quadratic_value}
@@ -21,17 +21,17 @@ use Rattle.move_energy.specs.Choices.{choice_at, is_open, open_at, open_rank, Ar
 use Rattle.move_energy.specs.Weights.{pair_surplus}
 use Rattle.move_energy.proofs.Numbers.{rank_below}
 use Rattle.move_energy.proofs.Opened.{opened_has, opened_place, opened_count, true_open, open_true}
-use Rattle.deciding.specs.Decisions.{IsSmallestLeast}
-use Rattle.move_rises.specs.MoveValues.{move_value}
-use Rattle.move_rises.proofs.Rising.{move_falls, move_over}
-use Rattle.closing_in.specs.Fixing.{fixed_value}
-use Rattle.closing_in.specs.Agreeing.{Agree, or_else, choices_or}
-use Rattle.closing_in.specs.Strips.{Strip, others_at, IsStripBounded, told_by}
-use Rattle.closing_in.specs.Borders.{range_of, is_inside, is_beyond, border_at}
-use Rattle.closing_in.specs.Forms.{bits_by_site, IsOneToOne}
-use Rattle.closing_in.specs.Telling.{IsStripListed}
-use Rattle.closing_in.proofs.Forms.{form_least, form_smallest, reweighed_form}
-use Rattle.closing_in.proofs.Strips.{strip_agrees}
+use Rattle.site_bounds.specs.Decisions.{IsSmallestLeast}
+use Rattle.move_prices.specs.MoveValues.{move_value}
+use Rattle.move_prices.proofs.Rising.{move_falls, move_over}
+use Rattle.persistency.specs.Fixing.{fixed_value}
+use Rattle.persistency.specs.Agreeing.{Agree, or_else, choices_or}
+use Rattle.persistency.specs.Strips.{Strip, others_at, IsStripBounded, told_by}
+use Rattle.persistency.specs.Borders.{range_of, is_inside, is_beyond, border_at}
+use Rattle.persistency.specs.Forms.{bits_by_site, IsOneToOne}
+use Rattle.persistency.specs.Telling.{IsStripListed}
+use Rattle.persistency.proofs.Forms.{form_least, form_smallest, reweighed_form}
+use Rattle.persistency.proofs.Strips.{strip_agrees}
 use Rattle.strips.specs.Views.{strip_view, KeepsChosen}
 use Rattle.strips.specs.Sides.{IsLessBorder}
 use Rattle.strips.proofs.Views.{first_of, view_length, view_at, open_is, seen_in, open_inside, inside_open}

@@ -8,8 +8,8 @@ use Rattle.flow_network.proofs.Bounds.{sum_is}
 use Rattle.flow_network.proofs.Widening.{added, added_at}
 use Rattle.compile_cut.specs.declared.quadratic.Quadratic.{Quadratic}
 use Rattle.compile_cut.specs.Quadratics.{quadratic_value}
-use Rattle.deciding.specs.Decisions.{IsSmallestLeast}
-use Rattle.closing_in.proofs.Forms.{reweighed_value}
+use Rattle.site_bounds.specs.Decisions.{IsSmallestLeast}
+use Rattle.persistency.proofs.Forms.{reweighed_value}
 use Rattle.strips.specs.Sides.{IsLessBorder}
 
 least_too : (net : Network) (side other : ℕ → Bool) → IsLeastCut net side → capacity_of net other ≤ capacity_of net side → IsLeastCut net other

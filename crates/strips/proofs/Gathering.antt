@@ -7,22 +7,22 @@ use Rattle.std.specs.Result.{IsOk}
 use Rattle.std.proofs.lemmas.Bool.{cases_lt}
 use Rattle.std.proofs.lemmas.Nat.{div-add-mod'}
 use Rattle.std.proofs.Math.Nat.{div-lt_iff_lt-mul, eq-zero-or-pos, mod-lt, mul_comm}
-use Rattle.labellings.specs.declared.change.Move.{Move}
-use Rattle.labellings.specs.Energies.{Instance, IsInstance, labelling}
-use Rattle.labellings.specs.Moves.{IsAllowed}
+use Rattle.label_energies.specs.declared.change.Move.{Move}
+use Rattle.label_energies.specs.Energies.{Instance, IsInstance, labelling}
+use Rattle.label_energies.specs.Moves.{IsAllowed}
 use Rattle.move_energy.specs.declared.choice.Choice.{Choice}
 use Rattle.move_energy.specs.declared.choice.Choice.TheVariants.{Open, Zero, One}
 use Rattle.move_energy.specs.Choices.{choice_at}
 use Rattle.site_forms.specs.declared.numbers.SiteForm.{SiteForm}
-use Rattle.deciding.specs.Decisions.{Passes}
-use Rattle.move_rises.specs.MoveValues.{move_value}
-use Rattle.deciding.specs.Parts.{ArePassedChoices}
+use Rattle.site_bounds.specs.Decisions.{Passes}
+use Rattle.move_prices.specs.MoveValues.{move_value}
+use Rattle.site_bounds.specs.Parts.{ArePassedChoices}
 use Rattle.site_forms.specs.Numbers.{IsFormOf}
 use Rattle.strips.specs.Parts.{ArePartCodes, IsPartAnswer, OfParts, FillsPart, IsPartJoined, DecidesTold, EndsWithStrip, PartsEndWithStrips, known_or, coded_at, part_start}
-use Rattle.deciding.proofs.Putting.{passed_forced}
-use Rattle.move_rises.proofs.Rising.{move_falls}
-use Rattle.closing_in.specs.Agreeing.{Agree}
-use Rattle.closing_in.proofs.Agreeing.{each_agreed, forced_agree}
+use Rattle.site_bounds.proofs.Putting.{passed_forced}
+use Rattle.move_prices.proofs.Rising.{move_falls}
+use Rattle.persistency.specs.Agreeing.{Agree}
+use Rattle.persistency.proofs.Agreeing.{each_agreed, forced_agree}
 
 -- ---- where parts begin
 

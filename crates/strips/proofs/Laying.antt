@@ -7,9 +7,9 @@ use Rattle.std.proofs.lemmas.List.Sums.{sum_by-set, sum_by_more, sum_by-take-le,
 use Rattle.sums.proofs.IntegerSumLemmas.{within_fits, abs-add}
 use Rattle.sums.specs.IntegerSums.{int_counted}
 use Rattle.label_field.specs.PairLists.{PairList}
-use Rattle.labellings.specs.declared.change.Move.{Move}
-use Rattle.labellings.specs.Energies.{Instance, IsInstance}
-use Rattle.labellings.specs.Moves.{IsAllowed}
+use Rattle.label_energies.specs.declared.change.Move.{Move}
+use Rattle.label_energies.specs.Energies.{Instance, IsInstance}
+use Rattle.label_energies.specs.Moves.{IsAllowed}
 use Rattle.pseudo_bool.specs.Energies.{entry}
 use Rattle.flow_network.specs.Cut.{IsArc}
 use Rattle.flow_network.specs.declared.arc.Arc.{Arc}

@@ -9,7 +9,7 @@ use Rattle.move_energy.specs.declared.choice.Choice.TheVariants.{Open}
 use Rattle.move_energy.specs.Choices.{choice_at, open_rank, AreOpenSites}
 use Rattle.move_energy.proofs.Numbers.{rank_below}
 use Rattle.move_energy.proofs.Opened.{opened_has, opened_place, opened_count, open_true}
-use Rattle.closing_in.specs.Borders.{range_of}
+use Rattle.persistency.specs.Borders.{range_of}
 use Rattle.strips.specs.declared.material.StripSites.{StripSites}
 use Rattle.strips.specs.Building.{IsStripNumbering}
 use Rattle.strips.specs.Views.{strip_view}

@@ -3,9 +3,9 @@ use Rattle.std.proofs.Common.{◌≡◌, ◌<◌, ◌≤◌, ℕ, List, Bool, tr
 use Rattle.std.specs.Prelude.{OnOk, filter, vec_len}
 use Rattle.std.proofs.lemmas.Bool.{cases_lt}
 use Rattle.std.proofs.lemmas.List.{get_or_past}
-use Rattle.labellings.specs.declared.change.Move.{Move}
-use Rattle.labellings.specs.Energies.{Instance, IsInstance}
-use Rattle.labellings.specs.Moves.{IsAllowed}
+use Rattle.label_energies.specs.declared.change.Move.{Move}
+use Rattle.label_energies.specs.Energies.{Instance, IsInstance}
+use Rattle.label_energies.specs.Moves.{IsAllowed}
 use Rattle.plain_cut.specs.declared.both.BothSides.{BothSides}
 use Rattle.pseudo_bool.specs.Energies.{assignment}
 use Rattle.compile_cut.specs.declared.quadratic.Quadratic.{Quadratic}
@@ -13,12 +13,12 @@ use Rattle.compile_cut.specs.Quadratics.{quadratic_value}
 use Rattle.move_energy.specs.declared.choice.Choice.{Choice}
 use Rattle.move_energy.specs.declared.choice.Choice.TheVariants.{Zero}
 use Rattle.move_energy.specs.Choices.{choice_at, open_at, AreOpenSites}
-use Rattle.deciding.specs.Decisions.{IsSmallestLeast}
-use Rattle.move_rises.specs.MoveValues.{move_value}
-use Rattle.closing_in.specs.Agreeing.{Agree, or_else, choices_or}
-use Rattle.closing_in.specs.Borders.{is_inside, range_of}
-use Rattle.closing_in.specs.Strips.{Strip, told_by}
-use Rattle.closing_in.specs.Telling.{IsStripListed}
+use Rattle.site_bounds.specs.Decisions.{IsSmallestLeast}
+use Rattle.move_prices.specs.MoveValues.{move_value}
+use Rattle.persistency.specs.Agreeing.{Agree, or_else, choices_or}
+use Rattle.persistency.specs.Borders.{is_inside, range_of}
+use Rattle.persistency.specs.Strips.{Strip, told_by}
+use Rattle.persistency.specs.Telling.{IsStripListed}
 use Rattle.strips.specs.declared.material.StripSites.{StripSites}
 use Rattle.strips.specs.Building.{IsStripForm}
 use Rattle.strips.specs.Parts.{EndsWithStrip}

@@ -13,7 +13,7 @@ use Rattle.pseudo_bool.specs.Energies.{entry}
 use Rattle.compile_cut.specs.Weights.{weights_value, weights_size, arcs_value, arcs_size}
 use Rattle.compile_cut.proofs.WeightLemmas.{weights_value-add}
 use Rattle.move_energy.specs.Built.{AddsCost}
-use Rattle.grouping.proofs.Ranks.{rank-lt}
+use Rattle.counting_sort.proofs.Ranks.{rank-lt}
 use Rattle.sink_distances.specs.declared.rows.Cell.{Cell}
 use Rattle.sink_distances.specs.Rows.{arc_ends}
 use Rattle.sink_distances.specs.Laying.{ArePartLaid}

@@ -6,16 +6,16 @@ use Rattle.std.proofs.lemmas.Bool.Decides.{nat_tests}
 use Rattle.std.proofs.lemmas.List.{get_or_past}
 use Rattle.std.proofs.lemmas.List.FromFn.{get_or-map-range_with_len, length-map-range_with_len}
 use Rattle.sums.specs.Sums.{sum_below}
-use Rattle.labellings.specs.declared.change.Move.{Move}
-use Rattle.labellings.specs.Energies.{Instance, IsInstance}
+use Rattle.label_energies.specs.declared.change.Move.{Move}
+use Rattle.label_energies.specs.Energies.{Instance, IsInstance}
 use Rattle.move_energy.specs.declared.choice.Choice.{Choice}
 use Rattle.move_energy.specs.declared.choice.Choice.TheVariants.{Open, Zero, One}
 use Rattle.move_energy.specs.Choices.{bit_of, choice_at, is_open, openness, open_at, open_rank}
 use Rattle.move_energy.specs.Weights.{AreWeights}
-use Rattle.move_rises.proofs.Rising.{move_over}
-use Rattle.closing_in.specs.Fixing.{with_choices}
-use Rattle.closing_in.specs.Agreeing.{or_else, choices_or}
-use Rattle.closing_in.specs.Borders.{range_of, is_inside}
+use Rattle.move_prices.proofs.Rising.{move_over}
+use Rattle.persistency.specs.Fixing.{with_choices}
+use Rattle.persistency.specs.Agreeing.{or_else, choices_or}
+use Rattle.persistency.specs.Borders.{range_of, is_inside}
 use Rattle.strips.specs.Views.{choices_seen, strip_view, KeepsChosen}
 
 -- ---- choices that are the same at the sites

@@ -4,8 +4,8 @@ use Rattle.std.proofs.lemmas.List.{length-map, take_all}
 use Rattle.std.proofs.lemmas.List.Sums.{sum_by_push, sum_by_more}
 use Rattle.std.proofs.lemmas.List.Elements.{All-head, All-tail, All-from_get_or}
 use Rattle.label_field.specs.PairLists.{IsPairList, PairList}
-use Rattle.labellings.specs.declared.change.Move.{Move}
-use Rattle.labellings.specs.Energies.{Instance}
+use Rattle.label_energies.specs.declared.change.Move.{Move}
+use Rattle.label_energies.specs.Energies.{Instance}
 use Rattle.compile_cut.specs.Weights.{weights_size}
 use Rattle.move_energy.specs.declared.by_site.Neighbours.{Neighbours}
 use Rattle.move_energy.specs.declared.choice.Choice.{Choice}
@@ -14,7 +14,7 @@ use Rattle.move_energy.specs.BySite.{AreBySite, degree}
 use Rattle.move_energy.specs.Choices.{choice_at, AreOpenSites}
 use Rattle.move_energy.specs.Weights.{weight_at, AreWeights}
 use Rattle.move_energy.proofs.Opened.{opened_has, opened_few, open_true, true_open}
-use Rattle.deciding.specs.Parts.{site_weight}
+use Rattle.site_bounds.specs.Parts.{site_weight}
 use Rattle.strips.specs.Views.{KeepsChosen, strip_view}
 use Rattle.strips.proofs.Borders.{weights_few, degrees_few}
 use Rattle.strips.proofs.Views.{view_length, open_inside}

@@ -3,7 +3,7 @@ use Rattle.std.proofs.Common.{◌≡◌, ℕ, zero, suc, ◌+◌, ◌*◌, ◌<�
 use Rattle.std.proofs.lemmas.List.{take_more, get_or-map, length-map}
 use Rattle.std.proofs.lemmas.List.Elements.{All-append}
 use Rattle.sums.specs.Sums.{count_if}
-use Rattle.grouping.proofs.Ranks.{rank-lt}
+use Rattle.counting_sort.proofs.Ranks.{rank-lt}
 use Rattle.flow_network.specs.declared.arc.Arc.{Arc}
 use Rattle.flow_network.specs.Cut.{enters, IsArc}
 use Rattle.sink_distances.specs.Laid.{arc_standing, opposite_in}
@@ -13,8 +13,8 @@ use Rattle.sink_distances.proofs.Making.{ends_len}
 use Rattle.compile_cut.specs.Weights.{arcs_value, arcs_size}
 use Rattle.compile_cut.specs.declared.quadratic.Quadratic.{Quadratic}
 use Rattle.compile_cut.specs.Quadratics.{quadratic_value}
-use Rattle.labellings.specs.declared.change.Move.{Move}
-use Rattle.labellings.specs.Energies.{Instance}
+use Rattle.label_energies.specs.declared.change.Move.{Move}
+use Rattle.label_energies.specs.Energies.{Instance}
 use Rattle.move_energy.specs.declared.choice.Choice.{Choice}
 use Rattle.move_energy.specs.Choices.{StandsFor}
 use Rattle.strips.specs.declared.material.RowForm.{RowForm}

@@ -3,9 +3,9 @@ use Rattle.std.proofs.Common.{◌≡◌, ◌≢◌, ◌⊎◌, ◌<◌, ◌≤�
 use Rattle.std.specs.Prelude.{slice_index, ◌≤ℤ◌}
 use Rattle.std.specs.List.{Contains}
 use Rattle.std.proofs.lemmas.List.Elements.{Contains-get_or}
-use Rattle.labellings.specs.declared.change.Move.{Move}
-use Rattle.labellings.specs.Energies.{Instance, IsInstance}
-use Rattle.labellings.specs.Moves.{IsAllowed}
+use Rattle.label_energies.specs.declared.change.Move.{Move}
+use Rattle.label_energies.specs.Energies.{Instance, IsInstance}
+use Rattle.label_energies.specs.Moves.{IsAllowed}
 use Rattle.plain_cut.specs.declared.both.BothSides.{BothSides}
 use Rattle.pseudo_bool.specs.Energies.{assignment}
 use Rattle.move_energy.specs.declared.choice.Choice.{Choice}
@@ -14,14 +14,14 @@ use Rattle.move_energy.specs.BySite.{rising_sites}
 use Rattle.move_energy.specs.Choices.{choice_at, choice_of, bit_of, is_open, open_at, open_rank, value_of, AreOpenSites}
 use Rattle.move_energy.proofs.Numbers.{rank_below}
 use Rattle.move_energy.proofs.Opened.{opened_place, opened_count, cases_open}
-use Rattle.deciding.specs.Decisions.{IsSmallestLeast}
-use Rattle.move_rises.specs.Assignments.{IsOver}
-use Rattle.move_rises.specs.MoveValues.{move_value}
-use Rattle.move_rises.proofs.Rising.{move_falls, move_over}
-use Rattle.closing_in.specs.Fixing.{with_choices, fixed_value, AreLeastZeros}
-use Rattle.closing_in.specs.Agreeing.{or_else}
-use Rattle.closing_in.specs.Strips.{Strip, others_at, lower_value}
-use Rattle.closing_in.proofs.Fixing.{fixed_same, ones_bound}
+use Rattle.site_bounds.specs.Decisions.{IsSmallestLeast}
+use Rattle.move_prices.specs.Assignments.{IsOver}
+use Rattle.move_prices.specs.MoveValues.{move_value}
+use Rattle.move_prices.proofs.Rising.{move_falls, move_over}
+use Rattle.persistency.specs.Fixing.{with_choices, fixed_value, AreLeastZeros}
+use Rattle.persistency.specs.Agreeing.{or_else}
+use Rattle.persistency.specs.Strips.{Strip, others_at, lower_value}
+use Rattle.persistency.proofs.Fixing.{fixed_same, ones_bound}
 use Rattle.strips.specs.Looking.{IsStageLeast}
 use Rattle.strips.specs.Sides.{AreBounds}
 use Rattle.strips.specs.Views.{strip_view}

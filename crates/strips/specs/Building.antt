@@ -4,9 +4,9 @@ use Rattle.std.specs.Prelude.{◌≡◌, ℕ, ◌<◌, ◌≤◌, ◌-◌, Bool,
 use Rattle.std.specs.Prelude.{ℤ, unsigned_abs}
 use Rattle.label_field.specs.declared.pair.Pair.{Pair}
 use Rattle.label_field.specs.PairLists.{IsPair, IsPairList, PairList}
-use Rattle.labellings.specs.declared.change.Move.{Move}
-use Rattle.labellings.specs.Energies.{Instance, IsInstance}
-use Rattle.labellings.specs.Moves.{IsAllowed}
+use Rattle.label_energies.specs.declared.change.Move.{Move}
+use Rattle.label_energies.specs.Energies.{Instance, IsInstance}
+use Rattle.label_energies.specs.Moves.{IsAllowed}
 use Rattle.compile_cut.specs.declared.quadratic.Quadratic.{Quadratic}
 use Rattle.compile_cut.specs.Weights.{weights_size}
 use Rattle.move_energy.specs.declared.by_site.Neighbours.{Neighbours}
@@ -17,8 +17,8 @@ use Rattle.move_energy.specs.Choices.{choice_at, open_at, open_rank, AreOpenSite
 use Rattle.move_energy.specs.Choices.{StandsFor}
 use Rattle.move_energy.specs.Limits.{surplus_limit, weights_limit}
 use Rattle.move_energy.specs.Weights.{surplus_of, pair_table, unsaved_surplus}
-use Rattle.deciding.specs.Parts.{site_weight}
-use Rattle.closing_in.specs.Borders.{border_at, range_of}
+use Rattle.site_bounds.specs.Parts.{site_weight}
+use Rattle.persistency.specs.Borders.{border_at, range_of}
 use Rattle.strips.specs.declared.material.Material.{Material}
 use Rattle.strips.specs.declared.material.StripSites.{StripSites}
 use Rattle.strips.specs.Views.{KeepsChosen, strip_view, weight_now}

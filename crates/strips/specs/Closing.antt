@@ -1,14 +1,14 @@
 -- What is asked of a move that is closed in strip by strip.
 use Rattle.std.specs.Prelude.{◌≡◌, ◌≤◌, List, length}
-use Rattle.labellings.specs.Moves.{IsAllowed}
+use Rattle.label_energies.specs.Moves.{IsAllowed}
 use Rattle.compile_cut.specs.Weights.{weights_size}
 use Rattle.cost_store.specs.Posed.{Closure}
 use Rattle.move_energy.specs.Choices.{choice_at}
 use Rattle.move_energy.specs.declared.choice.Choice.{Choice}
 use Rattle.move_energy.specs.Limits.{weights_limit}
 use Rattle.move_energy.specs.Weights.{AreWeights}
-use Rattle.move_rises.specs.declared.move_to_find.MoveToFind.{MoveToFind}
-use Rattle.move_rises.specs.Finding.{IsPosedMove, WhereFound}
+use Rattle.move_prices.specs.declared.move_to_find.MoveToFind.{MoveToFind}
+use Rattle.move_prices.specs.Finding.{IsPosedMove, WhereFound}
 use Rattle.strips.specs.declared.material.Basis.{Basis}
 use Rattle.strips.specs.Views.{KeepsChosen}
 

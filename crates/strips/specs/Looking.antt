@@ -1,12 +1,12 @@
 -- What a cut of all open sites shows, where some sites are fixed.
 use Rattle.std.specs.Prelude.{◌≡◌, ℕ, Bool, List}
-use Rattle.labellings.specs.declared.change.Move.{Move}
-use Rattle.labellings.specs.Energies.{Instance}
+use Rattle.label_energies.specs.declared.change.Move.{Move}
+use Rattle.label_energies.specs.Energies.{Instance}
 use Rattle.move_energy.specs.declared.choice.Choice.{Choice}
 use Rattle.move_energy.specs.Choices.{choice_at, value_of}
-use Rattle.deciding.specs.Decisions.{IsSmallestLeast}
-use Rattle.move_rises.specs.MoveValues.{move_value}
-use Rattle.closing_in.specs.Fixing.{with_choices, fixed_value}
+use Rattle.site_bounds.specs.Decisions.{IsSmallestLeast}
+use Rattle.move_prices.specs.MoveValues.{move_value}
+use Rattle.persistency.specs.Fixing.{with_choices, fixed_value}
 
 -- the bits of the open sites and what is fixed are the least values of a stage: of all sites, some
 -- of which are fixed, the least with the fewest ones

@@ -3,19 +3,19 @@ use Rattle.std.specs.Prelude.{◌≡◌, ◌≢◌, ◌==◌, ℕ, ◌+◌, ◌-
 use Rattle.std.specs.Prelude.{List, length, slice_index_or, ℤ, Result, IfOk}
 use Rattle.std.specs.Global.{Vec}
 use Rattle.std.specs.Int.{div_ceil}
-use Rattle.labellings.specs.declared.change.Move.{Move}
-use Rattle.labellings.specs.Energies.{Instance, IsInstance, labelling}
+use Rattle.label_energies.specs.declared.change.Move.{Move}
+use Rattle.label_energies.specs.Energies.{Instance, IsInstance, labelling}
 use Rattle.move_energy.specs.declared.choice.Choice.{Choice}
 use Rattle.move_energy.specs.declared.choice.Choice.TheVariants.{Open, Zero, One}
 use Rattle.move_energy.specs.Choices.{choice_at}
-use Rattle.deciding.specs.Decisions.{Passes}
-use Rattle.move_rises.specs.MoveValues.{move_value}
+use Rattle.site_bounds.specs.Decisions.{Passes}
+use Rattle.move_prices.specs.MoveValues.{move_value}
 use Rattle.site_forms.specs.declared.numbers.SiteForm.{SiteForm}
-use Rattle.deciding.specs.Parts.{ArePassedChoices}
+use Rattle.site_bounds.specs.Parts.{ArePassedChoices}
 use Rattle.site_forms.specs.Numbers.{IsFormOf, WhereRead}
-use Rattle.closing_in.specs.Agreeing.{Agree, choices_or}
-use Rattle.closing_in.specs.Borders.{is_inside, range_of}
-use Rattle.closing_in.specs.Strips.{Strip, IsStripBounded, told_by}
+use Rattle.persistency.specs.Agreeing.{Agree, choices_or}
+use Rattle.persistency.specs.Borders.{is_inside, range_of}
+use Rattle.persistency.specs.Strips.{Strip, IsStripBounded, told_by}
 use Rattle.strips.specs.Views.{KeepsChosen}
 
 -- the code of what is known of a site: 1 for the value 0, 2 for the value 1, and others for nothing

@@ -2,16 +2,16 @@
 use Rattle.std.specs.Prelude.{◌≡◌, ℕ, ◌<◌, List, length, slice_index, pos, ◌+ℤ◌, vec_len}
 use Rattle.pseudo_bool.specs.Energies.{entry}
 use Rattle.compile_cut.specs.declared.quadratic.Quadratic.{Quadratic}
-use Rattle.closing_in.specs.Forms.{IsReweighed}
-use Rattle.closing_in.specs.Agreeing.{choices_or}
-use Rattle.closing_in.specs.Strips.{Strip, IsStripBounded, told_by}
-use Rattle.closing_in.specs.Telling.{IsStripListed}
-use Rattle.labellings.specs.declared.change.Move.{Move}
-use Rattle.labellings.specs.Energies.{Instance}
+use Rattle.persistency.specs.Forms.{IsReweighed}
+use Rattle.persistency.specs.Agreeing.{choices_or}
+use Rattle.persistency.specs.Strips.{Strip, IsStripBounded, told_by}
+use Rattle.persistency.specs.Telling.{IsStripListed}
+use Rattle.label_energies.specs.declared.change.Move.{Move}
+use Rattle.label_energies.specs.Energies.{Instance}
 use Rattle.plain_cut.specs.declared.both.BothSides.{BothSides}
 use Rattle.move_energy.specs.declared.choice.Choice.{Choice}
 use Rattle.move_energy.specs.Choices.{choice_at}
-use Rattle.move_rises.specs.MoveValues.{move_value}
+use Rattle.move_prices.specs.MoveValues.{move_value}
 
 -- the same form, each weight less by the border of its node
 pub record IsLessBorder (borders : List ℕ) (form less : Quadratic) : Type 0 where

@@ -1,15 +1,15 @@
 -- What is known of a move that is closed in on strip by strip, and what a strip sees of it.
 use Rattle.std.specs.Prelude.{◌≡◌, ◌≢◌, ℕ, ◌<◌, ◌≤◌, List, length, map, ℤ, pos, ◌-ℤ◌}
 use Rattle.std.specs.List.{range_with_len}
-use Rattle.labellings.specs.declared.change.Move.{Move}
-use Rattle.labellings.specs.Energies.{Instance}
+use Rattle.label_energies.specs.declared.change.Move.{Move}
+use Rattle.label_energies.specs.Energies.{Instance}
 use Rattle.move_energy.specs.declared.choice.Choice.{Choice}
 use Rattle.move_energy.specs.declared.choice.Choice.TheVariants.{Open, Zero}
 use Rattle.move_energy.specs.Choices.{choice_at}
-use Rattle.deciding.specs.Parts.{site_weight}
-use Rattle.closing_in.specs.Agreeing.{or_else}
-use Rattle.closing_in.specs.Strips.{others_at}
-use Rattle.closing_in.specs.Borders.{range_of, border_at, not_ones}
+use Rattle.site_bounds.specs.Parts.{site_weight}
+use Rattle.persistency.specs.Agreeing.{or_else}
+use Rattle.persistency.specs.Strips.{others_at}
+use Rattle.persistency.specs.Borders.{range_of, border_at, not_ones}
 
 -- the view of a strip that ends at a site: below its end what was chosen at the start stays, and
 -- from there on each site that was open is at 0

@@ -5,8 +5,8 @@ ghost use Rattle.label_field.specs.PairLists.{IsPair};
 ghost use Rattle.move_energy.specs.Choices.{AreOpenSites};
 ghost use Rattle.move_energy.specs.Limits.{surplus_limit};
 ghost use Rattle.move_energy.specs.Weights.{weight_at, surplus_of, pair_table};
-ghost use Rattle.labellings.specs.Energies.{IsInstance};
-ghost use Rattle.move_rises.specs.Finding.{IsPosedMove, WhereFound};
+ghost use Rattle.label_energies.specs.Energies.{IsInstance};
+ghost use Rattle.move_prices.specs.Finding.{IsPosedMove, WhereFound};
 ghost use Rattle.site_forms.specs.Numbers.{IsOverPairs, WhereRead};
 ghost use Rattle.strips.specs.Building.{CanAsk, CanBuild, WhereSaved, AreStartWeights};
 ghost use Rattle.strips.specs.Building.{AreStripSites, AreWeighed, IsStripForm};
@@ -20,10 +20,10 @@ use crate::building::build_strip;
 use crate::material::{Basis, Material, Room, StripSites};
 use crate::parting::read_weights;
 use crate::sides::row_sides;
-use deciding::{MoveToFind, SiteForm, pair_saving, pair_surplus};
 use label_field::Pair;
 use move_energy::Choice;
 use plain_cut::BothSides;
+use site_bounds::{MoveToFind, SiteForm, pair_saving, pair_surplus};
 use std::alloc::AllocError;
 
 /// Builds a strip whose open sites are listed, and cuts it twice: with the open sites outside it at

@@ -3,15 +3,15 @@
 ghost use Rattle.std.specs.Prelude.{◌≡◌, ◌+◌, ◌<◌, ◌≤◌, List, map, length, vec_len};
 ghost use Rattle.std.specs.Prelude.{IfOk, OnOk};
 ghost use Rattle.label_field.specs.Limits.{site_limit};
-ghost use Rattle.labellings.specs.Energies.{IsInstance};
+ghost use Rattle.label_energies.specs.Energies.{IsInstance};
 ghost use Rattle.compile_cut.specs.Weights.{weights_size};
 ghost use Rattle.move_energy.specs.declared.choice.Choice.{Choice as AnyChoice};
 ghost use Rattle.move_energy.specs.Choices.{choice_at, AreOpenSites};
 ghost use Rattle.move_energy.specs.Limits.{weights_limit};
-ghost use Rattle.move_rises.specs.MoveValues.{move_value};
-ghost use Rattle.deciding.specs.Parts.{ArePassedChoices, site_weight};
+ghost use Rattle.move_prices.specs.MoveValues.{move_value};
+ghost use Rattle.site_bounds.specs.Parts.{ArePassedChoices, site_weight};
 ghost use Rattle.site_forms.specs.Numbers.{IsOverPairs, WhereRead};
-ghost use Rattle.closing_in.specs.Agreeing.{Agree};
+ghost use Rattle.persistency.specs.Agreeing.{Agree};
 ghost use Rattle.strips.specs.Parts.{IsPartClosed, IsPartAnswer, OfParts, DecidesTold};
 ghost use Rattle.strips.specs.Parts.{EndsWithStrip, PartsEndWithStrips};
 ghost use Rattle.strips.specs.Views.{KeepsChosen, strip_view};
@@ -19,9 +19,9 @@ ghost use Rattle.strips.specs.Views.{KeepsChosen, strip_view};
 use crate::closing::Strips;
 use crate::opening::list_next;
 use crate::parts::{codes_of, join_parts, part_start};
-use deciding::{SiteForm, read_weight, sweep};
+use cut_ways::Fork;
 use move_energy::Choice;
-use solvers::Fork;
+use site_bounds::{SiteForm, read_weight, sweep};
 use std::alloc::{AllocError, Global};
 
 /// Lists what each open site of a range weighs by what is known.

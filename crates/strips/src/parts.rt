@@ -4,7 +4,7 @@ ghost use Rattle.std.specs.Prelude.{slice_index_or};
 ghost use Rattle.std.specs.Result.{IsOk};
 ghost use Rattle.label_field.specs.Limits.{site_limit};
 ghost use Rattle.move_energy.specs.Choices.{choice_at};
-ghost use Rattle.closing_in.specs.Agreeing.{Agree};
+ghost use Rattle.persistency.specs.Agreeing.{Agree};
 ghost use Rattle.strips.specs.Parts.{ArePartCodes, OfParts, FillsPart, IsPartJoined};
 ghost use Rattle.strips.specs.Parts.{choice_of_code};
 ghost use Rattle.strips.specs.Parts.{coded_at, known_or, part_start as start_of};

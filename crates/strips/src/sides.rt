@@ -6,7 +6,7 @@ ghost use Rattle.pseudo_bool.specs.Energies.{assignment};
 ghost use Rattle.pseudo_bool.specs.Limits.{term_limit};
 ghost use Rattle.compile_cut.specs.declared.quadratic.Quadratic.{Quadratic as Form};
 ghost use Rattle.compile_cut.specs.Quadratics.{quadratic_value, IsQuadraticBounded};
-ghost use Rattle.deciding.specs.Decisions.{IsSmallestLeast};
+ghost use Rattle.site_bounds.specs.Decisions.{IsSmallestLeast};
 ghost use Rattle.sink_distances.specs.Laid.{laid_net};
 ghost use Rattle.sink_distances.specs.Standing.{AreLaid};
 ghost use Rattle.strips.specs.Limits.{borders_limit};

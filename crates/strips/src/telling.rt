@@ -4,8 +4,8 @@ ghost use Rattle.move_energy.specs.Choices.{open_at};
 ghost use Rattle.strips.specs.Sides.{IsAsTold};
 
 use crate::opening::list_left;
-use closing_in::add_strip;
 use move_energy::Choice;
+use persistency::add_strip;
 use plain_cut::BothSides;
 use std::alloc::AllocError;
 

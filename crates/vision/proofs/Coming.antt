@@ -1,8 +1,8 @@
 -- What one way to cut may refuse some way may.
 use Rattle.moves.specs.Problems.{IsRunRefusal}
-use Rattle.single_moves.specs.declared.error.MoveError.{MoveError}
-use Rattle.single_moves.specs.declared.error.MoveError.TheVariants as move
-use Rattle.solvers.specs.declared.solve_error.SolveError.{SolveError}
+use Rattle.one_move.specs.declared.error.MoveError.{MoveError}
+use Rattle.one_move.specs.declared.error.MoveError.TheVariants as move
+use Rattle.cut_ways.specs.declared.solve_error.SolveError.{SolveError}
 use Rattle.vision.specs.Faults.{any_cut}
 
 pub any_run : (refuses : SolveError → Type 0) (e : MoveError) → IsRunRefusal refuses e → IsRunRefusal any_cut e

@@ -1,15 +1,15 @@
 -- From a run to what is written.
 use Rattle.std.proofs.Common.{◌≡◌, ◌∙◌, ℕ, ◌+◌, ◌≤◌, ℤ, pos, ◌+ℤ◌, ◌≤ℤ◌, Bool, true, false, List, Option, Some, None, IfSome, IsTrue, IsFalse, replicate, Ok, Err, if◌then◌else◌, inr, refl, sym, ap, subst, arith}
 use Rattle.std.proofs.lemmas.Int.{ints}
-use Rattle.labellings.specs.Energies.{Instance, labelling, data_energy, smooth_energy, label_energy}
+use Rattle.label_energies.specs.Energies.{Instance, labelling, data_energy, smooth_energy, label_energy}
 use Rattle.moves.specs.Runs.{AnswersRun, TellsBound}
 use Rattle.moves.specs.declared.tables.Run.{Run}
 use Rattle.moves.specs.declared.bound.Bound.{Bound}
-use Rattle.single_moves.specs.declared.error.MoveError.{MoveError}
-use Rattle.solvers.specs.declared.solve_error.SolveError.{SolveError}
+use Rattle.one_move.specs.declared.error.MoveError.{MoveError}
+use Rattle.cut_ways.specs.declared.solve_error.SolveError.{SolveError}
 use Rattle.moves.specs.Problems.{IsRunRefusal}
 use Rattle.pgm_image.specs.Picture.{Picture, picture, IsPicture}
-use Rattle.labellings.specs.declared.cycles.Moves.{Moves}
+use Rattle.label_energies.specs.declared.cycles.Moves.{Moves}
 use Rattle.vision.specs.Faults.{HasRunError, TellsRun}
 use Rattle.vision.specs.declared.error.VisionError.{VisionError}
 use Rattle.vision.specs.Jobs.{Job, job_of, EndsAt, Reports, IsReadyToWrite}

@@ -2,10 +2,10 @@
 use Rattle.std.proofs.Common.{◌≡◌, ◌≢◌, ℕ, ◌<◌, ◌≤◌, ◌⊎◌, List, ℤ, inl, inr, refl, subst}
 use Rattle.cost_store.specs.Promises.{IsMetricTable, IsTable}
 use Rattle.cost_store.proofs.Metrics.{linear_metric, potts_metric, table_of_metric}
-use Rattle.labellings.specs.Energies.{IsMetric}
+use Rattle.label_energies.specs.Energies.{IsMetric}
 use Rattle.moves.specs.Problems.{TellsPairNotRegular}
-use Rattle.single_moves.specs.declared.error.MoveError.{MoveError}
-use Rattle.single_moves.specs.declared.error.MoveError.TheVariants as move
+use Rattle.one_move.specs.declared.error.MoveError.{MoveError}
+use Rattle.one_move.specs.declared.error.MoveError.TheVariants as move
 use Rattle.run_options.specs.Shapes.{shape_cost}
 use Rattle.run_options.specs.declared.shape.Shape.{Shape}
 use Rattle.run_options.specs.declared.shape.Shape.TheVariants.{Potts, Linear, Quadratic}

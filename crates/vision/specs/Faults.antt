@@ -3,9 +3,9 @@
 use Rattle.std.specs.Prelude.{◌≡◌, ℕ, ◌<◌, ◌⊎◌, ⊤, List}
 use Rattle.byte_streams.specs.Streams.{Stream}
 use Rattle.byte_streams.specs.declared.sink.WriteFailed.{WriteFailed}
-use Rattle.single_moves.specs.declared.error.MoveError.{MoveError}
-use Rattle.single_moves.specs.declared.error.MoveError.TheVariants as move
-use Rattle.solvers.specs.declared.solve_error.SolveError.{SolveError}
+use Rattle.one_move.specs.declared.error.MoveError.{MoveError}
+use Rattle.one_move.specs.declared.error.MoveError.TheVariants as move
+use Rattle.cut_ways.specs.declared.solve_error.SolveError.{SolveError}
 use Rattle.moves.specs.Problems.{IsRunRefusal}
 use Rattle.pgm_image.specs.Front.{RefusesFront}
 use Rattle.pgm_image.specs.Picture.{Picture}

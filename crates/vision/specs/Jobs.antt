@@ -2,19 +2,20 @@
 use Rattle.std.specs.Prelude.{◌≡◌, ℕ, ◌-◌, max, Bool, false, IsTrue, IsFalse, IfSome, ◌≤◌, List}
 use Rattle.std.specs.Prelude.{replicate, None, pos, Err}
 use Rattle.byte_streams.specs.Streams.{Stops, Stream, Takes}
-use Rattle.labellings.specs.declared.change.Move.{Move}
-use Rattle.labellings.specs.Energies.{Instance, labelling, data_energy, smooth_energy, label_energy}
-use Rattle.labellings.specs.Energies.{energy}
-use Rattle.labellings.specs.Chains.{IsChain, moves_of}
+use Rattle.label_energies.specs.declared.change.Move.{Move}
+use Rattle.label_energies.specs.Energies.{Instance, labelling, data_energy, smooth_energy}
+use Rattle.label_energies.specs.Energies.{label_energy}
+use Rattle.label_energies.specs.Energies.{energy}
+use Rattle.label_energies.specs.Chains.{IsChain, moves_of}
 use Rattle.moves.specs.Runs.{MayMake, TellsBound}
 use Rattle.moves.specs.Problems.{IsRunOfCycles}
-use Rattle.single_moves.specs.declared.error.MoveError.{MoveError}
-use Rattle.single_moves.specs.declared.error.MoveError.TheVariants.{LabelCostInSwap}
+use Rattle.one_move.specs.declared.error.MoveError.{MoveError}
+use Rattle.one_move.specs.declared.error.MoveError.TheVariants.{LabelCostInSwap}
 use Rattle.pgm_image.specs.Picture.{Picture, picture, IsPicture}
 use Rattle.pgm_image.specs.Written.{written_form}
 use Rattle.run_options.specs.Limits.{greatest_smooth_cost}
-use Rattle.labellings.specs.declared.cycles.Moves.{Moves}
-use Rattle.labellings.specs.declared.cycles.Moves.TheVariants.{Expansion}
+use Rattle.label_energies.specs.declared.cycles.Moves.{Moves}
+use Rattle.label_energies.specs.declared.cycles.Moves.TheVariants.{Expansion}
 use Rattle.run_options.specs.declared.options.RestoreOptions.{RestoreOptions}
 use Rattle.run_options.specs.declared.options.StereoOptions.{StereoOptions}
 use Rattle.run_options.specs.declared.options.SegmentOptions.{SegmentOptions}

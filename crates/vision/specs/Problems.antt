@@ -4,7 +4,7 @@ use Rattle.std.specs.Prelude.{◌≡◌, ℕ, ◌+◌, ◌-◌, ◌*◌, ◌<◌
 use Rattle.std.specs.Prelude.{map, slice_index, unwrap_or, if◌then◌else◌}
 use Rattle.label_field.specs.declared.pair.Pair.{Pair}
 use Rattle.label_field.specs.Grids.{grid, steps4, steps8, column, distance}
-use Rattle.labellings.specs.Energies.{Instance}
+use Rattle.label_energies.specs.Energies.{Instance}
 use Rattle.run_options.specs.declared.shape.Shape.TheVariants.{Potts}
 use Rattle.run_options.specs.Shapes.{shape_cost}
 use Rattle.run_options.specs.declared.options.Neighbours.{Neighbours}

@@ -4,7 +4,7 @@ ghost use Rattle.std.specs.Prelude.{IfErr, IfSome, IsTrue, MatchResult, OnOk, le
 ghost use Rattle.std.specs.Prelude.{if◌then◌else◌};
 ghost use Rattle.byte_streams.specs.Streams.{Stops, Takes};
 ghost use Rattle.label_field.specs.Limits.{label_limit};
-ghost use Rattle.labellings.specs.Energies.{Instance};
+ghost use Rattle.label_energies.specs.Energies.{Instance};
 ghost use Rattle.cost_store.specs.Limits.{data_energy_limit, data_limit, label_energy_limit};
 ghost use Rattle.cost_store.specs.Limits.{smooth_energy_limit, smooth_limit};
 ghost use Rattle.cost_store.specs.LabelCosts.{cost_at, AreLabelCosts, HasCosts, costs_of};
@@ -22,8 +22,8 @@ use crate::error::run_error;
 use crate::{Report, VisionError};
 use byte_streams::Sink;
 use cost_store::{DataCost, is_metric};
+use label_energies::Moves;
 use label_field::{Labelling, Pairs};
-use labellings::Moves;
 use moves::{Bound, How, LabelPrices, Request, Run, run_with_table};
 use pgm_image::{Image, put_image};
 use run_options::{Shape, smooth_table};

@@ -15,7 +15,7 @@ use crate::pairs::edge_pairs;
 use crate::{Report, VisionError};
 use byte_streams::Sink;
 use cost_store::DataCost;
-use labellings::Moves;
+use label_energies::Moves;
 use moves::{How, LabelPrices};
 use pgm_image::Image;
 use run_options::{SegmentOptions, Shape};

@@ -1,7 +1,7 @@
 use Rattle.std.proofs.Common.{◌≡◌, ◌+◌, length, refl, ◌∙◌, ap, subst, arith}
 use Rattle.std.proofs.lemmas.Grind.{common_steps}
 use Rattle.std.proofs.lemmas.List.{length-map}
-use Rattle.block_turns.specs.declared.letter.Letter.{Letter}
+use Rattle.block_discharge.specs.declared.letter.Letter.{Letter}
 use Rattle.block_workers.specs.Ports.{letters_waiting}
 use Rattle.block_rings.specs.Left.{AreKeptByWays}
 use Rattle.block_rings.proofs.Moving.{left_is, same_port, some_first, long_more, kept_more, square_more, left_more, kept_tail, moved_all, taken_on, all_out}

@@ -1,7 +1,7 @@
 use Rattle.std.proofs.Common.{◌≡◌, ◌+◌, ◌≤◌, ◌++◌, length}
 use Rattle.block_events.specs.States.{way_at, put_way}
 use Rattle.block_events.specs.Soundness.{IsSquare}
-use Rattle.block_core.specs.AllWays.{room_at}
+use Rattle.block_state.specs.AllWays.{room_at}
 use Rattle.block_workers.specs.Ports.{IsSamePort, letters_put, letters_taken, letters_waiting}
 use Rattle.block_workers.specs.Seeing.{messages}
 use Rattle.block_rings.specs.Left.{AreKeptByWays}

@@ -1,6 +1,6 @@
 use Rattle.std.proofs.Common.{arith}
 use Rattle.std.proofs.lemmas.Grind.{common_steps}
-use Rattle.block_turns.proofs.Runs.{look_same, look_more}
+use Rattle.block_discharge.proofs.Runs.{look_same, look_more}
 use Rattle.block_workers.specs.Seeing.{ways_of_ports}
 use Rattle.block_workers.proofs.Looking.{same_ports, same_more, looked, kept}
 use Rattle.block_workers.proofs.ends.has_letter.Goals as goal

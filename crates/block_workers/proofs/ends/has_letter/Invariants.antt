@@ -1,4 +1,4 @@
-use Rattle.block_turns.specs.Seen.{IsLook}
+use Rattle.block_discharge.specs.Seen.{IsLook}
 use Rattle.block_workers.specs.Seeing.{AreSame, ways_of_ports}
 use Rattle.block_workers.proofs.ends.has_letter.Given as goal
 

@@ -1,6 +1,6 @@
 use Rattle.std.proofs.Common.{◌≡◌, ◌*◌, ◌≤◌, length}
 use Rattle.sums.specs.Sums.{sum_below, count_if}
-use Rattle.labellings.specs.Energies.{labelling as labels_of, is_used as is_used_in}
+use Rattle.label_energies.specs.Energies.{labelling as labels_of, is_used as is_used_in}
 use Rattle.cost_store.specs.LabelCosts.{cost_at}
 use Rattle.cost_store.proofs.by_label.total_paid.Given as goal
 

@@ -1,5 +1,5 @@
 use Rattle.std.proofs.Common.{refl}
-use Rattle.labellings.specs.Energies.{labelling}
+use Rattle.label_energies.specs.Energies.{labelling}
 use Rattle.cost_store.proofs.Marking.{none_marked, one_marked}
 use Rattle.cost_store.proofs.marks.mark_used.Goals as goal
 

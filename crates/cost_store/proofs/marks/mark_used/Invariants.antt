@@ -1,4 +1,4 @@
-use Rattle.labellings.specs.Energies.{labelling}
+use Rattle.label_energies.specs.Energies.{labelling}
 use Rattle.cost_store.specs.LabelCosts.{AreLabelMarks}
 use Rattle.cost_store.proofs.marks.mark_used.Given as goal
 

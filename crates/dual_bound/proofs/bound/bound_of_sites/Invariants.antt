@@ -1,6 +1,6 @@
 use Rattle.std.proofs.Common.{ℕ, ◌*◌, ◌≤◌}
 use Rattle.sums.specs.Sums.{sum_below}
-use Rattle.labellings.specs.Energies.{Instance, IsLabelled}
+use Rattle.label_energies.specs.Energies.{Instance, IsLabelled}
 use Rattle.cost_store.specs.Posed.{IsMeant}
 use Rattle.dual_bound.specs.Bounds.{IsCheapest}
 use Rattle.dual_bound.proofs.bound.bound_of_sites.Given as goal

@@ -1,5 +1,5 @@
 use Rattle.std.proofs.Common.{ℕ, ◌<◌, ◌≤◌}
-use Rattle.labellings.specs.Energies.{Instance}
+use Rattle.label_energies.specs.Energies.{Instance}
 use Rattle.cost_store.specs.Posed.{IsMeant}
 use Rattle.cost_store.specs.Limits.{site_cost_limit}
 use Rattle.dual_bound.proofs.bound.least_cost.Given as goal

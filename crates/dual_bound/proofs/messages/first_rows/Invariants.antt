@@ -1,5 +1,5 @@
 use Rattle.std.proofs.Common.{ℕ, ◌≡◌, ◌+◌, ◌*◌, ◌/◌, ◌%◌, ◌<◌, ◌≤◌, slice_index, vec_len, vec_capacity}
-use Rattle.labellings.specs.Energies.{Instance}
+use Rattle.label_energies.specs.Energies.{Instance}
 use Rattle.cost_store.specs.Posed.{IsMeant}
 use Rattle.dual_bound.specs.Rows.{ground}
 use Rattle.dual_bound.specs.Costs.{parts}

@@ -1,5 +1,5 @@
 use Rattle.std.proofs.Common.{◌≡◌}
-use Rattle.labellings.specs.Energies.{Instance}
+use Rattle.label_energies.specs.Energies.{Instance}
 use Rattle.dual_bound.specs.Rows.{AreRowsInRange}
 use Rattle.dual_bound.specs.Costs.{AreSmoothCosts}
 use Rattle.dual_bound.specs.Bounds.{AreUnder}

@@ -2,9 +2,9 @@ use Rattle.std.proofs.Common.{◌≡◌, ◌<◌, [], ◌∷◌, ◌++◌, lengt
 use Rattle.std.proofs.lemmas.Bool.{cases_lt, true≢false}
 use Rattle.block_net.specs.Views.{CellsView}
 use Rattle.block_net.specs.Whole.{Whole, block_at}
-use Rattle.block_opening.specs.Split.{whole_of}
-use Rattle.laid_blocks.specs.Views.{blocks_in}
-use Rattle.laid_blocks.proofs.Steps.{at_read}
+use Rattle.block_split.specs.Split.{whole_of}
+use Rattle.net_in_blocks.specs.Views.{blocks_in}
+use Rattle.net_in_blocks.proofs.Steps.{at_read}
 use Rattle.global_relabel.specs.Lowering.{AreOffersTold, IsAboveTold, IsAllowedBy, IsBorderOffered, IsOfferAt}
 use Rattle.global_relabel.proofs.Falling.{down_more, down_for, tight_start}
 use Rattle.global_relabel.proofs.Offering.{allowed_told, below_push, place_below, border_falls, border_last, border_met, border_push, border_unoffered, offers_push, told_none, told_of_offer, told_push}

@@ -1,5 +1,5 @@
 use Rattle.std.specs.Prelude.{◌≡◌, ℕ, ◌<◌, IsFalse, IsTrue, length}
-use Rattle.block_opening.specs.Split.{whole_of}
+use Rattle.block_split.specs.Split.{whole_of}
 use Rattle.global_relabel.specs.Lowering.{AreOffersBelow, AreOffersTo, AreOffersTold, IsLowerSomewhere, AreTight, ComeDown, IsAboveTold, IsBorderOffered}
 use Rattle.global_relabel.proofs.block_labels.list_offers.Given as goal
 

@@ -1,9 +1,9 @@
 use Rattle.std.proofs.Common.{◌≡◌, ℕ, ◌+◌, ◌<◌, slice_index, refl, sym, ap, subst, arith}
 use Rattle.block_net.specs.Views.{CellsView, count, lane_in}
 use Rattle.block_net.specs.Whole.{Whole, block_at}
-use Rattle.block_opening.specs.Split.{whole_of}
-use Rattle.laid_blocks.specs.Views.{IsSpot, blocks_in}
-use Rattle.laid_blocks.proofs.Steps.{at_read}
+use Rattle.block_split.specs.Split.{whole_of}
+use Rattle.net_in_blocks.specs.Views.{IsSpot, blocks_in}
+use Rattle.net_in_blocks.proofs.Steps.{at_read}
 use Rattle.sink_distances.specs.Search.{found_of}
 use Rattle.global_relabel.specs.Lowering.{FallsTo, StepsWithin}
 use Rattle.global_relabel.proofs.Homing.{spot_at}

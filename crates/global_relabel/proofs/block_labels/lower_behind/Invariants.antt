@@ -1,5 +1,5 @@
 use Rattle.std.specs.Prelude.{◌≡◌, ℕ, ◌+◌, ◌<◌, slice_index}
-use Rattle.block_opening.specs.Split.{whole_of}
+use Rattle.block_split.specs.Split.{whole_of}
 use Rattle.sink_distances.specs.Search.{found_of}
 use Rattle.global_relabel.specs.Lowering.{FallsTo, StepsWithin}
 use Rattle.global_relabel.proofs.Falling.{AreLabelledTo}

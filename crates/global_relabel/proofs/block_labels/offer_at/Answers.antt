@@ -1,9 +1,9 @@
 use Rattle.std.proofs.Common.{length, refl, ap, arith}
 use Rattle.block_net.specs.Views.{CellsView}
 use Rattle.block_net.specs.Whole.{Whole}
-use Rattle.block_opening.specs.Split.{whole_of}
-use Rattle.laid_blocks.specs.Views.{blocks_in}
-use Rattle.laid_blocks.proofs.Steps.{at_read}
+use Rattle.block_split.specs.Split.{whole_of}
+use Rattle.net_in_blocks.specs.Views.{blocks_in}
+use Rattle.net_in_blocks.proofs.Steps.{at_read}
 use Rattle.global_relabel.proofs.Places.{IsBorderEnd, border_at_block}
 use Rattle.global_relabel.proofs.block_labels.offer_at.Goals as goal
 

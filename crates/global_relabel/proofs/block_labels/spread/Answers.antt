@@ -2,7 +2,7 @@ use Rattle.std.proofs.Common.{◌≡◌, ℕ, ◌+◌, ◌<◌, length, slice_in
 use Rattle.std.proofs.lemmas.Bool.{cases_lt}
 use Rattle.std.proofs.lemmas.List.{get_or_default}
 use Rattle.block_net.specs.Whole.{Whole}
-use Rattle.block_opening.specs.Split.{whole_of}
+use Rattle.block_split.specs.Split.{whole_of}
 use Rattle.sink_distances.specs.Search.{found_of}
 use Rattle.global_relabel.specs.declared.block_labels.Offer.{Offer}
 use Rattle.global_relabel.specs.Lowering.{FallsTo, IsAllowedBy, IsReadyFor, StepsWithin}

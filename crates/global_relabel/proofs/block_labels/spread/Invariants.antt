@@ -1,5 +1,5 @@
 use Rattle.std.specs.Prelude.{◌≡◌, ℕ, ◌+◌, ◌<◌, ◌≤◌, length, slice_index, slice_index_or}
-use Rattle.block_opening.specs.Split.{whole_of}
+use Rattle.block_split.specs.Split.{whole_of}
 use Rattle.sink_distances.specs.Search.{found_of}
 use Rattle.global_relabel.specs.declared.block_labels.Offer.{Offer}
 use Rattle.global_relabel.specs.Lowering.{ComeDown, IsAllowedBy, IsQueue, IsTightUpTo}

@@ -4,9 +4,9 @@ use Rattle.std.proofs.lemmas.List.{get_or_read}
 use Rattle.flow_network.specs.Cut.{Network}
 use Rattle.block_net.specs.Views.{CellsView, count}
 use Rattle.block_net.specs.Whole.{block_at, state_shown}
-use Rattle.block_opening.specs.Split.{whole_of}
-use Rattle.laid_blocks.specs.Views.{blocks_in, IsSpot}
-use Rattle.laid_blocks.proofs.Steps.{at_read}
+use Rattle.block_split.specs.Split.{whole_of}
+use Rattle.net_in_blocks.specs.Views.{blocks_in, IsSpot}
+use Rattle.net_in_blocks.proofs.Steps.{at_read}
 use Rattle.global_relabel.specs.Local.{IsLocallyExact}
 use Rattle.global_relabel.proofs.Homing.{number_below, spot_at}
 use Rattle.global_relabel.proofs.Nearby.{number_blocks, block_of_places, place_of_block}

@@ -1,6 +1,6 @@
 use Rattle.std.proofs.Common.{ℕ, ◌+◌, ◌<◌}
 use Rattle.block_net.specs.Whole.{state_shown}
-use Rattle.block_opening.specs.Split.{whole_of}
+use Rattle.block_split.specs.Split.{whole_of}
 use Rattle.global_relabel.specs.Local.{IsLocallyExact}
 use Rattle.global_relabel.proofs.exactness.is_block_exact.Given as goal
 

@@ -2,9 +2,9 @@ use Rattle.std.proofs.Common.{◌≡◌, ◌≤◌, ◌⊎◌, inl, inr, refl, �
 use Rattle.flow_network.specs.Progress.{top}
 use Rattle.block_events.specs.States.{State}
 use Rattle.block_net.specs.Whole.{Whole, state_shown}
-use Rattle.block_opening.specs.Split.{whole_of}
-use Rattle.laid_blocks.specs.Views.{blocks_in}
-use Rattle.laid_blocks.proofs.Steps.{at_read, room_read, top_read}
+use Rattle.block_split.specs.Split.{whole_of}
+use Rattle.net_in_blocks.specs.Views.{blocks_in}
+use Rattle.net_in_blocks.proofs.Steps.{at_read, room_read, top_read}
 use Rattle.global_relabel.specs.Local.{GivesSink}
 use Rattle.global_relabel.proofs.Nearby.{exact_of_least, least_of_exact, not_between}
 use Rattle.global_relabel.proofs.exactness.is_node_exact.Goals as goal

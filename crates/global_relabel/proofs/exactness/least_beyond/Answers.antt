@@ -1,9 +1,9 @@
 use Rattle.std.proofs.Common.{true, slice_index, refl, ◌∙◌, ap, arith}
 use Rattle.block_net.specs.declared.lanes.Border.{Border}
 use Rattle.block_net.specs.Whole.{Whole}
-use Rattle.block_opening.specs.Split.{whole_of}
-use Rattle.laid_blocks.specs.Views.{blocks_in}
-use Rattle.laid_blocks.proofs.Steps.{at_read}
+use Rattle.block_split.specs.Split.{whole_of}
+use Rattle.net_in_blocks.specs.Views.{blocks_in}
+use Rattle.net_in_blocks.proofs.Steps.{at_read}
 use Rattle.global_relabel.proofs.Places.{IsBorderEnd, border_at_place, border_place, border_residual}
 use Rattle.global_relabel.proofs.Nearby.{least_none, least_more, least_all}
 use Rattle.global_relabel.proofs.exactness.least_beyond.Goals as goal

@@ -1,5 +1,5 @@
 use Rattle.std.specs.Prelude.{true}
-use Rattle.block_opening.specs.Split.{whole_of}
+use Rattle.block_split.specs.Split.{whole_of}
 use Rattle.global_relabel.proofs.Nearby.{IsLeastUpTo}
 use Rattle.global_relabel.proofs.exactness.least_beyond.Given as goal
 

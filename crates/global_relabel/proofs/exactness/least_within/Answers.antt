@@ -2,9 +2,9 @@ use Rattle.std.proofs.Common.{◌≡◌, ◌+◌, false, slice_index, refl, ◌�
 use Rattle.std.proofs.lemmas.List.{get_or_read}
 use Rattle.block_net.specs.declared.lanes.InnerLane.{InnerLane}
 use Rattle.block_net.specs.Whole.{Whole}
-use Rattle.block_opening.specs.Split.{whole_of}
-use Rattle.laid_blocks.specs.Views.{blocks_in}
-use Rattle.laid_blocks.proofs.Steps.{at_read}
+use Rattle.block_split.specs.Split.{whole_of}
+use Rattle.net_in_blocks.specs.Views.{blocks_in}
+use Rattle.net_in_blocks.proofs.Steps.{at_read}
 use Rattle.global_relabel.proofs.Places.{lane_at_place, lane_place, lane_residual}
 use Rattle.global_relabel.proofs.Nearby.{least_none, least_more, least_all}
 use Rattle.global_relabel.proofs.exactness.least_within.Goals as goal

@@ -4,9 +4,9 @@ use Rattle.flow_network.specs.Cut.{nodes}
 use Rattle.block_events.specs.States.{State, block_of}
 use Rattle.block_net.specs.Views.{CellsView, count}
 use Rattle.block_net.specs.Whole.{block_at}
-use Rattle.block_opening.specs.Split.{whole_of}
-use Rattle.laid_blocks.specs.Views.{blocks_in}
-use Rattle.laid_blocks.proofs.Steps.{at_read}
+use Rattle.block_split.specs.Split.{whole_of}
+use Rattle.net_in_blocks.specs.Views.{blocks_in}
+use Rattle.net_in_blocks.proofs.Steps.{at_read}
 use Rattle.global_relabel.proofs.Homing.{number_below, node_blocks_more}
 use Rattle.global_relabel.proofs.node_blocks.write_node_blocks.Goals as goal
 

@@ -3,9 +3,9 @@ use Rattle.std.proofs.lemmas.Bool.{true≢false}
 use Rattle.std.proofs.lemmas.List.{get_or_read}
 use Rattle.block_net.specs.Views.{CellsView, count}
 use Rattle.block_net.specs.Whole.{block_at}
-use Rattle.block_opening.specs.Split.{whole_of}
-use Rattle.laid_blocks.specs.Views.{blocks_in}
-use Rattle.laid_blocks.proofs.Steps.{at_read}
+use Rattle.block_split.specs.Split.{whole_of}
+use Rattle.net_in_blocks.specs.Views.{blocks_in}
+use Rattle.net_in_blocks.proofs.Steps.{at_read}
 use Rattle.global_relabel.specs.Rest.{IsAtRest}
 use Rattle.global_relabel.proofs.Resting.{place_below, rest_of_finished, finished_of_rest}
 use Rattle.global_relabel.proofs.rest_test.is_at_rest.Goals as goal

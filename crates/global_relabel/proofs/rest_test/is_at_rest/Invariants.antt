@@ -1,6 +1,6 @@
 use Rattle.std.proofs.Common.{ℕ, ◌<◌, slice_index}
 use Rattle.block_net.specs.Whole.{block_at}
-use Rattle.block_opening.specs.Split.{whole_of}
+use Rattle.block_split.specs.Split.{whole_of}
 use Rattle.global_relabel.specs.Rest.{IsAtRest}
 use Rattle.global_relabel.proofs.rest_test.is_at_rest.Given as goal
 

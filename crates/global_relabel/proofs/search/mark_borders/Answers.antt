@@ -5,9 +5,9 @@ use Rattle.sink_distances.specs.Search.{found_of}
 use Rattle.sink_distances.proofs.Order.{count-le-length}
 use Rattle.block_net.specs.Views.{CellsView, border_in}
 use Rattle.block_net.specs.Whole.{Whole, no_block, block_at}
-use Rattle.block_opening.specs.Split.{whole_of}
-use Rattle.laid_blocks.specs.Views.{blocks_in}
-use Rattle.laid_blocks.proofs.Steps.{at_read}
+use Rattle.block_split.specs.Split.{whole_of}
+use Rattle.net_in_blocks.specs.Views.{blocks_in}
+use Rattle.net_in_blocks.proofs.Steps.{at_read}
 use Rattle.global_relabel.proofs.Places.{IsBorderEnd, border_at_place, border_place}
 use Rattle.global_relabel.proofs.Seeing.{seen_none, seen_more, seen_all}
 use Rattle.global_relabel.proofs.search.mark_borders.Goals as goal

@@ -2,7 +2,7 @@ use Rattle.std.proofs.Common.{length, ◌≤◌, slice_index, ◌+◌, arith}
 use Rattle.flow_network.specs.Progress.{top_label}
 use Rattle.sink_distances.specs.Search.{found_of}
 use Rattle.sink_distances.proofs.Order.{count-le-length, grows_falls}
-use Rattle.block_opening.specs.Split.{whole_of}
+use Rattle.block_split.specs.Split.{whole_of}
 use Rattle.global_relabel.proofs.Seeing.{both_marked}
 use Rattle.global_relabel.proofs.search.mark_into.Goals as goal
 

@@ -1,6 +1,6 @@
 use Rattle.std.specs.Prelude.{false}
 use Rattle.sink_distances.specs.Search.{found_of}
-use Rattle.block_opening.specs.Split.{whole_of}
+use Rattle.block_split.specs.Split.{whole_of}
 use Rattle.global_relabel.proofs.Seeing.{IsSeen}
 use Rattle.global_relabel.proofs.search.mark_lanes.Given as goal
 

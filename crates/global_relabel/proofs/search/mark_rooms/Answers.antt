@@ -2,9 +2,9 @@ use Rattle.std.proofs.Common.{◌≡◌, ◌<◌, length, slice_index, refl, ap,
 use Rattle.std.proofs.lemmas.List.{get_or_read}
 use Rattle.sink_distances.specs.Search.{found_of}
 use Rattle.block_net.specs.Views.{CellsView, count}
-use Rattle.laid_blocks.specs.Views.{blocks_in}
-use Rattle.block_opening.specs.Split.{whole_of}
-use Rattle.laid_blocks.proofs.Steps.{at_read}
+use Rattle.net_in_blocks.specs.Views.{blocks_in}
+use Rattle.block_split.specs.Split.{whole_of}
+use Rattle.net_in_blocks.proofs.Steps.{at_read}
 use Rattle.global_relabel.proofs.Rooms.{place_below, starts_more}
 use Rattle.global_relabel.proofs.search.mark_rooms.Goals as goal
 

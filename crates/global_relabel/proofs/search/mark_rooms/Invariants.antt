@@ -2,7 +2,7 @@ use Rattle.std.proofs.Common.{ℕ, ◌<◌, ◌≤◌, slice_index}
 use Rattle.flow_network.specs.Cut.{nodes}
 use Rattle.sink_distances.specs.Search.{found_of, AreStarts}
 use Rattle.block_net.specs.Whole.{node_block}
-use Rattle.block_opening.specs.Split.{whole_of}
+use Rattle.block_split.specs.Split.{whole_of}
 use Rattle.global_relabel.proofs.search.mark_rooms.Given as goal
 
 abbrev pub invariant-each : goal.invariant-each

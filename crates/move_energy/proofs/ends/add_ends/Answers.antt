@@ -1,5 +1,5 @@
 use Rattle.std.proofs.Common.{rules, ◌∙◌, ap, true, refl}
-use Rattle.labellings.specs.Moves.{label_after}
+use Rattle.label_energies.specs.Moves.{label_after}
 use Rattle.move_energy.proofs.Values.{first_adds, second_adds, none_adds, ends_fit, label_below}
 use Rattle.move_energy.proofs.Steps.{longer_still}
 use Rattle.move_energy.proofs.ends.add_ends.Goals as goal

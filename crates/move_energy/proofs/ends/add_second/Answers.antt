@@ -1,6 +1,6 @@
 use Rattle.std.proofs.Common.{◌*◌, ◌∙◌, ap, pos, Bool, w64, FitsSigned, true, false}
 use Rattle.std.proofs.lemmas.Int.{to_z-of_z}
-use Rattle.labellings.specs.Moves.{label_after}
+use Rattle.label_energies.specs.Moves.{label_after}
 use Rattle.move_energy.proofs.Values.{one_adds, label_below}
 use Rattle.move_energy.proofs.Steps.{longer_term}
 use Rattle.move_energy.proofs.ends.add_second.Goals as goal

@@ -1,5 +1,5 @@
 use Rattle.std.proofs.Common.{◌≡◌, ◌∙◌, sym, true, false}
-use Rattle.labellings.specs.Energies.{labelling}
+use Rattle.label_energies.specs.Energies.{labelling}
 use Rattle.move_energy.specs.BySite.{is_counted}
 use Rattle.move_energy.specs.Added.{added_by_pair}
 use Rattle.move_energy.specs.Choices.{choice_at, open_at, open_rank}

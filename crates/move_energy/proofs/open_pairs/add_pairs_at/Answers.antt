@@ -3,7 +3,7 @@ use Rattle.label_field.specs.declared.pair.Pair.{Pair}
 use Rattle.label_field.specs.PairLists.{IsPair}
 use Rattle.move_energy.specs.BySite.{degree, met_below}
 use Rattle.move_energy.proofs.Parts.{pair_has}
-use Rattle.labellings.specs.Energies.{labelling}
+use Rattle.label_energies.specs.Energies.{labelling}
 use Rattle.move_energy.specs.Built.{AddsCost, IsLonger}
 use Rattle.move_energy.specs.Added.{added_by_pair, IsRightFor}
 use Rattle.move_energy.specs.Choices.{choice_at, open_at, open_rank}

@@ -1,7 +1,7 @@
 use Rattle.std.proofs.Common.{All}
 use Rattle.cost_store.specs.Posed.{IsMeant}
 use Rattle.move_energy.specs.BySite.{met_below}
-use Rattle.labellings.specs.Energies.{Instance, labelling}
+use Rattle.label_energies.specs.Energies.{Instance, labelling}
 use Rattle.move_energy.specs.Added.{added_by_pair, IsRightFor}
 use Rattle.move_energy.specs.Choices.{choice_at, open_at, open_rank}
 use Rattle.move_energy.specs.Built.{AddsCost, IsLonger}

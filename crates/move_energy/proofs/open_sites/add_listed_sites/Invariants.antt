@@ -1,6 +1,6 @@
 use Rattle.std.proofs.Common.{take, sum_by}
 use Rattle.cost_store.specs.Posed.{IsMeant}
-use Rattle.labellings.specs.Energies.{Instance, labelling}
+use Rattle.label_energies.specs.Energies.{Instance, labelling}
 use Rattle.move_energy.specs.Choices.{choice_at, open_rank, made_by}
 use Rattle.move_energy.specs.Built.{AddsCost, IsLonger}
 use Rattle.move_energy.proofs.open_sites.add_listed_sites.Given as goal

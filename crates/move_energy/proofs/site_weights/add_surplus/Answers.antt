@@ -1,7 +1,7 @@
 use Rattle.std.proofs.Common.{◌<◌, pos, ◌≤ℤ◌, ◌<ℤ◌, length, unsigned_abs, ap, arith}
 use Rattle.std.proofs.lemmas.Int.{ints}
 use Rattle.std.proofs.lemmas.Result.{on_ok_weaker}
-use Rattle.labellings.specs.Energies.{labelling}
+use Rattle.label_energies.specs.Energies.{labelling}
 use Rattle.move_energy.specs.Choices.{choice_at, open_rank}
 use Rattle.move_energy.proofs.Numbers.{rank_below}
 use Rattle.move_energy.proofs.Weighed.{surplus_adds, surplus_none, surplus_passed, number_read, first_open, second_open}

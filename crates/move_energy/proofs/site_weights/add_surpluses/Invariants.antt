@@ -1,7 +1,7 @@
 use Rattle.std.proofs.Common.{take, sum_by}
 use Rattle.cost_store.specs.Posed.{IsMeant}
-use Rattle.labellings.specs.Energies.{Instance, labelling}
-use Rattle.labellings.specs.Moves.{IsAllowed}
+use Rattle.label_energies.specs.Energies.{Instance, labelling}
+use Rattle.label_energies.specs.Moves.{IsAllowed}
 use Rattle.move_energy.specs.Choices.{choice_at, open_rank}
 use Rattle.move_energy.specs.Built.{AddsCost, IsLonger}
 use Rattle.move_energy.specs.Weights.{unsaved_surplus}

@@ -1,5 +1,5 @@
 use Rattle.std.proofs.Common.{◌∙◌, ap, sym}
-use Rattle.labellings.specs.Energies.{labelling}
+use Rattle.label_energies.specs.Energies.{labelling}
 use Rattle.move_energy.specs.Weights.{surplus_of}
 use Rattle.move_energy.proofs.Weighed.{surplus_counted, surplus_uncounted, surplus_passed}
 use Rattle.move_energy.proofs.site_weights.open_surplus.Goals as goal

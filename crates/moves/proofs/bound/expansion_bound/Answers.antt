@@ -1,7 +1,7 @@
 use Rattle.std.proofs.Common.{◌∙◌, ℕ, List, ℤ, sym, subst}
-use Rattle.labellings.specs.Energies.{IsRatio}
+use Rattle.label_energies.specs.Energies.{IsRatio}
 use Rattle.cost_store.specs.LabelCosts.{AreFree}
-use Rattle.single_moves.proofs.Answers.{costs_free}
+use Rattle.one_move.proofs.Answers.{costs_free}
 use Rattle.cost_store.proofs.Meaning.{metric_meant, smooth_meant}
 use Rattle.moves.proofs.bound.expansion_bound.Goals as goal
 

@@ -1,8 +1,8 @@
 use Rattle.std.proofs.Common.{Bool, subst}
-use Rattle.labellings.specs.Energies.{labelling}
-use Rattle.labellings.specs.Chains.{IsChain, expansions}
-use Rattle.labellings.proofs.Chains.{settled_is_local}
-use Rattle.labellings.proofs.Ratio.{expansion_bound}
+use Rattle.label_energies.specs.Energies.{labelling}
+use Rattle.label_energies.specs.Chains.{IsChain, expansions}
+use Rattle.label_energies.proofs.Chains.{settled_is_local}
+use Rattle.label_energies.proofs.Ratio.{expansion_bound}
 use Rattle.moves.proofs.bound.settled_run_is_near.Goals as goal
 
 pub returns : goal.returns

@@ -1,5 +1,5 @@
 use Rattle.std.proofs.Common.{◌∙◌, ap, inl, inr}
-use Rattle.single_moves.specs.Refusals.{cut_told}
+use Rattle.one_move.specs.Refusals.{cut_told}
 use Rattle.moves.proofs.laws.alone_refuses_memory.Goals as goal
 
 pub returns : goal.returns

@@ -1,10 +1,10 @@
 use Rattle.std.proofs.Common.{◌∙◌, List, ℕ, sym, subst, arith}
 use Rattle.cost_store.proofs.Meaning.{pairs_meant}
-use Rattle.labellings.specs.declared.change.Move.TheVariants.{Expand}
-use Rattle.labellings.specs.Energies.{labelling}
+use Rattle.label_energies.specs.declared.change.Move.TheVariants.{Expand}
+use Rattle.label_energies.specs.Energies.{labelling}
 use Rattle.move_energy.specs.declared.choice.Choice.{Choice}
 use Rattle.move_energy.specs.Choices.{choice_at}
-use Rattle.stage_parts.specs.Parts.{AreZerosOf}
+use Rattle.near_change_parts.specs.Parts.{AreZerosOf}
 use Rattle.moves.proofs.Stages.{first_zeros, label_shown}
 use Rattle.moves.proofs.opening_apart.open_by_parts.Goals as goal
 

@@ -1,8 +1,8 @@
 use Rattle.std.proofs.Common.{◌≡◌, ◌↔◌, List, ℕ, true, sym, subst, arith}
 use Rattle.std.specs.List.{Contains}
-use Rattle.stages.specs.Looking.{is_marked}
-use Rattle.stages.proofs.Noting.{move_stamped}
-use Rattle.single_moves.proofs.Answers.{costs_free}
+use Rattle.near_changes.specs.Looking.{is_marked}
+use Rattle.near_changes.proofs.Noting.{move_stamped}
+use Rattle.one_move.proofs.Answers.{costs_free}
 use Rattle.moves.proofs.Stages.{not_taken}
 use Rattle.moves.proofs.run_moves.note_later.Goals as goal
 

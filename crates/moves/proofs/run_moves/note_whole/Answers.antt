@@ -1,8 +1,8 @@
 use Rattle.std.proofs.Common.{List, ℤ, subst, arith}
 use Rattle.cost_store.specs.LabelCosts.{AreFree}
-use Rattle.stages.proofs.Noting.{move_stamped}
-use Rattle.single_moves.specs.Building.{site_values}
-use Rattle.single_moves.proofs.Answers.{costs_free}
+use Rattle.near_changes.proofs.Noting.{move_stamped}
+use Rattle.one_move.specs.Building.{site_values}
+use Rattle.one_move.proofs.Answers.{costs_free}
 use Rattle.moves.proofs.Stages.{not_taken}
 use Rattle.moves.proofs.run_moves.note_whole.Goals as goal
 

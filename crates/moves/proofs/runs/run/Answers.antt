@@ -1,5 +1,5 @@
 use Rattle.std.proofs.Common.{◌∙◌, sym}
-use Rattle.labellings.specs.Chains.{moves_of}
+use Rattle.label_energies.specs.Chains.{moves_of}
 use Rattle.cost_store.proofs.Meaning.{pairs_meant}
 use Rattle.moves.proofs.OverMetric.{run_over_metric}
 use Rattle.moves.proofs.UnderWay.{finished}

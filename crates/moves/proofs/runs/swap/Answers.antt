@@ -1,5 +1,5 @@
 use Rattle.std.proofs.Common.{◌∙◌, sym}
-use Rattle.labellings.specs.declared.change.Move.TheVariants.{Swap}
+use Rattle.label_energies.specs.declared.change.Move.TheVariants.{Swap}
 use Rattle.cost_store.proofs.Meaning.{pairs_meant}
 use Rattle.moves.proofs.OverMetric.{moved_over_metric}
 use Rattle.moves.proofs.runs.swap.Goals as goal

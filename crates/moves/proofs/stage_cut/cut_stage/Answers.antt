@@ -1,11 +1,11 @@
 use Rattle.std.proofs.Common.{sym, subst, vec_len}
-use Rattle.labellings.specs.Energies.{labelling}
+use Rattle.label_energies.specs.Energies.{labelling}
 use Rattle.pseudo_bool.specs.Energies.{assignment}
 use Rattle.compile_cut.specs.declared.quadratic.Quadratic.{Quadratic}
 use Rattle.compile_cut.specs.Quadratics.{quadratic_value}
 use Rattle.move_energy.specs.Choices.{choice_at, open_rank, StandsFor}
 use Rattle.cost_store.proofs.Meaning.{pairs_meant}
-use Rattle.deciding.specs.Decisions.{IsSmallestLeast}
+use Rattle.site_bounds.specs.Decisions.{IsSmallestLeast}
 use Rattle.strips.specs.Looking.{IsStageLeast}
 use Rattle.moves.proofs.Stages.{stage_least, if_ok_map}
 use Rattle.moves.proofs.stage_cut.cut_stage.Goals as goal

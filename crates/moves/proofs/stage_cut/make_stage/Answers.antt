@@ -1,12 +1,12 @@
 use Rattle.std.proofs.Common.{◌≡◌, List, Bool, false, sym, subst, arith}
-use Rattle.labellings.specs.declared.change.Move.TheVariants.{Expand}
-use Rattle.labellings.specs.Energies.{labelling}
+use Rattle.label_energies.specs.declared.change.Move.TheVariants.{Expand}
+use Rattle.label_energies.specs.Energies.{labelling}
 use Rattle.move_energy.specs.declared.choice.Choice.{Choice}
 use Rattle.move_energy.specs.Choices.{choice_at, value_of}
 use Rattle.cost_store.proofs.Meaning.{pairs_meant}
-use Rattle.move_rises.specs.MoveValues.{move_value}
-use Rattle.closing_in.specs.Fixing.{AreLeastZeros}
-use Rattle.stages.specs.Looking.{is_marked, IsClosedIn}
+use Rattle.move_prices.specs.MoveValues.{move_value}
+use Rattle.persistency.specs.Fixing.{AreLeastZeros}
+use Rattle.near_changes.specs.Looking.{is_marked, IsClosedIn}
 use Rattle.moves.proofs.Stages.{closed_ends, next_zeros}
 use Rattle.moves.proofs.stage_cut.make_stage.Goals as goal
 

@@ -1,4 +1,4 @@
-use Rattle.block_opening.specs.Split.{whole_of}
+use Rattle.block_split.specs.Split.{whole_of}
 use Rattle.rounds.proofs.Borders.{small_blocks}
 use Rattle.rounds.proofs.Rounded.{fits, laid_after, held_after, round_after, few_after}
 use Rattle.rounds.proofs.round.round_of.Goals as goal

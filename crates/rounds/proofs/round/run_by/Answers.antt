@@ -1,5 +1,5 @@
 use Rattle.std.proofs.Common.{IfOk, subst, sym}
-use Rattle.block_core.specs.AllWays.{IsHeld}
+use Rattle.block_state.specs.AllWays.{IsHeld}
 use Rattle.block_events.specs.Events.{IsQuiet}
 use Rattle.block_events.specs.States.{State}
 use Rattle.rounds.specs.Short.{IsShortRound}

@@ -1,5 +1,5 @@
 use Rattle.std.proofs.Common.{◌≡◌, ◌<◌, ◌≤◌, ◌+◌, ◌*◌, ℕ, length, slice_index}
-use Rattle.labellings.specs.Energies.{Instance}
+use Rattle.label_energies.specs.Energies.{Instance}
 use Rattle.cost_store.specs.Posed.{IsMeant}
 use Rattle.site_forms.proofs.lists.list_costs.Given as goal
 

@@ -1,5 +1,5 @@
 use Rattle.std.proofs.Common.{◌≡◌, ◌<◌, ℕ, length, slice_index}
-use Rattle.labellings.specs.Moves.{label_after}
+use Rattle.label_energies.specs.Moves.{label_after}
 use Rattle.site_forms.proofs.lists.list_labels.Given as goal
 
 abbrev pub invariant-loop-label : goal.invariant-loop-label

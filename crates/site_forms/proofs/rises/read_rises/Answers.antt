@@ -1,5 +1,5 @@
 use Rattle.std.proofs.Common.{◌≡◌, ◌<◌, ◌≤◌, ◌-◌, ◌+◌, w64, to_z, true, false, arith, refl}
-use Rattle.move_rises.specs.Ends.{decided_or}
+use Rattle.move_prices.specs.Ends.{decided_or}
 use Rattle.site_forms.proofs.Sums.{first_rise, next_rise, last_rise, own_passed, added_is, sum_fits, range_more}
 use Rattle.site_forms.specs.Numbers.{form_of}
 use Rattle.site_forms.proofs.Places.{few_places}

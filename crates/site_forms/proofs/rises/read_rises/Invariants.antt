@@ -1,6 +1,6 @@
 use Rattle.std.proofs.Common.{◌≡◌, ◌+◌, ◌-◌, ◌*◌, ◌≤◌, true, false, unsigned_abs}
 use Rattle.move_energy.specs.BySite.{neighbours_start}
-use Rattle.move_rises.specs.Ends.{decided_or}
+use Rattle.move_prices.specs.Ends.{decided_or}
 use Rattle.rise_forms.specs.Forms.{rise_below}
 use Rattle.site_forms.specs.Numbers.{form_of}
 use Rattle.site_forms.proofs.rises.read_rises.Given as goal

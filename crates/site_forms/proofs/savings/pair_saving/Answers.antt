@@ -1,8 +1,8 @@
 use Rattle.std.proofs.Common.{◌∙◌, ◌≤◌, ◌-ℤ◌, unsigned_abs, true, false, ap, arith}
 use Rattle.sums.proofs.IntegerSumLemmas.{abs-sub}
-use Rattle.labellings.specs.Energies.{labelling}
-use Rattle.move_rises.proofs.Numbers.{passed_on, passed_range}
-use Rattle.move_rises.proofs.Tables.{told_surplus}
+use Rattle.label_energies.specs.Energies.{labelling}
+use Rattle.move_prices.proofs.Numbers.{passed_on, passed_range}
+use Rattle.move_prices.proofs.Tables.{told_surplus}
 use Rattle.site_forms.proofs.Entries.{label_within}
 use Rattle.site_forms.proofs.Telling.{labels_rise}
 use Rattle.site_forms.proofs.savings.pair_saving.Goals as goal

@@ -2,7 +2,7 @@ use Rattle.std.proofs.Common.{◌≤◌, ◌+◌, ◌∙◌, ℕ, ℤ, ◌+ℤ�
 use Rattle.compile_cut.specs.Weights.{weights_value, weights_size}
 use Rattle.std.specs.Prelude.{slice_index}
 use Rattle.std.proofs.lemmas.List.{get_or-map}
-use Rattle.closing_in.specs.Borders.{border_at, range_of}
+use Rattle.persistency.specs.Borders.{border_at, range_of}
 use Rattle.move_energy.specs.Choices.{choice_at}
 use Rattle.strips.specs.Building.{IsStripNumbering}
 use Rattle.strips.proofs.Sizes.{sites_few, strip_ends_few}

@@ -1,6 +1,6 @@
 use Rattle.std.proofs.Common.{◌≡◌, ◌∙◌, length, sym}
-use Rattle.labellings.specs.Energies.{labelling}
-use Rattle.move_rises.proofs.Places.{meant_pairs}
+use Rattle.label_energies.specs.Energies.{labelling}
+use Rattle.move_prices.proofs.Places.{meant_pairs}
 use Rattle.strips.specs.Views.{strip_view}
 use Rattle.strips.proofs.Views.{view_length}
 use Rattle.strips.proofs.Weighing.{listed_count, listed_few, starts_listed}

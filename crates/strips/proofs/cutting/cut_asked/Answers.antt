@@ -1,6 +1,6 @@
 use Rattle.std.proofs.Common.{◌≡◌, ◌∙◌, length, sym}
-use Rattle.labellings.specs.Energies.{labelling}
-use Rattle.move_rises.proofs.Places.{meant_pairs}
+use Rattle.label_energies.specs.Energies.{labelling}
+use Rattle.move_prices.proofs.Places.{meant_pairs}
 use Rattle.strips.specs.RowForms.{form_in}
 use Rattle.strips.proofs.Ranges.{sides_bound}
 use Rattle.strips.proofs.cutting.cut_asked.Goals as goal

@@ -1,7 +1,7 @@
 use Rattle.std.proofs.Common.{◌≡◌, ◌∙◌, List, ℕ, ℤ, map, refl, sym, ap, subst}
-use Rattle.labellings.specs.Energies.{labelling}
+use Rattle.label_energies.specs.Energies.{labelling}
 use Rattle.move_energy.specs.Choices.{choice_at}
-use Rattle.deciding.specs.Parts.{site_weight}
+use Rattle.site_bounds.specs.Parts.{site_weight}
 use Rattle.strips.proofs.cutting.cut_read.Goals as goal
 
 pub returns-clause-tells : goal.returns-clause-tells

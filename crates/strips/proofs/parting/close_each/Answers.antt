@@ -1,7 +1,7 @@
 use Rattle.std.proofs.Common.{sym, subst, arith}
 use Rattle.std.specs.Prelude.{slice_index_or}
 use borrow.Pointer.Hide.{carried_same}
-use Rattle.deciding.proofs.Trying.{if_ok_two}
+use Rattle.site_bounds.proofs.Trying.{if_ok_two}
 use Rattle.strips.proofs.parting.close_each.Goals as goal
 use Rattle.strips.proofs.parting.close_each.OwnLists.{same-1-1}
 

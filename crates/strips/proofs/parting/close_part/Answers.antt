@@ -1,12 +1,12 @@
 use Rattle.std.proofs.Common.{◌≡◌, ◌≢◌, ◌+◌, ◌-◌, ◌∙◌, ℕ, List, length, sym, ap, subst, arith}
-use Rattle.labellings.specs.Energies.{labelling}
+use Rattle.label_energies.specs.Energies.{labelling}
 use Rattle.move_energy.specs.declared.choice.Choice.{Choice}
 use Rattle.move_energy.specs.declared.choice.Choice.TheVariants.{Open}
 use Rattle.move_energy.specs.Choices.{bit_of, choice_at}
-use Rattle.move_rises.specs.MoveValues.{move_value}
-use Rattle.deciding.specs.Parts.{ArePassedChoices}
-use Rattle.deciding.proofs.Trying.{if_ok_two, written_whole}
-use Rattle.closing_in.specs.Agreeing.{Agree}
+use Rattle.move_prices.specs.MoveValues.{move_value}
+use Rattle.site_bounds.specs.Parts.{ArePassedChoices}
+use Rattle.site_bounds.proofs.Trying.{if_ok_two, written_whole}
+use Rattle.persistency.specs.Agreeing.{Agree}
 use Rattle.strips.specs.Views.{KeepsChosen}
 use Rattle.strips.proofs.Gathering.{passed_agree}
 use Rattle.strips.proofs.Ranges.{ends_from}

@@ -5,14 +5,14 @@ use Rattle.std.specs.Int.{div_ceil}
 use Rattle.std.specs.declared.alloc.AllocError.{AllocError}
 use Rattle.std.proofs.lemmas.Grind.{div_ceil_times}
 use Rattle.std.proofs.lemmas.Result.{on_ok_weaker}
-use Rattle.labellings.specs.Energies.{labelling}
+use Rattle.label_energies.specs.Energies.{labelling}
 use Rattle.move_energy.specs.declared.choice.Choice.{Choice}
 use Rattle.move_energy.specs.Choices.{choice_at}
-use Rattle.move_rises.specs.MoveValues.{move_value}
-use Rattle.deciding.specs.Parts.{ArePassedChoices}
-use Rattle.deciding.proofs.Places.{on_ok_two}
-use Rattle.deciding.proofs.Trying.{written_whole}
-use Rattle.closing_in.specs.Agreeing.{Agree}
+use Rattle.move_prices.specs.MoveValues.{move_value}
+use Rattle.site_bounds.specs.Parts.{ArePassedChoices}
+use Rattle.site_bounds.proofs.Places.{on_ok_two}
+use Rattle.site_bounds.proofs.Trying.{written_whole}
+use Rattle.persistency.specs.Agreeing.{Agree}
 use Rattle.strips.specs.Parts.{DecidesTold, IsPartAnswer, OfParts, PartsEndWithStrips}
 use Rattle.strips.proofs.Gathering.{parts_told, passed_agree, all_told, all_end}
 use Rattle.strips.proofs.parting.close_parts.Goals as goal

@@ -1,11 +1,11 @@
 use Rattle.std.proofs.Common.{◌≡◌, ◌≤◌, ◌-◌, List, length}
-use Rattle.labellings.specs.declared.change.Move.{Move}
-use Rattle.labellings.specs.Energies.{Instance, IsInstance, labelling}
+use Rattle.label_energies.specs.declared.change.Move.{Move}
+use Rattle.label_energies.specs.Energies.{Instance, IsInstance, labelling}
 use Rattle.move_energy.specs.declared.choice.Choice.{Choice}
 use Rattle.move_energy.specs.Choices.{choice_at, AreOpenSites}
-use Rattle.move_rises.specs.MoveValues.{move_value}
+use Rattle.move_prices.specs.MoveValues.{move_value}
 use Rattle.site_forms.specs.Numbers.{IsFormOf}
-use Rattle.closing_in.specs.Agreeing.{Agree}
+use Rattle.persistency.specs.Agreeing.{Agree}
 use Rattle.strips.specs.Views.{KeepsChosen, strip_view}
 use Rattle.strips.proofs.parting.close_range.Given as goal
 

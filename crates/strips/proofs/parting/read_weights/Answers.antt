@@ -1,11 +1,11 @@
 use Rattle.std.proofs.Common.{◌<◌, ◌≤◌, ◌∙◌, ℕ, get_or, length, unsigned_abs, refl, ap, arith}
-use Rattle.labellings.specs.Energies.{labelling}
+use Rattle.label_energies.specs.Energies.{labelling}
 use Rattle.move_energy.specs.BySite.{degree}
 use Rattle.move_energy.specs.Choices.{choice_at}
 use Rattle.move_energy.proofs.Opened.{opened_has, open_true, true_open}
-use Rattle.deciding.specs.Parts.{site_weight}
-use Rattle.move_rises.proofs.Places.{degree_most}
-use Rattle.move_rises.proofs.SiteSums.{sum_passed}
+use Rattle.site_bounds.specs.Parts.{site_weight}
+use Rattle.move_prices.proofs.Places.{degree_most}
+use Rattle.move_prices.proofs.SiteSums.{sum_passed}
 use Rattle.strips.specs.Views.{strip_view}
 use Rattle.strips.proofs.Borders.{list_more}
 use Rattle.strips.proofs.Views.{view_length, open_inside}

@@ -1,11 +1,11 @@
 use Rattle.std.proofs.Common.{◌≡◌, ◌+◌, ◌*◌, ◌≤◌, length, map, take, sum_by}
 use Rattle.std.specs.Prelude.{vec_len, vec_capacity}
-use Rattle.labellings.specs.declared.change.Move.{Move}
-use Rattle.labellings.specs.Energies.{Instance, IsInstance, labelling}
+use Rattle.label_energies.specs.declared.change.Move.{Move}
+use Rattle.label_energies.specs.Energies.{Instance, IsInstance, labelling}
 use Rattle.compile_cut.specs.Weights.{weights_size}
 use Rattle.move_energy.specs.BySite.{degree}
 use Rattle.move_energy.specs.Choices.{choice_at}
-use Rattle.deciding.specs.Parts.{site_weight}
+use Rattle.site_bounds.specs.Parts.{site_weight}
 use Rattle.site_forms.specs.Numbers.{IsFormOf}
 use Rattle.strips.proofs.parting.read_weights.Given as goal
 

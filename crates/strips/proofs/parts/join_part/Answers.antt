@@ -5,7 +5,7 @@ use Rattle.std.proofs.lemmas.List.{get_or_default, length-set}
 use Rattle.move_energy.specs.declared.choice.Choice.TheVariants.{Open, Zero}
 use Rattle.move_energy.specs.Choices.{choice_at}
 use Rattle.strips.specs.Parts.{coded_at, known_or}
-use Rattle.deciding.proofs.Trying.{set_here, set_there}
+use Rattle.site_bounds.proofs.Trying.{set_here, set_there}
 use Rattle.strips.proofs.parts.join_part.Goals as goal
 
 pub loop-place-preserved : goal.loop-place-preserved

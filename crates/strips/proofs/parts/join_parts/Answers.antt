@@ -5,7 +5,7 @@ use Rattle.std.proofs.lemmas.Bool.{cases_eq}
 use Rattle.std.proofs.lemmas.List.{get_or_default}
 use Rattle.strips.specs.Parts.{ArePartCodes, IsPartJoined, part_start}
 use Rattle.strips.proofs.Gathering.{Takes, part_ordered, takes_joined, takes_earlier, takes_agree, filled_codes}
-use Rattle.deciding.proofs.Trying.{if_ok_two}
+use Rattle.site_bounds.proofs.Trying.{if_ok_two}
 use Rattle.strips.proofs.parts.join_parts.Goals as goal
 
 pub loop-part-preserved : goal.loop-part-preserved

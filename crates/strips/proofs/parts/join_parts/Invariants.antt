@@ -2,7 +2,7 @@ use Rattle.std.proofs.Common.{◌≡◌, ℕ, ◌+◌, ◌<◌, ◌≤◌, Bool,
 use Rattle.std.specs.Prelude.{slice_index_or}
 use Rattle.std.specs.Result.{IsOk}
 use Rattle.move_energy.specs.Choices.{choice_at}
-use Rattle.closing_in.specs.Agreeing.{Agree}
+use Rattle.persistency.specs.Agreeing.{Agree}
 use Rattle.strips.specs.Parts.{ArePartCodes, OfParts, IsPartJoined, part_start}
 use Rattle.strips.proofs.parts.join_parts.Given as goal
 

@@ -4,9 +4,9 @@ use Rattle.move_energy.specs.BySite.{degree, neighbours_start}
 use Rattle.move_energy.specs.Choices.{choice_at, open_at, open_rank}
 use Rattle.move_energy.specs.Weights.{unsaved_surplus}
 use Rattle.move_energy.proofs.Parts.{starts_rise}
-use Rattle.move_rises.proofs.Places.{degree_most}
-use Rattle.closing_in.specs.Borders.{not_ones, range_of}
-use Rattle.closing_in.proofs.Rooms.{total_is, total_all}
+use Rattle.move_prices.proofs.Places.{degree_most}
+use Rattle.persistency.specs.Borders.{not_ones, range_of}
+use Rattle.persistency.proofs.Rooms.{total_is, total_all}
 use Rattle.strips.specs.Views.{strip_view}
 use Rattle.strips.proofs.Borders.{border_none, border_more, border_small}
 use Rattle.strips.proofs.Inside.{row_adds, row_adds_all, nothing_adds_yet}

@@ -1,12 +1,12 @@
 use Rattle.std.proofs.Common.{◌≡◌, ◌-◌, ◌*◌, ◌++◌, length, ◌≤◌, pos, unsigned_abs, ℕ}
 use Rattle.sums.specs.Sums.{sum_below}
-use Rattle.labellings.specs.declared.change.Move.{Move}
-use Rattle.labellings.specs.Energies.{Instance}
+use Rattle.label_energies.specs.declared.change.Move.{Move}
+use Rattle.label_energies.specs.Energies.{Instance}
 use Rattle.move_energy.specs.BySite.{pair_of, neighbours_start, met_below}
 use Rattle.move_energy.specs.Built.{AddsCost}
 use Rattle.move_energy.specs.Choices.{choice_at, open_at, open_rank}
 use Rattle.move_energy.specs.Weights.{unsaved_surplus}
-use Rattle.closing_in.specs.Borders.{not_ones, range_of, pair_border}
+use Rattle.persistency.specs.Borders.{not_ones, range_of, pair_border}
 use Rattle.strips.specs.Building.{GivesSurpluses, IsMoveOver}
 use Rattle.sink_distances.specs.Rows.{arc_ends}
 use Rattle.strips.specs.Meeting.{ends_below, strip_ends}

@@ -7,8 +7,8 @@ use Rattle.move_energy.specs.Choices.{choice_at, open_at, open_rank}
 use Rattle.move_energy.specs.Weights.{weight_at, unsaved_surplus}
 use Rattle.move_energy.specs.Built.{AddsCost}
 use Rattle.move_energy.proofs.Adding.{cost_none, site_more, site_all}
-use Rattle.deciding.specs.Parts.{site_weight}
-use Rattle.closing_in.specs.Borders.{border_at, range_of}
+use Rattle.site_bounds.specs.Parts.{site_weight}
+use Rattle.persistency.specs.Borders.{border_at, range_of}
 use Rattle.strips.specs.Building.{view_by}
 use Rattle.strips.specs.Views.{strip_view, weight_now}
 use Rattle.strips.proofs.Sizes.{seen_length, row_few}

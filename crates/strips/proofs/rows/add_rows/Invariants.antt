@@ -1,13 +1,13 @@
 use Rattle.std.proofs.Common.{◌≡◌, ◌+◌, ◌*◌, ◌≤◌, length, take, map, sum, sum_by, ℕ}
 use Rattle.std.specs.Prelude.{vec_len, vec_capacity}
-use Rattle.labellings.specs.declared.change.Move.{Move}
-use Rattle.labellings.specs.Energies.{Instance}
+use Rattle.label_energies.specs.declared.change.Move.{Move}
+use Rattle.label_energies.specs.Energies.{Instance}
 use Rattle.compile_cut.specs.Weights.{weights_size}
 use Rattle.move_energy.specs.BySite.{degree, met_at}
 use Rattle.move_energy.specs.Built.{AddsCost}
 use Rattle.move_energy.specs.Choices.{choice_at, open_at, open_rank}
 use Rattle.move_energy.specs.Weights.{unsaved_surplus}
-use Rattle.closing_in.specs.Borders.{border_at, range_of}
+use Rattle.persistency.specs.Borders.{border_at, range_of}
 use Rattle.strips.specs.Building.{GivesSurpluses, IsMoveOver, AreStartWeights}
 use Rattle.std.specs.List.{flat_map}
 use Rattle.sink_distances.specs.Rows.{arc_ends}

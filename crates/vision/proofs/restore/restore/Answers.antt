@@ -3,7 +3,7 @@ use Rattle.cost_store.specs.Promises.{IsTable}
 use Rattle.label_field.specs.Grids.{distance}
 use Rattle.label_field.specs.PairLists.{PairList}
 use Rattle.run_options.specs.Shapes.{shape_cost}
-use Rattle.labellings.specs.declared.cycles.Moves.{Moves}
+use Rattle.label_energies.specs.declared.cycles.Moves.{Moves}
 use Rattle.vision.specs.Faults.{HasRunError}
 use Rattle.vision.specs.Jobs.{IsReadyToWrite, job_of}
 use Rattle.vision.specs.Problems.{restore_problem}

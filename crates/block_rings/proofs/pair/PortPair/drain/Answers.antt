@@ -1,5 +1,5 @@
 use Rattle.std.proofs.Common.{List, sym, ◌∙◌, ap, subst}
-use Rattle.block_turns.specs.declared.letter.Letter.{Letter}
+use Rattle.block_discharge.specs.declared.letter.Letter.{Letter}
 use Rattle.block_workers.specs.Ports.{letters_put, letters_taken}
 use Rattle.block_workers.specs.Seeing.{messages}
 use Rattle.block_rings.specs.Left.{AreKeptByWays, rest_of}

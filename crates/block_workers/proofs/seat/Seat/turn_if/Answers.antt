@@ -1,5 +1,5 @@
 use Rattle.std.proofs.Common.{refl}
-use Rattle.block_turns.proofs.Runs.{look_same}
+use Rattle.block_discharge.proofs.Runs.{look_same}
 use Rattle.block_workers.specs.Ends.{ports}
 use Rattle.block_workers.specs.Seeing.{ways_of_ports}
 use Rattle.block_workers.proofs.Looking.{same_ports}

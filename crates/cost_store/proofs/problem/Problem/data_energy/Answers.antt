@@ -1,7 +1,7 @@
 use Rattle.std.proofs.Common.{◌≡◌, ◌∙◌, pos, length, ap, sym, refl, arith}
 use Rattle.std.proofs.lemmas.Int.{ints}
 use Rattle.sums.specs.Sums.{sum_below}
-use Rattle.labellings.specs.Energies.{labelling}
+use Rattle.label_energies.specs.Energies.{labelling}
 use Rattle.cost_store.proofs.Totals.{sum_next, end_is, small_total}
 use Rattle.cost_store.proofs.problem.Problem.data_energy.Goals as goal
 

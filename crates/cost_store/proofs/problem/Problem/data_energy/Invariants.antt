@@ -1,6 +1,6 @@
 use Rattle.std.proofs.Common.{◌≡◌, ◌≤◌, ◌*◌}
 use Rattle.sums.specs.Sums.{sum_below}
-use Rattle.labellings.specs.Energies.{Instance, labelling}
+use Rattle.label_energies.specs.Energies.{Instance, labelling}
 use Rattle.cost_store.specs.Posed.{IsMeant}
 use Rattle.cost_store.proofs.problem.Problem.data_energy.Given as goal
 

@@ -1,7 +1,7 @@
 use Rattle.std.proofs.Common.{◌≡◌, ◌∙◌, ℕ, List, ℤ, length, pos, w64, sym, ap, subst, arith}
 use Rattle.std.proofs.lemmas.Int.{to_z_pos, ints}
 use Rattle.sums.specs.Sums.{sum_below, count_if}
-use Rattle.labellings.specs.Energies.{labelling, is_used, label_energy}
+use Rattle.label_energies.specs.Energies.{labelling, is_used, label_energy}
 use Rattle.cost_store.specs.LabelCosts.{cost_at}
 use Rattle.cost_store.specs.LabelCosts.{costs_of, AreLabelCosts}
 use Rattle.cost_store.proofs.Totals.{label_total}

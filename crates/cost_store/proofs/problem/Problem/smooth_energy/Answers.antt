@@ -1,6 +1,6 @@
 use Rattle.std.proofs.Common.{◌∙◌, pos, ap, refl, arith}
 use Rattle.std.proofs.lemmas.Int.{ints}
-use Rattle.labellings.specs.Energies.{labelling, pair_cost}
+use Rattle.label_energies.specs.Energies.{labelling, pair_cost}
 use Rattle.cost_store.proofs.Totals.{list_next, list_all, small_pairs}
 use Rattle.cost_store.proofs.problem.Problem.smooth_energy.Goals as goal
 

@@ -1,5 +1,5 @@
 use Rattle.std.proofs.Common.{◌≡◌, ◌≤◌, ◌*◌, take, sum_by}
-use Rattle.labellings.specs.Energies.{Instance, labelling, pair_cost}
+use Rattle.label_energies.specs.Energies.{Instance, labelling, pair_cost}
 use Rattle.cost_store.specs.Posed.{IsMeant}
 use Rattle.cost_store.proofs.problem.Problem.smooth_energy.Given as goal
 

@@ -3,7 +3,7 @@ use Rattle.std.proofs.lemmas.Bool.{cases_lt, true≢false}
 use Rattle.std.proofs.lemmas.List.Sorted.{All-permutation, IsPermutation-sym, IsNonDecreasingBy-from_sort_by_key}
 use Rattle.block_net.specs.Views.{border_in}
 use Rattle.block_net.specs.Whole.{Whole, block_at}
-use Rattle.block_opening.specs.Split.{whole_of}
+use Rattle.block_split.specs.Split.{whole_of}
 use Rattle.global_relabel.specs.declared.block_labels.Offer.{Offer}
 use Rattle.global_relabel.specs.Lowering.{AreOffersMet, AreOffersTold, AreTight, ComeDown, IsLowerSomewhere, IsAboveTold, IsAllowedBy, IsOffered, far_number}
 use Rattle.global_relabel.proofs.Falling.{take_whole, tight_start, down_more, down_for}

@@ -1,8 +1,8 @@
 use Rattle.std.proofs.Common.{◌∙◌, ℤ, List, All, length, ap, sym, subst, arith}
 use Rattle.cost_store.proofs.Meaning.{pairs_meant}
 use Rattle.label_field.specs.declared.pair.Pair.{Pair}
-use Rattle.labellings.specs.Energies.{labelling}
-use Rattle.labellings.specs.Moves.{IsRegularPair}
+use Rattle.label_energies.specs.Energies.{labelling}
+use Rattle.label_energies.specs.Moves.{IsRegularPair}
 use Rattle.move_energy.specs.declared.choice.Choice.{Choice}
 use Rattle.move_energy.specs.Choices.{choice_at, AreOpenSites}
 use Rattle.move_energy.specs.Weights.{AreWeights, IsOfWeights}

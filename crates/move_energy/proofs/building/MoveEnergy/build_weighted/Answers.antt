@@ -1,6 +1,6 @@
 use Rattle.std.proofs.Common.{◌∙◌, List, length, refl, ap, sym, subst, arith}
 use Rattle.cost_store.proofs.Meaning.{pairs_meant}
-use Rattle.labellings.specs.Energies.{labelling}
+use Rattle.label_energies.specs.Energies.{labelling}
 use Rattle.move_energy.specs.declared.choice.Choice.{Choice}
 use Rattle.move_energy.specs.Choices.{choice_at}
 use Rattle.move_energy.specs.Weights.{AreWeights, open_weights}

@@ -1,5 +1,5 @@
 use Rattle.std.proofs.Common.{refl, inl, inr, arith, sym, ◌∙◌}
-use Rattle.labellings.specs.Chains.{moves_of}
+use Rattle.label_energies.specs.Chains.{moves_of}
 use Rattle.moves.proofs.Courses.{begin_stands}
 use Rattle.moves.proofs.course.Course.begin.Goals.{then-allowed-eq0, else-allowed-eq0+then-count-eq0, else-allowed-eq0+else-count-eq0}
 use Rattle.moves.proofs.course.Course.begin.Goals as goal

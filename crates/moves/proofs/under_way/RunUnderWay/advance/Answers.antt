@@ -1,6 +1,6 @@
 use Rattle.std.proofs.Common.{◌∙◌, ap, sym, subst, ℕ}
 use Rattle.cost_store.proofs.Meaning.{pairs_meant}
-use Rattle.labellings.specs.Moves.{IsMoveOf}
+use Rattle.label_energies.specs.Moves.{IsMoveOf}
 use Rattle.moves.specs.declared.course.Course.{Course}
 use Rattle.moves.proofs.Refused.{run_may_come, costs_swap}
 use Rattle.moves.proofs.UnderWay.{goes_on_after, refused_here, run_from, stands_too}

@@ -1,6 +1,6 @@
 use Rattle.std.proofs.Common.{ℕ, List}
 use Rattle.cost_store.specs.Posed.{AreOfOneSize}
-use Rattle.labellings.specs.declared.cycles.Moves.{Moves}
+use Rattle.label_energies.specs.declared.cycles.Moves.{Moves}
 use Rattle.moves.specs.UnderWay.{IsRunFrom, left_of}
 use Rattle.moves.proofs.under_way.RunUnderWay.finish.Given as goal
 

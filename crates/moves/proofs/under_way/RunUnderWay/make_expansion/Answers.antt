@@ -1,10 +1,10 @@
 use Rattle.std.proofs.Common.{◌∙◌, List, refl, sym, subst}
 use Rattle.label_field.specs.LabelFields.{LabelField}
-use Rattle.labellings.specs.Energies.{labelling}
+use Rattle.label_energies.specs.Energies.{labelling}
 use Rattle.move_energy.specs.declared.choice.Choice.{Choice}
-use Rattle.stages.specs.Changes.{AreStamped}
-use Rattle.single_moves.specs.Building.{site_values}
-use Rattle.single_moves.specs.Building.{HasTaken}
+use Rattle.near_changes.specs.Changes.{AreStamped}
+use Rattle.one_move.specs.Building.{site_values}
+use Rattle.one_move.specs.Building.{HasTaken}
 use Rattle.moves.proofs.under_way.RunUnderWay.make_expansion.Goals as goal
 
 pub returns-clause-under_way : goal.returns-clause-under_way

@@ -1,9 +1,9 @@
 use Rattle.std.proofs.Common.{◌≡◌, ◌∙◌, ℕ, List, length, sym, subst}
-use Rattle.labellings.specs.Energies.{labelling}
+use Rattle.label_energies.specs.Energies.{labelling}
 use Rattle.move_energy.specs.declared.choice.Choice.{Choice}
 use Rattle.move_energy.specs.Choices.{AreOpenSites}
 use Rattle.move_energy.proofs.Opened.{opened_within}
-use Rattle.move_rises.proofs.Places.{meant_pairs}
+use Rattle.move_prices.proofs.Places.{meant_pairs}
 use Rattle.strips.specs.Sides.{AreBounds}
 use Rattle.strips.specs.Views.{strip_view}
 use Rattle.strips.proofs.Ranges.{on_ok, told_keeps, told_right}

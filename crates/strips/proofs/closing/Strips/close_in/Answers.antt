@@ -1,9 +1,9 @@
 use Rattle.std.proofs.Common.{◌≤◌, ◌∙◌, ℕ, List, length, sym, ap, subst, arith}
-use Rattle.labellings.specs.Energies.{labelling}
+use Rattle.label_energies.specs.Energies.{labelling}
 use Rattle.move_energy.specs.declared.choice.Choice.{Choice}
 use Rattle.move_energy.specs.Choices.{choice_at, AreOpenSites, StandsFor, open_rank}
-use Rattle.move_rises.specs.MoveValues.{move_value}
-use Rattle.closing_in.specs.Agreeing.{Agree}
+use Rattle.move_prices.specs.MoveValues.{move_value}
+use Rattle.persistency.specs.Agreeing.{Agree}
 use Rattle.strips.specs.Views.{strip_view}
 use Rattle.move_energy.proofs.Opened.{opened_within}
 use Rattle.strips.proofs.Views.{view_length, whole_is, whole_rank}

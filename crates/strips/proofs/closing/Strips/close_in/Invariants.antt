@@ -1,9 +1,9 @@
 use Rattle.std.proofs.Common.{◌≤◌, ◌-◌}
 use Rattle.cost_store.specs.Posed.{IsMeant}
-use Rattle.labellings.specs.Energies.{Instance, labelling}
+use Rattle.label_energies.specs.Energies.{Instance, labelling}
 use Rattle.move_energy.specs.Choices.{choice_at, AreOpenSites}
-use Rattle.move_rises.specs.MoveValues.{move_value}
-use Rattle.closing_in.specs.Agreeing.{Agree}
+use Rattle.move_prices.specs.MoveValues.{move_value}
+use Rattle.persistency.specs.Agreeing.{Agree}
 use Rattle.strips.specs.Closing.{CanClose}
 use Rattle.strips.specs.Views.{strip_view}
 use Rattle.strips.proofs.closing.Strips.close_in.Given as goal

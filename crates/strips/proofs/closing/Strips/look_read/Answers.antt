@@ -1,5 +1,5 @@
 use Rattle.std.proofs.Common.{◌≡◌, ◌∙◌, length, sym, arith}
-use Rattle.labellings.specs.Energies.{labelling}
+use Rattle.label_energies.specs.Energies.{labelling}
 use Rattle.move_energy.proofs.Opened.{opened_count}
 use Rattle.strips.proofs.Zeros.{whole_listed, shown_least, stage_zeros}
 use Rattle.strips.proofs.closing.Strips.look_read.Goals as goal

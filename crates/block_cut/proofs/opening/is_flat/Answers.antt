@@ -1,5 +1,0 @@
-use Rattle.std.proofs.Common.{rules}
-use Rattle.block_cut.proofs.opening.is_flat.Goals as goal
-
-pub nodes-preserved : goal.nodes-preserved
-nodes-preserved c = search rules

@@ -1,9 +1,0 @@
-use Rattle.block_cut.proofs.Opened.{opens_more}
-use Rattle.block_cut.proofs.opening.send_up.Goals.{then-lane-v, else-lane-v}
-use Rattle.block_cut.proofs.opening.send_up.Goals as goal
-
-pub lanes-preserved : goal.lanes-preserved
-lanes-preserved c = elim c.if-lane-v.branch [
-  | then-lane-v w ↦ (rw (w.cells-is) (opens_more c.args.cells.now c.lanes.cells w.send.new.cells c.lanes.invariant.0 w.send.ensures.opens), c.lanes.invariant.1, c.lanes.invariant.2, c.lanes.invariant.3)
-  | else-lane-v w ↦ rw (w.cells-is) c.lanes.invariant
-]

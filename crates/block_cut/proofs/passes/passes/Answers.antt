@@ -1,8 +1,0 @@
-use Rattle.std.proofs.Common.{rules}
-use Rattle.block_cut.proofs.passes.passes.Goals as goal
-
-pub returns-clause-going : goal.returns-clause-going
-returns-clause-going c = c.more_passes-ways.ensures.going
-
-pub returns-clause-still : goal.returns-clause-still
-returns-clause-still c = search rules

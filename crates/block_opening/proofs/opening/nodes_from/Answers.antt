@@ -1,5 +1,0 @@
-use Rattle.std.proofs.Common.{rules}
-use Rattle.block_opening.proofs.opening.nodes_from.Goals as goal
-
-pub returns-clause-labels : goal.returns-clause-labels
-returns-clause-labels c = search rules

@@ -1,5 +1,0 @@
-use Rattle.closing_in.proofs.Strips.{batches_agree, batches_least}
-use Rattle.closing_in.proofs.laws.batches_and_rest_are_least.Goals as goal
-
-pub returns : goal.returns
-returns c = record { agree = batches_agree; least = batches_least }

@@ -1,5 +1,0 @@
-use Rattle.closing_in.proofs.Borders.{decided_agree, partly_agree, bounds_tell, batches_end}
-use Rattle.closing_in.proofs.laws.batches_end_move.Goals as goal
-
-pub returns : goal.returns
-returns c = record { decided = decided_agree; partly = partly_agree; told = bounds_tell; ended = batches_end }

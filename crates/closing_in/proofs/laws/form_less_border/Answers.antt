@@ -1,5 +1,0 @@
-use Rattle.closing_in.proofs.Forms.{less_border_form, reweighed_form}
-use Rattle.closing_in.proofs.laws.form_less_border.Goals as goal
-
-pub returns : goal.returns
-returns c = record { value = less_border_form; weights = reweighed_form }

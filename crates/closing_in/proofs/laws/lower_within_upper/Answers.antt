@@ -1,5 +1,0 @@
-use Rattle.closing_in.proofs.Strips.{lower_within_upper}
-use Rattle.closing_in.proofs.laws.lower_within_upper.Goals as goal
-
-pub returns : goal.returns
-returns c = lower_within_upper

@@ -1,5 +1,0 @@
-use Rattle.closing_in.proofs.Agreeing.{rest_agrees, agree_by_rest}
-use Rattle.closing_in.proofs.laws.rest_agrees.Goals as goal
-
-pub returns : goal.returns
-returns c = record { least = rest_agrees; agree = agree_by_rest }

@@ -1,5 +1,0 @@
-use Rattle.closing_in.proofs.Fixing.{fixed_as_least}
-use Rattle.closing_in.proofs.laws.rest_and_fixed_is_least.Goals as goal
-
-pub returns : goal.returns
-returns c = fixed_as_least

@@ -1,5 +1,0 @@
-use Rattle.closing_in.proofs.Strips.{strip_agrees, lower_agrees, upper_agrees}
-use Rattle.closing_in.proofs.laws.strip_agrees.Goals as goal
-
-pub returns : goal.returns
-returns c = record { both = strip_agrees; lower = lower_agrees; upper = upper_agrees }

@@ -1,5 +1,0 @@
-use Rattle.closing_in.proofs.Borders.{upper_rise, upper_is_lower, border_by_site}
-use Rattle.closing_in.proofs.laws.upper_is_lower_with_border.Goals as goal
-
-pub returns : goal.returns
-returns c = record { rise = upper_rise; value = upper_is_lower; by_site = border_by_site }

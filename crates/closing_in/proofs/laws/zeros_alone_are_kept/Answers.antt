@@ -1,5 +1,0 @@
-use Rattle.closing_in.proofs.Strips.{upper_zeros, zeros_of_either}
-use Rattle.closing_in.proofs.laws.zeros_alone_are_kept.Goals as goal
-
-pub returns : goal.returns
-returns c = record { upper = upper_zeros; either = zeros_of_either }

@@ -1,0 +1,5 @@
+use Rattle.cut_in_blocks.proofs.Loosely as loosely
+use Rattle.cut_in_blocks.proofs.loose.loose_give_keeps.Goals as goal
+
+pub returns : goal.returns
+returns c = loosely.loose_give_keeps

@@ -1,0 +1,5 @@
+use Rattle.std.proofs.Common.{rules}
+use Rattle.cut_in_blocks.proofs.opening.is_flat.Goals as goal
+
+pub nodes-preserved : goal.nodes-preserved
+nodes-preserved c = search rules

@@ -1,6 +1,0 @@
-use Rattle.std.proofs.Common.{◌≡◌, ◌+◌, length}
-use Rattle.labellings.proofs.Swaps.{swaps_before}
-use Rattle.labellings.proofs.cycles.swap_at.Given as goal
-
-abbrev pub invariant-loop-alpha : goal.invariant-loop-alpha
-invariant-loop-alpha l = record { counted : length (swaps_before l.labels l.alpha) + l.left ≡ l.place }

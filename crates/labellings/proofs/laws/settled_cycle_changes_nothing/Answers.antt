@@ -1,6 +1,0 @@
-use Rattle.std.proofs.Common.{arith}
-use Rattle.labellings.proofs.Chains.{leads_nowhere, leads_back}
-use Rattle.labellings.proofs.laws.settled_cycle_changes_nothing.Goals as goal
-
-pub returns : goal.returns
-returns c = record { same = leads_back; best = λ m moves f leads. leads_nowhere m moves f f leads (omega arith) }

@@ -1,6 +1,0 @@
-use Rattle.flow_network.specs.Progress.{top}
-use Rattle.laid_blocks.proofs.Lowering.{IsFilled}
-use Rattle.laid_blocks.proofs.blocks.Blocks.cut_off.Given as goal
-
-abbrev pub invariant-nodes : goal.invariant-nodes
-invariant-nodes l = IsFilled l.fn.self l.self (λ v. top l.fn.self.net) l.v

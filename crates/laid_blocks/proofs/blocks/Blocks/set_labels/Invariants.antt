@@ -1,5 +1,0 @@
-use Rattle.laid_blocks.proofs.ByBlock.{IsRelabelledBelow}
-use Rattle.laid_blocks.proofs.blocks.Blocks.set_labels.Given as goal
-
-abbrev pub invariant-each : goal.invariant-each
-invariant-each l = IsRelabelledBelow l.initial.self l.self l.labels l.block

@@ -1,0 +1,48 @@
+use Rattle.std.proofs.Common.{◌≡◌, ◌∙◌, ◌↔◌, ◌<◌, List, ℕ, Bool, length, ap, sym, subst, arith}
+use Rattle.label_energies.specs.declared.change.Move.TheVariants.{Expand}
+use Rattle.label_energies.specs.Energies.{labelling}
+use Rattle.move_energy.specs.declared.choice.Choice.TheVariants.{Zero}
+use Rattle.move_energy.specs.Choices.{choice_at}
+use Rattle.cost_store.proofs.Meaning.{pairs_meant}
+use Rattle.move_prices.specs.MoveValues.{move_value}
+use Rattle.near_changes.specs.Changes.{made_of}
+use Rattle.persistency.specs.Fixing.{AreLeastZeros}
+use Rattle.near_changes.specs.Fresh.{AreFresh}
+use Rattle.near_changes.specs.Looking.{is_marked, changed_since}
+use Rattle.moves.proofs.Stages.{first_zeros, on_ok, on_ok_map}
+use Rattle.moves.proofs.later_expansion.begin_stages.Goals as goal
+
+pub returns-clause-fresh : goal.returns-clause-fresh
+returns-clause-fresh g c = λ m meant.
+    let a = c.args.alpha in
+    let f = labelling c.args.at.now in
+    let changes = c.args.changes.now in
+    let fresh = c.in_ok-mark_fresh.ensures.fresh.fresh m meant.sites_are meant.pairs_are in
+    let A : List ℕ → ℕ → List Bool → Type 0 = λ stamps since flags. AreFresh m a f (changed_since stamps since) (is_marked flags) in
+    let B : List ℕ → Type 0 = λ stamps. A stamps c.last.result c.mark_fresh.new.self.fresh.items in
+    let D : ℕ → Type 0 = λ since. A changes.stamps.items since c.mark_fresh.new.self.fresh.items in
+    let F : List Bool → Type 0 = λ flags. A changes.stamps.items (made_of changes a) flags in
+    on_ok (F c.open_first.new.self.fresh.items) c.open_first.result
+    (subst F (sym (ap (λ (v : _). v.items) (c.open_first.ensures.same.0 ∙ c.open_apart.ensures.same.fresh))) (subst D c.last.ensures (subst B c.deref.ensures.value fresh)))
+
+pub returns-then-branch-clause-fresh : goal.returns-then-branch-clause-fresh
+returns-then-branch-clause-fresh g c = λ m meant.
+    let a = c.args.alpha in
+    let f = labelling c.args.at.now in
+    let changes = c.args.changes.now in
+    let fresh = c.in_ok-mark_fresh.ensures.fresh.fresh m meant.sites_are meant.pairs_are in
+    let A : List ℕ → ℕ → List Bool → Type 0 = λ stamps since flags. AreFresh m a f (changed_since stamps since) (is_marked flags) in
+    let B : List ℕ → Type 0 = λ stamps. A stamps c.last.result c.mark_fresh.new.self.fresh.items in
+    let D : ℕ → Type 0 = λ since. A changes.stamps.items since c.mark_fresh.new.self.fresh.items in
+    let F : List Bool → Type 0 = λ flags. A changes.stamps.items (made_of changes a) flags in
+    subst F (sym (ap (λ (v : _). v.items) c.open_apart.ensures.same.fresh)) (subst D c.last.ensures (subst B c.deref.ensures.value fresh))
+
+pub returns-clause-zeros : goal.returns-clause-zeros
+returns-clause-zeros g c = λ m meant.
+    let a = c.args.alpha in
+    let at = c.args.at.now in
+    let choices = c.open_first.new.choices.items in
+    on_ok_map ((p : ℕ) → p < length at → choice_at choices p ≡ Zero ↔ labelling at p ≡ a)
+    (AreLeastZeros m.sites (move_value m (Expand a) (labelling at)) (choice_at choices)) c.open_first.result
+    (λ zeros. first_zeros m a at choices (pairs_meant _ _ _ m c.requires.posed meant)
+    (λ p l is. (zeros p (omega (arith, l, c.requires.asked.sites, meant.sites_are))).0 is)) c.open_first.ensures.zeros

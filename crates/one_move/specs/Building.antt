@@ -1,0 +1,215 @@
+-- The energy of a move, and what its least assignment says of the sites.
+use Rattle.std.specs.Prelude.{◌≡◌, ◌≢◌, ◌^◌, ◌<◌, ◌≤◌, ◌==◌, ℕ, Bool, true, false, not}
+use Rattle.std.specs.Prelude.{List, length, vec_len, IsTrue, IsFalse, Result, Ok, Err, ℤ, pos, ◌-ℤ◌}
+use Rattle.std.specs.Prelude.{slice_index}
+use Rattle.label_field.specs.LabelFields.{LabelField}
+use Rattle.cost_store.specs.declared.problem.Problem.{Problem}
+use Rattle.cost_store.specs.Posed.{Closure, IsPosed, IsAsked, WhereMeant}
+use Rattle.label_energies.specs.declared.change.Move.{Move}
+use Rattle.label_energies.specs.declared.change.Move.TheVariants.{Expand}
+use Rattle.label_energies.specs.Energies.{Instance, labelling, energy, plain_energy}
+use Rattle.label_energies.specs.Moves.{IsAllowed, label_after, labelling_made}
+use Rattle.pseudo_bool.specs.Energies.{assignment}
+use Rattle.label_field.specs.Limits.{site_limit}
+use Rattle.pseudo_bool.specs.Limits.{term_limit}
+use Rattle.compile_cut.specs.Quadratics.{quadratic_value, IsQuadraticBounded}
+use Rattle.compile_cut.specs.Weights.{weights_size}
+use Rattle.move_energy.specs.declared.choice.Choice.{Choice}
+use Rattle.move_energy.specs.declared.building.MoveEnergy.{MoveEnergy}
+use Rattle.move_energy.specs.declared.error.BuildError.{BuildError}
+use Rattle.move_energy.specs.Choices.{bit_of, choice_at, value_of, AreOpenSites}
+use Rattle.move_energy.specs.Problems.{IsPrepareRefusal, Stands}
+use Rattle.move_energy.specs.Limits.{weights_limit}
+use Rattle.move_energy.specs.Weights.{AreWeights}
+use Rattle.sums.specs.Sums.{count_if}
+use Rattle.move_energy.specs.declared.by_site.Neighbours.{Neighbours}
+use Rattle.label_field.specs.declared.pair.Pair.{Pair}
+use Rattle.label_field.specs.PairLists.{PairList}
+use Rattle.move_energy.specs.BySite.{AreBySite, IsListing, met_at}
+use Rattle.site_bounds.specs.Listed.{AreListed, changes}
+use Rattle.site_bounds.specs.Decisions.{IsSmallestLeast}
+use Rattle.move_prices.specs.MoveValues.{move_value}
+use Rattle.move_prices.specs.Rising.{IsRiseTable, IsTableOf}
+use Rattle.one_move.specs.declared.workspace.Workspace.{Workspace}
+
+-- the fewest nodes of a later net that a way with parts cuts: one thread cuts a smaller one in less
+-- time than several take to share it
+abbrev pub later_nodes : ℕ
+later_nodes = 2 ^ 16
+
+-- the pairs by their sites, once they were grouped
+abbrev pub IsGroupedFor : PairList → Workspace → Type 0
+IsGroupedFor pairs space = IsTrue space.grouped → AreBySite pairs space.deciding.ends
+
+-- the lists of the workspace are those of the move from f, and its pairs are by their sites
+pub record HasListsOfMove (pairs : PairList) (move : Move) (f : List ℕ)
+    (space : Workspace) : Type 0 where
+  pub by_site : AreBySite pairs space.deciding.ends
+  pub lists : AreListed move (labelling f) space.built.variables.choices.items space.deciding.lists
+
+-- they are, where a move is to look at the listed sites alone
+abbrev pub IsNearWhereListed : PairList → Move → List ℕ → Workspace → Type 0
+IsNearWhereListed pairs move f space = IsTrue space.deciding.lists.listed
+    → HasListsOfMove pairs move f space
+
+-- what is left of a move is listed: its open sites, and among the changing ones each whose label
+-- can still become another
+pub record IsRestListed (pairs : PairList) (move : Move) (f : List ℕ)
+    (space : Workspace) : Type 0 where
+  pub by_site : AreBySite pairs space.deciding.ends
+  pub opened : AreOpenSites space.built.variables.choices.items space.deciding.lists.opened.items
+  pub chosen : ℕ → Bool
+  pub listed : IsListing chosen (length f) space.deciding.lists.changing.items
+  pub each : (p : ℕ) → p < length f
+      → changes move (labelling f) space.built.variables.choices.items p ≡ true → chosen p ≡ true
+
+-- it is, where a move is to look at the listed sites alone
+abbrev pub IsRestWhereListed : PairList → Move → List ℕ → Workspace → Type 0
+IsRestWhereListed pairs move f space = IsTrue space.deciding.lists.listed
+    → IsRestListed pairs move f space
+
+-- the workspace has a weight for each site, and together they are in their limit
+abbrev pub AreWeightsSized : ℕ → Workspace → Type 0
+AreWeightsSized n space =
+    (length space.deciding.bounds.greatest.items ≡ n)
+    × (weights_size space.deciding.bounds.greatest.items ≤ weights_limit)
+
+-- the weights of the open sites are those of the partly decided move from f
+abbrev pub KnowsWeights : Instance → Move → List ℕ → Workspace → Type 0
+KnowsWeights m move f space =
+    AreWeights m move (labelling f) (choice_at space.built.variables.choices.items)
+    space.deciding.bounds.greatest.items
+
+-- the move is asked of a posed problem, and the pairs are by their sites, once they were grouped
+pub record IsReadyMove {F V : Type 0} (f : Closure F) (v : Closure V) (problem : Problem F V)
+    (at : List ℕ) (move : Move) (space : Workspace) : Type 0 where
+  pub posed : IsPosed f v problem
+  pub asked : IsAsked problem at move
+  pub by_site : IsGroupedFor problem.pairs space
+
+-- the sites of the move are decided: the workspace has a choice for each, the lists of those that
+-- are open, their weights, and the table of the move's rises
+pub record IsWeighedMove {F V : Type 0} (f : Closure F) (v : Closure V) (problem : Problem F V)
+    (at : List ℕ) (move : Move) (space : Workspace) : Type 0 where
+  pub posed : IsPosed f v problem
+  pub asked : IsAsked problem at move
+  pub count : length space.built.variables.choices.items ≡ length at
+  pub near : HasListsOfMove problem.pairs move at space
+  pub sized : AreWeightsSized (length at) space
+  pub weights : WhereMeant f v problem (λ m. KnowsWeights m move at space)
+  pub labels : IsRiseTable problem.data_cost.labels space.deciding.table
+  pub rises : WhereMeant f v problem (λ m. IsTableOf m move space.deciding.table)
+
+-- the form of the workspace stands for what is open of the move, and is of a size that can be cut
+pub record IsOpenForm {F V : Type 0} (f : Closure F) (v : Closure V) (problem : Problem F V)
+    (at : List ℕ) (move : Move) (space : Workspace) : Type 0 where
+  pub bounded : IsQuadraticBounded term_limit space.built.form
+  pub few : vec_len space.built.form.weights ≤ site_limit
+  pub stands : WhereMeant f v problem (λ m. Stands m move at space.built)
+
+-- each site keeps its choice
+abbrev pub KeepsChoices : Workspace → Workspace → Type 0
+KeepsChoices old new = new.built.variables.choices.items ≡ old.built.variables.choices.items
+
+-- what is left of the move can be cut: it is listed where a move is to look at the listed sites
+-- alone, there is a choice for each site, and the form is in its limits
+pub record IsReadyToCut (pairs : PairList) (at : List ℕ) (move : Move) (nodes : ℕ)
+    (space : Workspace) : Type 0 where
+  pub near : IsRestWhereListed pairs move at space
+  pub choices : length space.built.variables.choices.items ≡ length at
+  pub bounded : IsQuadraticBounded term_limit space.built.form
+  pub few : vec_len space.built.form.weights ≤ nodes
+
+-- the value of each site's variable, once its choice is assigned
+abbrev pub site_values : List Choice → ℕ → Bool
+site_values choices p = bit_of (choice_at choices p) false
+
+-- do the values change the label of a site?
+abbrev pub moves_site : Move → (ℕ → ℕ) → List Choice → ℕ → Bool
+moves_site move f choices p = not (labelling_made move f (site_values choices) p == f p)
+
+-- do the values change the label of a site of the move from these labels?
+abbrev pub changed_here : Move → List ℕ → List Choice → ℕ → Bool
+changed_here move f choices = moves_site move (labelling f) choices
+
+-- by how much more the labels that the values make come to, by this measure
+abbrev pub rise_by : ((ℕ → ℕ) → ℕ) → Move → List ℕ → List Choice → ℤ
+rise_by measure move f choices =
+    pos (measure (labelling_made move (labelling f) (site_values choices)))
+    -ℤ pos (measure (labelling f))
+
+-- they have a lower energy, label costs left out
+abbrev pub LowersEnergy : Instance → Move → List ℕ → List Choice → Type 0
+LowersEnergy m move f choices = plain_energy m
+    (labelling_made move (labelling f) (site_values choices)) < plain_energy m (labelling f)
+
+-- each site has the label that its value makes
+abbrev pub GivesMade : Move → List Choice → List ℕ → List ℕ → Type 0
+GivesMade move choices f g = (p : ℕ) → p < length f
+    → slice_index g p ≡ label_after move (slice_index f p) (site_values choices p)
+
+-- each site has the label that its value makes in an expansion
+abbrev pub HasTaken : ℕ → (ℕ → Bool) → List ℕ → List ℕ → Type 0
+HasTaken a took f g = (p : ℕ) → p < length f
+    → labelling g p ≡ label_after (Expand a) (labelling f p) (took p)
+
+-- the answer tells whether a label changed
+abbrev pub TellsChange : Bool → List ℕ → List ℕ → Type 0
+TellsChange changed f g = (IsTrue changed → g ≢ f) × (IsFalse changed → g ≡ f)
+
+-- as many sites and labels as before
+abbrev pub KeepsSizes : LabelField → LabelField → Type 0
+KeepsSizes old new = (new.labels ≡ old.labels) × (length new.at ≡ length old.at)
+
+-- the sum of a value over the pairs that are counted at a site, where its label changes
+abbrev pub moved_met : Neighbours → (ℕ → Bool) → (Pair → ℕ) → ℕ → ℕ
+moved_met ends moved value site = count_if (moved site) (met_at ends moved value site)
+
+-- the sites are listed, and among them are all whose labels the values change
+pub record HasChanges (move : Move) (f : List ℕ) (choices : List Choice)
+    (sites : List ℕ) : Type 0 where
+  pub chosen : ℕ → Bool
+  pub listed : IsListing chosen (length f) sites
+  pub each : (p : ℕ) → p < length f → moves_site move (labelling f) choices p ≡ true
+      → chosen p ≡ true
+
+-- so it is in the workspace of an assigned move, whose pairs are by their sites
+pub record AreChangesListed (pairs : PairList) (move : Move) (f : List ℕ)
+    (space : Workspace) : Type 0 where
+  pub by_site : AreBySite pairs space.deciding.ends
+  pub changes : HasChanges move f space.built.variables.choices.items
+      space.deciding.lists.changing.items
+
+-- the energy of the labelling that a value for each site makes
+abbrev pub made_value : Instance → Move → (ℕ → ℕ) → (ℕ → Bool) → ℤ
+made_value m move f x = pos (energy m (labelling_made move f x))
+
+-- the least assignment of the form with the fewest ones makes the least values of all sites with
+-- the fewest ones
+abbrev pub MakesLeast : Instance → Move → List ℕ → MoveEnergy → Type 0
+MakesLeast m move f made = (bits : List Bool)
+    → IsSmallestLeast (vec_len made.form.weights) (quadratic_value made.form) (assignment bits)
+    → IsSmallestLeast m.sites (made_value m move (labelling f))
+    (value_of made.variables.choices.items bits)
+
+-- what the building of the energy of a move answers
+abbrev pub IsBuiltMove : Instance → Move → List ℕ → MoveEnergy → Result Unit BuildError → Type 0
+IsBuiltMove m move f made (Ok done) = IsAllowed m move (labelling f) × MakesLeast m move f made
+IsBuiltMove m move f made (Err e) = IsPrepareRefusal m move (labelling f) e
+
+-- without label costs: the least assignment of the form with the fewest ones makes, with what was
+-- decided, the least values of all sites with the fewest ones
+abbrev pub MakesPlain : Instance → Move → List ℕ → MoveEnergy → Type 0
+MakesPlain m move f made = (bits : List Bool)
+    → IsSmallestLeast (vec_len made.form.weights) (quadratic_value made.form) (assignment bits)
+    → IsSmallestLeast m.sites (move_value m move (labelling f))
+    (value_of made.variables.choices.items bits)
+
+-- what the building of the energy of such a move answers
+abbrev pub IsBuiltPlain : Instance → Move → List ℕ → MoveEnergy → Result Unit BuildError → Type 0
+IsBuiltPlain m move f made (Ok done) = IsAllowed m move (labelling f) × MakesPlain m move f made
+IsBuiltPlain m move f made (Err e) = IsPrepareRefusal m move (labelling f) e
+
+-- what was grouped and decided stays as it is
+abbrev pub KeepsDecided : Workspace → Workspace → Type 0
+KeepsDecided old new = (new.grouped ≡ old.grouped) × (new.deciding ≡ old.deciding)

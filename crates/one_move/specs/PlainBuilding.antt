@@ -1,0 +1,18 @@
+-- What is left where the energy of a move without label costs is built.
+use Rattle.std.specs.Prelude.{List, ℕ, Result, OnOk}
+use Rattle.label_field.specs.Limits.{site_limit}
+use Rattle.label_energies.specs.declared.change.Move.{Move}
+use Rattle.cost_store.specs.declared.problem.Problem.{Problem}
+use Rattle.cost_store.specs.Posed.{Closure, WhereMeant}
+use Rattle.move_energy.specs.declared.error.BuildError.{BuildError}
+use Rattle.one_move.specs.declared.workspace.Workspace.{Workspace}
+use Rattle.one_move.specs.Building.{IsGroupedFor, IsReadyToCut, IsBuiltPlain}
+
+-- such a move is built: the pairs are by their sites as before, what is left can be cut, and the
+-- answer is right
+pub record IsPlainBuilding {F V : Type 0} (f : Closure F) (v : Closure V) (problem : Problem F V)
+    (at : List ℕ) (move : Move) (space : Workspace) (result : Result Unit BuildError)
+    : Type 0 where
+  pub by_site : IsGroupedFor problem.pairs space
+  pub left : OnOk result (IsReadyToCut problem.pairs at move site_limit space)
+  pub built : WhereMeant f v problem (λ m. IsBuiltPlain m move at space.built result)

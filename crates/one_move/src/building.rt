@@ -1,0 +1,383 @@
+//! The energy of a move, of which sites are decided before it is built.
+ghost use Rattle.std.specs.Prelude.{◌≡◌, ◌+◌, ◌<◌, ◌≤◌, length, false, IfOk, IfErr, OnOk, IsTrue};
+ghost use Rattle.one_move.specs.Prelude.{labelling, IsAllowed, site_limit, label_limit};
+ghost use Rattle.one_move.specs.Prelude.{IsPosed};
+ghost use Rattle.one_move.specs.Prelude.{WhereMeant, IsAsked, choice_at, IsPrepareRefusal};
+ghost use Rattle.one_move.specs.Prelude.{IsDecidedMove, move_value, Agree, IsGroupedFor};
+ghost use Rattle.one_move.specs.Prelude.{HasListsOfMove, IsNearWhereListed, IsRestWhereListed};
+ghost use Rattle.one_move.specs.Prelude.{IsReadyMove, IsWeighedMove, IsOpenForm, KeepsChoices};
+ghost use Rattle.one_move.specs.Prelude.{KeepsDecided, IsReadyToCut, IsBuiltMove};
+ghost use Rattle.one_move.specs.Prelude.{IsValuedMove, IsAllowedFrom, costs_of, AreCosts};
+ghost use Rattle.one_move.specs.Prelude.{IsFreeFor};
+ghost use Rattle.one_move.specs.Prelude.{Expand, AreCostsOf};
+ghost use Rattle.one_move.specs.PlainBuilding.{IsPlainBuilding};
+
+use crate::workspace::Workspace;
+use cost_store::{Problem, costs_of, has_cost};
+use cut_ways::How;
+use label_cost_terms::add_label_costs;
+use label_energies::Move;
+use move_energy::{BuildError, OpenSites};
+use site_bounds::MoveToFind;
+use std::alloc::{AllocError, Global};
+use std::mem::swap;
+use strips::{Basis, close_parts};
+
+/// Decides the sites of a move, which the workspace then knows.
+fn decide<F: Fn(u32, u32) -> i64 + Sync, V: Fn(u32, u32) -> i64 + Sync>(
+    alloc: Global,
+    problem: &Problem<F, V>,
+    space: &mut Workspace,
+    at: &[u8],
+    change: Move,
+) -> Result<(), BuildError>
+    requires asked { IsReadyMove F.Fn V.Fn problem.now at.now change space.old }
+    ensures by_site { IsGroupedFor problem.now.pairs space.new }
+    ensures weighed { OnOk result
+        (IsWeighedMove F.Fn V.Fn problem.now at.now change space.new) }
+    ensures decided { WhereMeant F.Fn V.Fn problem.now (λ m. IsDecidedMove m change at.now
+        space.new.built.variables.choices.items result) }
+{
+    space.group(alloc, &problem.pairs)?;
+    space.deciding.decide(problem, at, change)?;
+    swap(
+        &mut space.deciding.bounds.choices,
+        &mut space.built.variables.choices,
+    );
+    Ok(())
+}
+
+/// The energy of a move over its listed open sites, from their weights. What was decided is not
+/// looked at.
+fn build_near<F: Fn(u32, u32) -> i64 + Sync, V: Fn(u32, u32) -> i64 + Sync>(
+    alloc: Global,
+    problem: &Problem<F, V>,
+    space: &mut Workspace,
+    at: &[u8],
+    change: Move,
+) -> Result<(), AllocError>
+    requires weighed { IsWeighedMove F.Fn V.Fn problem.now at.now change space.old }
+    requires listed { IsTrue space.old.deciding.lists.listed }
+    requires allowed { IsAllowedFrom F.Fn V.Fn problem.now at.now change }
+    ensures same { KeepsDecided space.old space.new }
+    ensures kept { KeepsChoices space.old space.new }
+    ensures form { OnOk result (IsOpenForm F.Fn V.Fn problem.now at.now change space.new) }
+{
+    let sites = OpenSites {
+        ends: &space.deciding.ends,
+        opened: &space.deciding.lists.opened,
+    };
+    let weights = &space.deciding.bounds.greatest;
+    space
+        .built
+        .build_weighted_listed(alloc, problem, &sites, weights, at, change)
+}
+
+/// The energy of a move from the weights of its open sites, for which all sites and pairs are
+/// passed.
+fn build_all<F: Fn(u32, u32) -> i64 + Sync, V: Fn(u32, u32) -> i64 + Sync>(
+    alloc: Global,
+    problem: &Problem<F, V>,
+    space: &mut Workspace,
+    at: &[u8],
+    change: Move,
+) -> Result<(), AllocError>
+    requires weighed { IsWeighedMove F.Fn V.Fn problem.now at.now change space.old }
+    requires far { space.old.deciding.lists.listed ≡ false }
+    requires allowed { IsAllowedFrom F.Fn V.Fn problem.now at.now change }
+    ensures by_site { IsGroupedFor problem.now.pairs space.new }
+    ensures far { space.new.deciding.lists.listed ≡ false }
+    ensures kept { KeepsChoices space.old space.new }
+    ensures form { OnOk result (IsOpenForm F.Fn V.Fn problem.now at.now change space.new) }
+{
+    let weights = &space.deciding.bounds.greatest;
+    space
+        .built
+        .build_weighted(alloc, problem, weights, at, change)?;
+    Ok(())
+}
+
+/// The energy of a move whose sites are decided, over its open sites.
+fn build_open<F: Fn(u32, u32) -> i64 + Sync, V: Fn(u32, u32) -> i64 + Sync>(
+    alloc: Global,
+    problem: &Problem<F, V>,
+    space: &mut Workspace,
+    at: &[u8],
+    change: Move,
+) -> Result<(), AllocError>
+    requires weighed { IsWeighedMove F.Fn V.Fn problem.now at.now change space.old }
+    requires allowed { IsAllowedFrom F.Fn V.Fn problem.now at.now change }
+    ensures by_site { IsGroupedFor problem.now.pairs space.new }
+    ensures near { IsNearWhereListed problem.now.pairs change at.now space.new }
+    ensures kept { KeepsChoices space.old space.new }
+    ensures form { OnOk result (IsOpenForm F.Fn V.Fn problem.now at.now change space.new) }
+{
+    if space.deciding.lists.listed {
+        build_near(alloc, problem, space, at, change)
+    } else {
+        build_all(alloc, problem, space, at, change)
+    }
+}
+
+/// The energy of the last strip of a move whose sites are decided: all strips before it are closed
+/// in, so many sites each, and only its own open sites are left.
+fn build_strips<F: Fn(u32, u32) -> i64 + Sync, V: Fn(u32, u32) -> i64 + Sync>(
+    problem: &Problem<F, V>,
+    space: &mut Workspace,
+    at: &[u8],
+    change: Move,
+    size: usize,
+) -> Result<(), AllocError>
+    requires some { 0 < size }
+    requires weighed { IsWeighedMove F.Fn V.Fn problem.now at.now change space.old }
+    requires allowed { IsAllowedFrom F.Fn V.Fn problem.now at.now change }
+    ensures by_site { IsGroupedFor problem.now.pairs space.new }
+    ensures near { OnOk result (IsRestWhereListed problem.now.pairs change at.now space.new) }
+    ensures choices { OnOk result (length space.new.built.variables.choices.items ≡ length at.now) }
+    ensures form { OnOk result (IsOpenForm F.Fn V.Fn problem.now at.now change space.new) }
+    ensures agree { WhereMeant F.Fn V.Fn problem.now (λ m.
+        Agree m.sites (move_value m change (labelling at.now))
+        (choice_at space.old.built.variables.choices.items) →
+        OnOk result (Agree m.sites (move_value m change (labelling at.now))
+        (choice_at space.new.built.variables.choices.items))) }
+{
+    swap(
+        &mut space.deciding.bounds.choices,
+        &mut space.built.variables.choices,
+    );
+    let step = MoveToFind {
+        problem,
+        ends: &space.deciding.ends,
+        table: &space.deciding.table,
+        at,
+        change,
+    };
+    let basis = Basis {
+        start: &space.deciding.bounds.choices,
+        weights: &space.deciding.bounds.greatest,
+    };
+    space
+        .strips
+        .close_in(&step, &basis, &mut space.built, size)?;
+    if space.deciding.lists.listed {
+        swap(&mut space.deciding.lists.opened, &mut space.strips.opened);
+    }
+    Ok(())
+}
+
+/// Decides and closes in the sites of a move by parts, side by side, where the way to cut asks for
+/// parts. It answers whether it did.
+fn close_apart<F: Fn(u32, u32) -> i64 + Sync, V: Fn(u32, u32) -> i64 + Sync, H: How>(
+    alloc: Global,
+    problem: &Problem<F, V>,
+    space: &mut Workspace,
+    at: &[u8],
+    change: Move,
+    how: &H,
+) -> Result<bool, BuildError>
+    requires ready { H.ready how.now }
+    requires asked { IsAsked problem.now at.now change }
+    requires posed { IsPosed F.Fn V.Fn problem.now }
+    requires by_site { IsGroupedFor problem.now.pairs space.old }
+    ensures by_site { IsGroupedFor problem.now.pairs space.new }
+    ensures near { IfOk result (λ done. IsTrue done →
+        HasListsOfMove problem.now.pairs change at.now space.new) }
+    ensures choices { IfOk result (λ done. IsTrue done →
+        length space.new.built.variables.choices.items ≡ length at.now) }
+    ensures closed { WhereMeant F.Fn V.Fn problem.now (λ m. IfOk result (λ done. IsTrue done →
+        IsAllowed m change (labelling at.now)
+        × Agree m.sites (move_value m change (labelling at.now))
+        (choice_at space.new.built.variables.choices.items))) }
+    ensures refused { WhereMeant F.Fn V.Fn problem.now (λ m.
+        IfErr result (IsPrepareRefusal m change (labelling at.now))) }
+{
+    let parts = how.parts(at.len()).min(at.len());
+    if parts < 2 {
+        return Ok(false);
+    }
+    space.group(alloc, &problem.pairs)?;
+    if !space.deciding.open(problem, at, change)? {
+        return Ok(false);
+    }
+    swap(
+        &mut space.deciding.bounds.choices,
+        &mut space.built.variables.choices,
+    );
+    let form = space
+        .deciding
+        .numbers
+        .form(&problem.pairs, &space.deciding.ends, at);
+    let size = how.strip_sites().max(1);
+    let fork = how.fork();
+    close_parts(
+        &fork,
+        &form,
+        &mut space.built.variables.choices,
+        parts,
+        size,
+    )?;
+    space
+        .deciding
+        .lists
+        .fill(at, change, &space.built.variables.choices)?;
+    Ok(true)
+}
+
+/// The energy of what the parts of a move left open, by the costs of its sites and pairs.
+fn build_rest<F: Fn(u32, u32) -> i64 + Sync, V: Fn(u32, u32) -> i64 + Sync>(
+    alloc: Global,
+    problem: &Problem<F, V>,
+    space: &mut Workspace,
+    at: &[u8],
+    change: Move,
+) -> Result<(), AllocError>
+    requires valued { IsValuedMove F.Fn V.Fn problem.now at.now change
+        space.old.built.variables.choices.items }
+    requires near { HasListsOfMove problem.now.pairs change at.now space.old }
+    requires allowed { IsAllowedFrom F.Fn V.Fn problem.now at.now change }
+    ensures same { KeepsDecided space.old space.new }
+    ensures kept { KeepsChoices space.old space.new }
+    ensures form { OnOk result (IsOpenForm F.Fn V.Fn problem.now at.now change space.new) }
+{
+    if space.deciding.lists.listed {
+        let sites = OpenSites {
+            ends: &space.deciding.ends,
+            opened: &space.deciding.lists.opened,
+        };
+        return space.built.build_listed(alloc, problem, &sites, at, change);
+    }
+    match space.built.build(alloc, problem, at, change) {
+        Ok(()) => Ok(()),
+        Err(_) => Err(AllocError),
+    }
+}
+
+/// The energy of a move whose sites were decided first. Where it was closed in by parts, it is that
+/// of the rest, and where more sites are open than one net takes, that of the last strip.
+fn build_decided<F: Fn(u32, u32) -> i64 + Sync, V: Fn(u32, u32) -> i64 + Sync, H: How>(
+    alloc: Global,
+    problem: &Problem<F, V>,
+    space: &mut Workspace,
+    at: &[u8],
+    change: Move,
+    how: &H,
+) -> Result<(), BuildError>
+    requires ready { H.ready how.now }
+    requires asked { IsReadyMove F.Fn V.Fn problem.now at.now change space.old }
+    ensures { IsPlainBuilding F.Fn V.Fn problem.now at.now change space.new result }
+{
+    if close_apart(alloc, problem, space, at, change, how)? {
+        build_rest(alloc, problem, space, at, change)?;
+        return Ok(());
+    }
+    decide(alloc, problem, space, at, change)?;
+    let size = how.strip_sites();
+    if size > 0 && space.deciding.lists.count > size {
+        build_strips(problem, space, at, change, size)?;
+        return Ok(());
+    }
+    build_open(alloc, problem, space, at, change)?;
+    Ok(())
+}
+
+/// The energy of a move of which nothing is decided.
+fn build_whole<F: Fn(u32, u32) -> i64 + Sync, V: Fn(u32, u32) -> i64 + Sync>(
+    alloc: Global,
+    problem: &Problem<F, V>,
+    space: &mut Workspace,
+    at: &[u8],
+    change: Move,
+) -> Result<(), BuildError>
+    requires asked { IsReadyMove F.Fn V.Fn problem.now at.now change space.old }
+    ensures { IsPlainBuilding F.Fn V.Fn problem.now at.now change space.new result }
+{
+    space.deciding.lists.listed = false;
+    space.built.prepare(alloc, problem, at, change)
+}
+
+/// The energy of a move where no label costs anything by itself, its sites decided first or not.
+fn build_plain<F: Fn(u32, u32) -> i64 + Sync, V: Fn(u32, u32) -> i64 + Sync, H: How>(
+    alloc: Global,
+    problem: &Problem<F, V>,
+    space: &mut Workspace,
+    at: &[u8],
+    change: Move,
+    how: &H,
+) -> Result<(), BuildError>
+    requires ready { H.ready how.now }
+    requires asked { IsReadyMove F.Fn V.Fn problem.now at.now change space.old }
+    ensures { IsPlainBuilding F.Fn V.Fn problem.now at.now change space.new result }
+{
+    if how.decides_first() {
+        build_decided(alloc, problem, space, at, change, how)
+    } else {
+        build_whole(alloc, problem, space, at, change)
+    }
+}
+
+/// The energy of an expansion where labels cost something by themselves. What a site costs then
+/// depends on all sites of its label, so nothing is decided.
+fn build_costed<F: Fn(u32, u32) -> i64 + Sync, V: Fn(u32, u32) -> i64 + Sync>(
+    alloc: Global,
+    problem: &Problem<F, V>,
+    space: &mut Workspace,
+    at: &[u8],
+    alpha: u32,
+    costs: &[i64],
+) -> Result<(), BuildError>
+    requires asked { IsReadyMove F.Fn V.Fn problem.now at.now (Expand alpha) space.old }
+    requires label_costs { AreCosts problem.now.data_cost.labels costs.now }
+    requires few { problem.now.data_cost.labels ≤ label_limit }
+    ensures by_site { IsGroupedFor problem.now.pairs space.new }
+    ensures left { OnOk result (IsReadyToCut problem.now.pairs at.now (Expand alpha)
+        (site_limit + label_limit) space.new) }
+    ensures built { WhereMeant F.Fn V.Fn problem.now (λ m. AreCostsOf m costs.now →
+        IsBuiltMove m (Expand alpha) at.now space.new.built result) }
+{
+    space.deciding.lists.listed = false;
+    space
+        .built
+        .prepare(alloc, problem, at, Move::Expand(alpha))?;
+    add_label_costs(
+        alloc,
+        &mut space.built.form,
+        &space.built.variables,
+        at,
+        alpha,
+        costs,
+    )?;
+    Ok(())
+}
+
+/// The energy of a move: with label costs nothing is decided, and without them its sites are
+/// decided first or not.
+pub(crate) fn build_move<F: Fn(u32, u32) -> i64 + Sync, V: Fn(u32, u32) -> i64 + Sync, H: How>(
+    alloc: Global,
+    problem: &Problem<F, V>,
+    space: &mut Workspace,
+    at: &[u8],
+    change: Move,
+    how: &H,
+) -> Result<(), BuildError>
+    requires ready { H.ready how.now }
+    requires asked { IsReadyMove F.Fn V.Fn problem.now at.now change space.old }
+    requires few { problem.now.data_cost.labels ≤ label_limit }
+    requires free { IsFreeFor change (costs_of problem.now.label_costs) }
+    ensures by_site { IsGroupedFor problem.now.pairs space.new }
+    ensures left { OnOk result (IsReadyToCut problem.now.pairs at.now change
+        (site_limit + label_limit) space.new) }
+    ensures built { WhereMeant F.Fn V.Fn problem.now
+        (λ m. IsBuiltMove m change at.now space.new.built result) }
+{
+    let costs = costs_of(&problem.label_costs);
+    let costly = has_cost(costs);
+    match change {
+        Move::Swap(_, _) => build_plain(alloc, problem, space, at, change, how),
+        Move::Expand(alpha) => {
+            if costly {
+                return build_costed(alloc, problem, space, at, alpha, costs);
+            }
+            build_plain(alloc, problem, space, at, change, how)
+        }
+    }
+}

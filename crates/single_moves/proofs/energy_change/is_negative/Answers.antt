@@ -1,5 +1,0 @@
-use Rattle.std.proofs.Common.{rules}
-use Rattle.single_moves.proofs.energy_change.is_negative.Goals as goal
-
-pub returns : goal.returns
-returns c = search rules

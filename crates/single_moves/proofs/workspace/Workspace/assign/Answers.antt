@@ -1,5 +1,0 @@
-use Rattle.std.proofs.Common.{rules}
-use Rattle.single_moves.proofs.workspace.Workspace.assign.Goals as goal
-
-pub assign_listed-requires : goal.assign_listed-requires
-assign_listed-requires c = search rules

@@ -1,0 +1,310 @@
+-- Bounds that are written, their range, and the sites that wait.
+use Rattle.std.proofs.Common.{◌≡◌, ◌≢◌, ℕ, ◌+◌, ◌*◌, ◌<◌, ◌≤◌, Bool, List, [], ◌∷◌, ◌++◌, length, get_or, All, Contains, ℤ, pos, ◌+ℤ◌, ◌≤ℤ◌, ◌<ℤ◌, unsigned_abs, w64, to_z, of_z, refl, sym, ap, ◌∙◌, inl, inr, subst, arith}
+use Rattle.std.specs.Prelude.{slice_set}
+use Rattle.std.specs.List.{sum_by}
+use Rattle.std.proofs.lemmas.List.Sums.{sum_by-set, sum_by_push}
+use Rattle.std.proofs.lemmas.Bool.{cases_eq, cases_lt}
+use Rattle.std.proofs.lemmas.List.{get_or-set_same, get_or-set_other, get_or_push, get_or_append_left, length-append}
+use Rattle.std.proofs.Math.ListN.{get_or-eq_default}
+use Rattle.sums.proofs.IntegerSumLemmas.{abs-add}
+use Rattle.move_energy.specs.declared.choice.Choice.TheVariants.{Open}
+use Rattle.move_energy.specs.Choices.{choice_at}
+use Rattle.site_bounds.specs.declared.bounds.Bounds.{Bounds}
+use Rattle.move_prices.proofs.SiteSums.{sum_passed}
+use Rattle.site_bounds.specs.Working.{bound_at, budget_of, CanDecide, IsSummed, IsWithinRange, AddsBounds, AreWaiting, AreWaitingBut, Shifts, least_shift, greatest_shift, CallsUp, IsMarked, IsLooking, greatest_total}
+
+-- ---- written bounds
+
+set_bound : (old new : List ℤ) (site : ℕ) (z : ℤ) → new ≡ slice_set old site z → site < length old → bound_at new site ≡ z
+set_bound old new site z is l = ap (λ (xs : List ℤ). bound_at xs site) is ∙ get_or-set_same old site z (pos 0) l
+
+other_bound : (old new : List ℤ) (site u : ℕ) (z : ℤ) → new ≡ slice_set old site z → u ≢ site → bound_at new u ≡ bound_at old u
+other_bound old new site u z is off = ap (λ (xs : List ℤ). bound_at xs u) is ∙ get_or-set_other old site u z (pos 0) off
+
+pub raised_shifts : (site : ℕ) (value : Bool) (surplus a b : ℤ) (old new : Bounds) → site < length old.least.items → site < length old.greatest.items
+    → new.least.items ≡ slice_set old.least.items site (bound_at old.least.items site +ℤ a) → new.greatest.items ≡ slice_set old.greatest.items site (bound_at old.greatest.items site +ℤ b)
+    → a ≡ least_shift value surplus → b ≡ greatest_shift value surplus → Shifts site value surplus old new
+raised_shifts site value surplus a b old new l k least greatest a_is b_is = record {
+  least = set_bound old.least.items new.least.items site _ least l ∙ ap (λ z. bound_at old.least.items site +ℤ z) a_is;
+  greatest = set_bound old.greatest.items new.greatest.items site _ greatest k ∙ ap (λ z. bound_at old.greatest.items site +ℤ z) b_is;
+  others = λ u off. (other_bound old.least.items new.least.items site u _ least off, other_bound old.greatest.items new.greatest.items site u _ greatest off);
+}
+
+pub range_wider : (a b : ℕ) (x : Bounds) → a ≤ b → IsWithinRange a x → IsWithinRange b x
+range_wider a b x l h u = (omega (arith, l, (h u).0), omega (arith, l, (h u).1))
+
+abs_more : (new old z : ℤ) (most k : ℕ) → new ≡ old +ℤ z → unsigned_abs old ≤ most → unsigned_abs z ≤ k → unsigned_abs new ≤ most + k
+abs_more new old z most k is h l = (let e = ap unsigned_abs is in let a = abs-add old z in omega (arith, e, a, h, l))
+
+abs_same : (new old : ℤ) (most k : ℕ) → new ≡ old → unsigned_abs old ≤ most → unsigned_abs new ≤ most + k
+abs_same new old most k is h = (let e = ap unsigned_abs is in omega (arith, e, h))
+
+-- written at one place, no bound grows by more than what was added
+pub raised_range : (site : ℕ) (a b : ℤ) (k : ℕ) (old new : Bounds) → site < length old.least.items → site < length old.greatest.items → unsigned_abs a ≤ k → unsigned_abs b ≤ k
+    → new.least.items ≡ slice_set old.least.items site (bound_at old.least.items site +ℤ a) → new.greatest.items ≡ slice_set old.greatest.items site (bound_at old.greatest.items site +ℤ b)
+    → (most : ℕ) → IsWithinRange most old → IsWithinRange (most + k) new
+raised_range site a b k old new l j small_a small_b least greatest most within u = elim (cases_eq u site) [
+  | inl same ↦ (
+    abs_more _ _ a most k (ap (bound_at new.least.items) same ∙ set_bound old.least.items new.least.items site _ least l) ((within site).0) small_a,
+    abs_more _ _ b most k (ap (bound_at new.greatest.items) same ∙ set_bound old.greatest.items new.greatest.items site _ greatest j) ((within site).1) small_b,
+  )
+  | inr other ↦ (
+    abs_same _ _ most k (other_bound old.least.items new.least.items site u _ least other) ((within u).0),
+    abs_same _ _ most k (other_bound old.greatest.items new.greatest.items site u _ greatest other) ((within u).1),
+  )
+]
+
+-- nor do all greatest ones together
+pub raised_total : (site k : ℕ) (b : ℤ) (old new : Bounds) → site < length old.greatest.items → unsigned_abs b ≤ k
+    → new.greatest.items ≡ slice_set old.greatest.items site (bound_at old.greatest.items site +ℤ b) → greatest_total new ≤ greatest_total old + k
+raised_total site k b old new l small greatest =
+    let e = ap (λ (xs : List ℤ). sum_by unsigned_abs xs) greatest in
+    let set = sum_by-set unsigned_abs old.greatest.items site (bound_at old.greatest.items site +ℤ b) (pos 0) l in
+    let a = abs-add (bound_at old.greatest.items site) b in
+    omega (arith, e, set, a, small)
+
+-- ---- bounds that are added
+
+pushed_at : {A : Type 0} (old new : List A) (x d : A) (n : ℕ) → new ≡ old ++ x ∷ [] → length old ≡ n → get_or new n d ≡ x
+pushed_at old new x d n is len = ap (λ (xs : List _). get_or xs n d) is ∙ get_or_push old x d n len
+
+pushed_before : {A : Type 0} (old new : List A) (x d : A) (n u : ℕ) → new ≡ old ++ x ∷ [] → length old ≡ n → u < n → get_or new u d ≡ get_or old u d
+pushed_before old new x d n u is len l = ap (λ (xs : List _). get_or xs u d) is ∙ get_or_append_left old (x ∷ []) d u (omega (arith, l, len))
+
+pushed_len : {A : Type 0} (old new : List A) (x : A) (n : ℕ) → new ≡ old ++ x ∷ [] → length old ≡ n → length new ≡ n + 1
+pushed_len old new x n is len = ap (λ (xs : List _). length xs) is ∙ omega (arith, length-append old (x ∷ []), len)
+
+past_end : (xs : List ℤ) (n u : ℕ) → length xs ≡ n → n ≤ u → unsigned_abs (bound_at xs u) ≡ 0
+past_end xs n u len l = ap unsigned_abs (get_or-eq_default xs (pos 0) {n = u} (omega (arith, len, l)))
+
+added_within : (old new : List ℤ) (z : ℤ) (k u most : ℕ) → length old ≡ k → new ≡ old ++ z ∷ [] → unsigned_abs z ≤ most → unsigned_abs (bound_at old u) ≤ most → unsigned_abs (bound_at new u) ≤ most
+added_within old new z k u most len is small before = elim (cases_lt u k) [
+  | inl earlier ↦ (let e = ap unsigned_abs (pushed_before old new z (pos 0) k u is len earlier) in omega (arith, e, before))
+  | inr at ↦ elim (cases_eq u k) [
+    | inl same ↦ (let e = ap unsigned_abs (ap (bound_at new) same ∙ pushed_at old new z (pos 0) k is len) in omega (arith, e, small))
+    | inr other ↦ (let e = past_end new (k + 1) u (pushed_len old new z k is len) (omega (arith, at, other)) in omega (arith, e))
+  ]
+]
+
+-- the bounds of a site are added
+pub record AreAdded (k : ℕ) (low high : ℤ) (old new : Bounds) : Type 0 where
+  pub least_len : length old.least.items ≡ k
+  pub greatest_len : length old.greatest.items ≡ k
+  pub least : new.least.items ≡ old.least.items ++ low ∷ []
+  pub greatest : new.greatest.items ≡ old.greatest.items ++ high ∷ []
+  pub choices : new.choices ≡ old.choices
+  pub waiting : new.waiting ≡ old.waiting
+
+pub added_of : (k : ℕ) (low high : ℤ) (old new : Bounds) → length old.least.items ≡ k → length old.greatest.items ≡ length old.least.items → AddsBounds low high old new → AreAdded k low high old new
+added_of k low high old new count same adds = record {
+  least_len = count;
+  greatest_len = same ∙ count;
+  least = adds.least;
+  greatest = adds.greatest;
+  choices = adds.choices;
+  waiting = adds.waiting;
+}
+
+-- all greatest ones together, with one more
+pub added_total : (k most : ℕ) (least greatest : ℤ) (old new : Bounds) → AreAdded k least greatest old new → unsigned_abs greatest ≤ most → greatest_total new ≤ greatest_total old + most
+added_total k most least greatest old new added small =
+    let e = ap (λ (xs : List ℤ). sum_by unsigned_abs xs) added.greatest in
+    omega (arith, e, sum_by_push unsigned_abs old.greatest.items greatest, small)
+
+pub total_same : (a b : Bounds) → b.greatest ≡ a.greatest → greatest_total b ≡ greatest_total a
+total_same a b gs = ap (λ (v : _). sum_by unsigned_abs v.items) gs
+
+-- there are none
+pub empty_list : {A : Type 0} (xs : List A) → length xs ≡ 0 → xs ≡ []
+empty_list [] none = refl
+empty_list (x ∷ xs) none = absurd (omega (arith, none))
+
+pub total_none : (b : Bounds) → length b.greatest.items ≡ 0 → greatest_total b ≡ 0
+total_none b none = ap (λ (xs : List ℤ). sum_by unsigned_abs xs) (empty_list b.greatest.items none)
+
+pub empty_range : (most : ℕ) (b : Bounds) → length b.least.items ≡ 0 → length b.greatest.items ≡ 0 → IsWithinRange most b
+empty_range most b least greatest u =
+    let a = past_end b.least.items 0 u least (omega arith) in
+    let d = past_end b.greatest.items 0 u greatest (omega arith) in
+    (omega (arith, a), omega (arith, d))
+
+pub added_range : (k most : ℕ) (least greatest : ℤ) (old new : Bounds) → AreAdded k least greatest old new → unsigned_abs least ≤ most → unsigned_abs greatest ≤ most
+    → IsWithinRange most old → IsWithinRange most new
+added_range k most least greatest old new added small large within u = (
+  added_within old.least.items new.least.items least k u most added.least_len added.least small ((within u).0),
+  added_within old.greatest.items new.greatest.items greatest k u most added.greatest_len added.greatest large ((within u).1),
+)
+
+pub added_summed : (n k : ℕ) (least greatest : ℤ) (old new : Bounds) → AreAdded k least greatest old new → k < n → length old.choices.items ≡ n
+    → (length new.least.items ≡ k + 1) × IsSummed n new
+added_summed n k least greatest old new added inside count =
+    let one = pushed_len old.least.items new.least.items least k added.least added.least_len in
+    let two = pushed_len old.greatest.items new.greatest.items greatest k added.greatest added.greatest_len in (
+      one,
+      record {
+        choices = ap (λ (v : _). length v.items) added.choices ∙ count;
+        greatest = two ∙ sym one;
+        within = omega (arith, one, inside);
+      },
+    )
+
+pub least_before : (k u : ℕ) (least greatest : ℤ) (old new : Bounds) → AreAdded k least greatest old new → u < k
+    → (bound_at new.least.items u ≡ bound_at old.least.items u) × (bound_at new.greatest.items u ≡ bound_at old.greatest.items u)
+least_before k u least greatest old new added l = (
+  pushed_before old.least.items new.least.items least (pos 0) k u added.least added.least_len l,
+  pushed_before old.greatest.items new.greatest.items greatest (pos 0) k u added.greatest added.greatest_len l,
+)
+
+pub least_at : (k : ℕ) (least greatest : ℤ) (old new : Bounds) → AreAdded k least greatest old new
+    → (bound_at new.least.items k ≡ least) × (bound_at new.greatest.items k ≡ greatest)
+least_at k least greatest old new added = (
+  pushed_at old.least.items new.least.items least (pos 0) k added.least added.least_len,
+  pushed_at old.greatest.items new.greatest.items greatest (pos 0) k added.greatest added.greatest_len,
+)
+
+-- ---- sites that wait
+
+pub tells_same : (old new : Bounds) (u : ℕ) → bound_at new.least.items u ≡ bound_at old.least.items u → bound_at new.greatest.items u ≡ bound_at old.greatest.items u
+    → CanDecide new u → CanDecide old u
+tells_same old new u least greatest (inl tells) = (let P : ℤ → Type 0 = λ z. pos 0 ≤ℤ z in inl (subst P least tells))
+tells_same old new u least greatest (inr tells) = (let P : ℤ → Type 0 = λ z. z <ℤ pos 0 in inr (subst P greatest tells))
+
+pub below_not : (u n : ℕ) → u < n → u ≢ n
+below_not u n l same = omega (arith, l, same)
+
+-- the bounds of one site were shifted
+pub shifted_waits : (n site : ℕ) (value : Bool) (surplus : ℤ) (old new : Bounds) → new.choices ≡ old.choices → new.waiting ≡ old.waiting → Shifts site value surplus old new
+    → AreWaiting n old → AreWaitingBut n site new
+shifted_waits n site value surplus old new cs ws shifts waiting =
+    let P : List ℕ → Type 0 = λ xs. All (λ u. u < n) xs in
+    let items = ap (λ (v : _). v.items) ws in
+    record {
+      sites = subst P (sym items) waiting.sites;
+      each = λ u l off opened tells.
+          let C : List ℕ → Type 0 = λ xs. Contains xs u in
+          subst C (sym items) (waiting.each u l (below_not u n l) (ap (λ (v : _). choice_at v.items u) (sym cs) ∙ opened)
+          (tells_same old new u ((shifts.others u off).0) ((shifts.others u off).1) tells));
+    }
+
+-- the bounds of the next site were added
+pub added_waits : (k : ℕ) (least greatest : ℤ) (old new : Bounds) → AreAdded k least greatest old new → AreWaiting k old → AreWaitingBut (k + 1) k new
+added_waits k least greatest old new added waiting =
+    let items = ap (λ (v : _). v.items) added.waiting in
+    let P : List ℕ → Type 0 = λ xs. All (λ u. u < k + 1) xs in
+    record {
+      sites = subst P (sym items) (λ i d l. (let h = waiting.sites i d l in omega (arith, h)));
+      each = λ u l off opened tells.
+          let C : List ℕ → Type 0 = λ xs. Contains xs u in
+          let before : u < k = omega (arith, l, off) in
+          let same = least_before k u least greatest old new added before in
+          subst C (sym items) (waiting.each u before off (ap (λ (v : _). choice_at v.items u) (sym added.choices) ∙ opened) (tells_same old new u same.0 same.1 tells));
+    }
+
+-- and it is decided
+pub closed_waits : (k : ℕ) (b : Bounds) → choice_at b.choices.items k ≢ Open → AreWaitingBut (k + 1) k b → AreWaiting (k + 1) b
+closed_waits k b closed but = record {
+  sites = but.sites;
+  each = λ u l off opened tells. elim (cases_eq u k) [
+    | inl same ↦ absurd (closed (sym (ap (choice_at b.choices.items) same) ∙ opened))
+    | inr other ↦ but.each u l other opened tells
+  ];
+}
+
+-- and that site waited already
+pub still_waits : (n site : ℕ) (value : Bool) (surplus : ℤ) (old new : Bounds) → new.choices ≡ old.choices → new.waiting ≡ old.waiting → Shifts site value surplus old new
+    → CanDecide old site → AreWaiting n old → AreWaiting n new
+still_waits n site value surplus old new cs ws shifts did waiting =
+    let but = shifted_waits n site value surplus old new cs ws shifts waiting in
+    record {
+      sites = but.sites;
+      each = λ u l off opened tells. elim (cases_eq u site) [
+        | inl same ↦
+            let D : ℕ → Type 0 = λ v. CanDecide old v in
+            let C : List ℕ → Type 0 = λ xs. Contains xs u in
+            subst C (sym (ap (λ (v : _). v.items) ws)) (waiting.each u l off (ap (λ (v : _). choice_at v.items u) (sym cs) ∙ opened) (subst D (sym same) did))
+        | inr other ↦ but.each u l other opened tells
+      ];
+    }
+
+-- a site was called up
+pub called_waits : (n site : ℕ) (old new : Bounds) → site < n → new.choices ≡ old.choices → new.least ≡ old.least → new.greatest ≡ old.greatest → CallsUp site old new
+    → AreWaitingBut n site old → AreWaiting n new
+called_waits n site old new inside cs ls gs calls but = record {
+  sites = calls.sites n inside but.sites;
+  each = λ u l off opened tells.
+      let did = tells_same old new u (ap (λ (v : _). bound_at v.items u) ls) (ap (λ (v : _). bound_at v.items u) gs) tells in
+      elim (cases_eq u site) [
+        | inl same ↦
+            let D : ℕ → Type 0 = λ v. CanDecide old v in
+            let C : ℕ → Type 0 = λ v. Contains new.waiting.items v in
+            subst C (sym same) (calls.called (subst D same did))
+        | inr other ↦ calls.kept u (but.each u l other (ap (λ (v : _). choice_at v.items u) (sym cs) ∙ opened) did)
+      ];
+}
+
+-- a site was decided
+pub decided_waits : (n site : ℕ) (value : Bool) (old new : Bounds) → IsMarked site value old new → AreWaitingBut n site old → AreWaiting n new
+decided_waits n site value old new marked but =
+    let items = ap (λ (v : _). v.items) marked.waiting in
+    let P : List ℕ → Type 0 = λ xs. All (λ u. u < n) xs in
+    record {
+      sites = subst P (sym items) but.sites;
+      each = λ u l off opened tells. elim (cases_eq u site) [
+        | inl same ↦ absurd (marked.closed (ap (choice_at new.choices.items) (sym same) ∙ opened))
+        | inr other ↦
+            let C : List ℕ → Type 0 = λ xs. Contains xs u in
+            subst C (sym items) (but.each u l other (sym (marked.others u other) ∙ opened)
+            (tells_same old new u (ap (λ (v : _). bound_at v.items u) marked.least) (ap (λ (v : _). bound_at v.items u) marked.greatest) tells))
+      ];
+    }
+
+-- ---- one site is shifted, and perhaps called up
+
+pub range_same : (a b : Bounds) (most : ℕ) → b.least ≡ a.least → b.greatest ≡ a.greatest → IsWithinRange most a → IsWithinRange most b
+range_same a b most ls gs within u =
+    let p = ap (λ (v : _). unsigned_abs (bound_at v.items u)) ls in
+    let q = ap (λ (v : _). unsigned_abs (bound_at v.items u)) gs in
+    (omega (arith, p, (within u).0), omega (arith, q, (within u).1))
+
+pub summed_same : (n : ℕ) (a b : Bounds) → b.choices ≡ a.choices → b.least ≡ a.least → b.greatest ≡ a.greatest → IsSummed n a → IsSummed n b
+summed_same n a b cs ls gs was =
+    let count = ap (λ (v : _). length v.items) ls in
+    record {
+      choices = ap (λ (v : _). length v.items) cs ∙ was.choices;
+      greatest = ap (λ (v : _). length v.items) gs ∙ was.greatest ∙ sym count;
+      within = omega (arith, count, was.within);
+    }
+
+pub looking_of : (old mid new : Bounds) → mid.choices ≡ old.choices → length mid.least.items ≡ length old.least.items → length mid.greatest.items ≡ length old.greatest.items
+    → ((most : ℕ) → IsWithinRange most old → IsWithinRange (most + 20000000) mid) → greatest_total mid ≤ greatest_total old + 20000000 → new.choices ≡ mid.choices → new.least ≡ mid.least → new.greatest ≡ mid.greatest
+    → length new.waiting.items ≤ length old.waiting.items + 1 → IsLooking 1 old new
+looking_of old mid new mc ml mg range total nc nl ng few = record {
+  choices = nc ∙ mc;
+  least_len = ap (λ (v : _). length v.items) nl ∙ ml;
+  greatest_len = ap (λ (v : _). length v.items) ng ∙ mg;
+  waiting = few;
+  range = λ most within. range_wider (most + 20000000) (most + 20000000 * 1) new (omega arith) (range_same mid new (most + 20000000) nl ng (range most within));
+  total = omega (arith, total, total_same mid new ng);
+}
+
+pub looking_none : (b : Bounds) → IsLooking 1 b b
+looking_none b = record {
+  choices = refl;
+  least_len = refl;
+  greatest_len = refl;
+  waiting = omega arith;
+  range = λ most within. range_wider most (most + 20000000 * 1) b (omega arith) within;
+  total = omega arith;
+}
+
+pub shifts_same : (site : ℕ) (value : Bool) (surplus : ℤ) (old mid new : Bounds) → new.least ≡ mid.least → new.greatest ≡ mid.greatest → Shifts site value surplus old mid
+    → Shifts site value surplus old new
+shifts_same site value surplus old mid new ls gs shifts = record {
+  least = ap (λ (v : _). bound_at v.items site) ls ∙ shifts.least;
+  greatest = ap (λ (v : _). bound_at v.items site) gs ∙ shifts.greatest;
+  others = λ u other. (ap (λ (v : _). bound_at v.items u) ls ∙ (shifts.others u other).0, ap (λ (v : _). bound_at v.items u) gs ∙ (shifts.others u other).1);
+}
+
+-- the bounds of a site that was summed have room
+pub sum_room : (z : ℤ) (k n : ℕ) → unsigned_abs z ≤ 10000000 + 10000000 * k → k ≤ 8388608 → n ≤ 8388608 → unsigned_abs (to_z w64 (of_z w64 z)) ≤ budget_of n
+sum_room z k n within few left = (let e = ap unsigned_abs (sum_passed z k within few) in omega (arith, e, within, few, left))

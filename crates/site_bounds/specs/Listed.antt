@@ -1,0 +1,42 @@
+-- The lists of the sites that a move has left to look at, made where these are few.
+use Rattle.std.specs.Prelude.{◌≡◌, ◌↔◌, ◌==◌, ◌||◌, ℕ, ◌*◌, ◌≤◌, Bool, false, not, IsTrue, List, []}
+use Rattle.std.specs.Prelude.{length}
+use Rattle.label_energies.specs.declared.change.Move.{Move}
+use Rattle.label_energies.specs.Moves.{label_after}
+use Rattle.move_energy.specs.BySite.{IsListing}
+use Rattle.move_energy.specs.declared.choice.Choice.{Choice}
+use Rattle.move_energy.specs.Choices.{bit_of, choice_at, is_open, open_count, open_at, AreOpenSites}
+use Rattle.site_bounds.specs.declared.lists.Lists.{Lists}
+
+-- nothing is counted, and no site is listed
+pub record AreListsEmpty (lists : Lists) : Type 0 where
+  pub count : lists.count ≡ 0
+  pub listed : lists.listed ≡ false
+  pub opened : lists.opened.items ≡ []
+  pub changing : lists.changing.items ≡ []
+
+-- is a site open, or decided to get another label than this one, which it has?
+abbrev pub can_become_other : Move → ℕ → Choice → Bool
+can_become_other move label choice =
+    is_open choice || not (label_after move label (bit_of choice false) == label)
+
+-- which sites are open, or decided to get another label than they have
+abbrev pub changes : Move → (ℕ → ℕ) → List Choice → ℕ → Bool
+changes move f choices p =
+    open_at choices p || not (label_after move (f p) (bit_of (choice_at choices p) false) == f p)
+
+-- of the first n sites the open ones are listed, and those whose labels can still become others
+pub record AreListedBelow (n : ℕ) (move : Move) (f : ℕ → ℕ) (choices : List Choice)
+    (lists : Lists) : Type 0 where
+  pub opened : IsListing (open_at choices) n lists.opened.items
+  pub changing : IsListing (changes move f choices) n lists.changing.items
+
+-- the open sites are counted; where they are an eighth of all at most, they are listed, and so are
+-- the sites whose labels can still become others
+pub record AreListed (move : Move) (f : ℕ → ℕ) (choices : List Choice)
+    (lists : Lists) : Type 0 where
+  pub count : lists.count ≡ open_count choices
+  pub few : IsTrue lists.listed ↔ (lists.count * 8 ≤ length choices)
+  pub opened : IsTrue lists.listed → AreOpenSites choices lists.opened.items
+  pub changing : IsTrue lists.listed → IsListing (changes move f choices)
+      (length choices) lists.changing.items

@@ -1,0 +1,18 @@
+//! Sites of a move whose value is known before anything is cut, decided one after another
+//! (Iyer, Jegelka, Bilmes, ICML 2013, section 4; for graph cuts Boros and Hammer 2002).
+#![tactic(auto)]
+
+mod bounds;
+pub mod laws;
+mod lists;
+mod own_bounds;
+mod sites;
+mod sweeps;
+mod waiting_sites;
+
+pub use bounds::Bounds;
+pub use lists::Lists;
+pub use move_prices::{EndRises, ExpansionRises, LabelEntry, MoveToFind, RiseTable, pair_surplus};
+pub use site_forms::{FormLists, SiteForm, pair_saving};
+pub use sites::Deciding;
+pub use sweeps::{read_weight, sweep};

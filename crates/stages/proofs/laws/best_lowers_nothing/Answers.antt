@@ -1,5 +1,0 @@
-use Rattle.stages.proofs.Ending.{best_is_low}
-use Rattle.stages.proofs.laws.best_lowers_nothing.Goals as goal
-
-pub returns : goal.returns
-returns c = best_is_low

@@ -1,5 +1,0 @@
-use Rattle.stages.proofs.Ending.{set_least}
-use Rattle.stages.proofs.laws.closed_set_is_least.Goals as goal
-
-pub returns : goal.returns
-returns c = set_least

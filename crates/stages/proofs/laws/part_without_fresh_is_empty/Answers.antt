@@ -1,5 +1,0 @@
-use Rattle.stages.proofs.Parts.{no_stale_part}
-use Rattle.stages.proofs.laws.part_without_fresh_is_empty.Goals as goal
-
-pub returns : goal.returns
-returns c = no_stale_part

@@ -1,6 +1,0 @@
-use Rattle.move_energy.specs.BySite.{IsListing}
-use Rattle.move_energy.specs.Choices.{open_at}
-use Rattle.stages.proofs.opening.list_block.Given as goal
-
-abbrev pub invariant-loop-site : goal.invariant-loop-site
-invariant-loop-site l = IsListing (open_at l.choices) l.site l.opened.items

@@ -1,9 +1,0 @@
-use Rattle.stages.specs.Working.{OpensWithin}
-use Rattle.stages.proofs.Opens.{AreFirstLookedAt}
-use Rattle.stages.proofs.opening.open_all.Given as goal
-
-abbrev pub invariant-loop-index : goal.invariant-loop-index
-invariant-loop-index l = record {
-  opened : OpensWithin l.window l.fn.choices.items l.choices.items;
-  looked : AreFirstLookedAt l.window l.sites l.index l.choices.items;
-}

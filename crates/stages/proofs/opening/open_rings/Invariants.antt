@@ -1,9 +1,0 @@
-use Rattle.std.proofs.Common.{◌<◌, All}
-use Rattle.stages.specs.Working.{OpensWithin}
-use Rattle.stages.proofs.opening.open_rings.Given as goal
-
-abbrev pub invariant-loop : goal.invariant-loop
-invariant-loop l = record {
-  opened : OpensWithin l.window l.fn.choices.items l.choices.items;
-  inside : All (λ p. p < l.pairs.sites) l.ring.items;
-}
