@@ -95,8 +95,8 @@ uninstall:
 	sh release/install.sh --uninstall --prefix "$(PREFIX)" --destdir "$(DESTDIR)"
 
 check: check-pages check-program check-bindings release
-	$(PYTHON) tools/try_release.py $(ARCHIVE) $(DEB)
-	$(PYTHON) tools/run_pages.py --release $(STAGE) $(PAGES)
+	$(PYTHON) tools/trials/try_release.py $(ARCHIVE) $(DEB)
+	$(PYTHON) tools/trials/run_pages.py --release $(STAGE) $(PAGES)
 	@echo "check: all passed"
 
 # The library of ARM must not stay where that of this machine is looked for.
@@ -104,7 +104,7 @@ check-arm: $(GCO)
 	$(MAKE) release ARCH=aarch64
 	$(BINDINGS) clean
 	$(BINDINGS) all
-	PYTHONPATH=bindings/dist/python $(PYTHON) tools/try_arm.py dist/gco-$(VERSION)-linux-aarch64.tar.gz \
+	PYTHONPATH=bindings/dist/python $(PYTHON) tools/trials/try_arm.py dist/gco-$(VERSION)-linux-aarch64.tar.gz \
 		dist/gco_$(VERSION)_arm64.deb --gco $(abspath $(GCO))
 
 # What the pages say of the sources and of each other.
@@ -114,9 +114,9 @@ check-pages: check-packages
 
 # The built program: against the definitions, on damaged inputs, and with each allocation refused.
 check-program: check-packages $(GCO)
-	$(PYTHON) tools/program_by_definition.py --gco $(GCO)
-	$(PYTHON) tools/hostile.py --gco $(GCO) --count 2000
-	$(PYTHON) tools/refused_growths.py --gco $(GCO)
+	$(PYTHON) tools/trials/program_by_definition.py --gco $(GCO)
+	$(PYTHON) tools/trials/hostile.py --gco $(GCO) --count 2000
+	$(PYTHON) tools/trials/refused_growths.py --gco $(GCO)
 
 # The tests of the bindings compare with the program too.
 check-bindings: check-packages $(GCO)
@@ -133,7 +133,7 @@ check-web: $(GCO)
 	$(WEB) test GCO=$(abspath $(GCO)) LIBRARY=$(abspath bindings/dist/lib/libgco_pictures.so)
 
 check-packages:
-	@$(PYTHON) tools/check_packages.py
+	@$(PYTHON) tools/checks/check_packages.py
 
 bench: $(GCO)
 	$(MAKE) -C bench GCO=$(abspath $(GCO)) PYTHON=$(PYTHON) BENCH_OPTIONS="$(BENCH_OPTIONS)"

@@ -12,7 +12,7 @@ one. Memory is the most that was in use at once. The pictures that are written h
 byte for byte, and the energies too: else the status is 1.
 
 The tables go to standard output and into the folder --out. `--renew` puts them into docs/MEASURED.md
-too, between their marks, and the mean into the pages that tell it (tools/check_figures.py). On a
+too, between their marks, and the mean into the pages that tell it (tools/checks/check_figures.py). On a
 machine that does other work the seconds mean nothing, and the ratios little.
 """
 import argparse
@@ -34,7 +34,7 @@ from inputs import make_inputs
 
 HERE = Path(__file__).resolve().parent
 TOP = HERE.parent
-sys.path.insert(0, str(TOP / "tools"))
+sys.path[:0] = [str(TOP / "tools/checks"), str(TOP / "tools/users")]
 import check_figures  # noqa: E402
 import where_time_goes  # noqa: E402
 

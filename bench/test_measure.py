@@ -16,7 +16,7 @@ HERE = Path(__file__).resolve().parent
 # The pictures want numpy and Pillow; here none is made.
 sys.modules.setdefault("inputs", types.SimpleNamespace(make_inputs=lambda folder: None))
 sys.path.insert(0, str(HERE))
-sys.path.insert(0, str(HERE.parent / "tools"))
+sys.path.insert(0, str(HERE.parent / "tools/checks"))
 import check_figures  # noqa: E402
 import measure  # noqa: E402
 

@@ -3,14 +3,14 @@
 
     python3 bench/test_peer.py bench/out/peer
 
-`tools/pictures_by_definition.py` tries every labelling that a move reaches.
+`tools/tables/pictures_by_definition.py` tries every labelling that a move reaches.
 """
 import random
 import subprocess
 import sys
 from pathlib import Path
 
-sys.path.insert(0, str(Path(__file__).resolve().parent.parent / "tools"))
+sys.path.insert(0, str(Path(__file__).resolve().parent.parent / "tools/tables"))
 import pictures_by_definition  # noqa: E402
 
 SIZES = [(1, 1), (2, 2), (3, 2), (2, 3), (3, 3), (4, 2)]

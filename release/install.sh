@@ -39,7 +39,7 @@ list=$target/share/gco/installed
 # Only folders that are empty now, and that an installation makes.
 take_folders_away() {
     for folder in include/gco include lib/cmake/gco lib/cmake lib/pkgconfig lib bin \
-        share/doc/gco/docs share/doc/gco/examples share/doc/gco/tools share/doc/gco share/doc \
+        share/doc/gco/docs share/doc/gco/examples share/doc/gco/tools/users share/doc/gco/tools share/doc/gco share/doc \
         share/bash-completion/completions share/bash-completion share/zsh/site-functions \
         share/zsh share/fish/vendor_completions.d share/fish share/man/man1 share/man share/gco \
         share; do

@@ -39,10 +39,10 @@ kit_name() {
 
 put_program() {
     install -D -m 755 "$GCO" "$stage/bin/gco"
-    $PYTHON tools/make_manuals.py --gco "$RUN" --version "$VERSION" --date "$date" \
+    $PYTHON tools/release/make_manuals.py --gco "$RUN" --version "$VERSION" --date "$date" \
         "$stage/share/man/man1"
     completions=$(mktemp -d)
-    $PYTHON tools/make_completions.py --gco "$RUN" "$completions"
+    $PYTHON tools/release/make_completions.py --gco "$RUN" "$completions"
     install -D -m 644 "$completions/gco.bash" "$stage/share/bash-completion/completions/gco"
     install -D -m 644 "$completions/_gco" "$stage/share/zsh/site-functions/_gco"
     install -D -m 644 "$completions/gco.fish" "$stage/share/fish/vendor_completions.d/gco.fish"
@@ -51,7 +51,7 @@ put_program() {
 
 put_pages() {
     doc=$stage/share/doc/gco
-    mkdir -p "$doc/docs" "$doc/examples" "$doc/tools"
+    mkdir -p "$doc/docs" "$doc/examples" "$doc/tools/users"
     cp README.md CONTRIBUTING.md CHANGELOG.md SECURITY.md CITATION.cff "$doc"
     cp LICENSE-MIT LICENSE-APACHE "$doc"
     cp docs/* "$doc/docs"
@@ -60,7 +60,8 @@ put_pages() {
     [ ! -f dist/gco.html ] || cp dist/gco.html "$doc"
     [ ! -f dist/gco.html ] || cp dist/gco.html "$stage"
     # What the pages have a user run.
-    cp tools/where_time_goes.py tools/picture_energy.py tools/show_assignment.py "$doc/tools"
+    cp tools/users/where_time_goes.py tools/users/picture_energy.py tools/users/show_assignment.py \
+        "$doc/tools/users"
 }
 
 put_top() {

@@ -5,13 +5,13 @@
     python3 tools/check.py --quick          without `check_format`, which needs `rt` and a minute
     python3 tools/check.py words links      some
 
-Each can be run by itself: `python3 tools/check_words.py`.
+Each can be run by itself: `python3 tools/checks/check_words.py`.
 """
 import subprocess
 import sys
 from pathlib import Path
 
-TOOLS = Path(__file__).resolve().parent
+CHECKED = Path(__file__).resolve().parent / "checks"
 CHECKS = ["words", "edits", "quotes", "links", "pages", "refused", "figures", "format"]
 SLOW = {"format"}
 
@@ -27,8 +27,8 @@ def main():
     names = wanted(sys.argv[1:])
     if not set(names) <= set(CHECKS):
         sys.exit(__doc__)
-    scripts = [TOOLS / f"check_{name}.py" for name in names]
-    runs = [subprocess.run([sys.executable, script], cwd=TOOLS.parent) for script in scripts]
+    scripts = [CHECKED / f"check_{name}.py" for name in names]
+    runs = [subprocess.run([sys.executable, script], cwd=CHECKED.parents[1]) for script in scripts]
     failed = [name for name, run in zip(names, runs) if run.returncode != 0]
     print(f"checks failed: {' '.join(failed)}" if failed else f"{len(names)} checks passed")
     sys.exit(1 if failed else 0)

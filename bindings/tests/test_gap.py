@@ -14,7 +14,7 @@ import tempfile
 if "--without-numpy" in sys.argv:
     sys.modules["numpy"] = None
 TOP = pathlib.Path(__file__).resolve().parent.parent.parent
-sys.path.insert(0, str(TOP / "tools"))
+sys.path.insert(0, str(TOP / "tools/tables"))
 import pictures_by_definition as definition
 from definitions import Problem
 from gco_proved.__main__ import main

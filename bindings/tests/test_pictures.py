@@ -3,7 +3,7 @@
     test_pictures.py [folder ..]
 
 compares also the restorations and segmentations of the PGM files in these folders. The program is GCO_PROGRAM, else the one of
-this checkout where it is built; small pictures are compared with the definitions (tools/pictures_by_definition.py) in any case.
+this checkout where it is built; small pictures are compared with the definitions (tools/tables/pictures_by_definition.py) in any case.
 """
 import contextlib
 import io
@@ -21,7 +21,7 @@ import time
 import zlib
 
 TOP = pathlib.Path(__file__).resolve().parent.parent.parent
-sys.path.insert(0, str(TOP / "tools"))
+sys.path[:0] = [str(TOP / "tools/pictures"), str(TOP / "tools/tables")]
 import make_pictures
 import pictures_by_definition as definition
 from gco_proved.__main__ import main

@@ -18,15 +18,15 @@ use Rattle.program_tasks.specs.Faults.{TellsMove}
 use Rattle.program_texts.specs.Faults.{TellsError, label_fault, read_fault}
 use Rattle.program_tasks.specs.Bounds.{near_of_bound}
 use Rattle.program_texts.specs.Lines.{label_text}
-use Rattle.program_texts.specs.declared.lines.Parts.{Parts}
+use Rattle.program_texts.specs.declared.lines.EnergyParts.{EnergyParts}
 
 -- the energy of a run, which is the sum of its parts
-abbrev pub parts_of : Run → Parts
+abbrev pub parts_of : Run → EnergyParts
 parts_of run = record {
-  whole = unsigned_abs run.«data» + unsigned_abs run.smooth + unsigned_abs run.label;
-  sites = unsigned_abs run.«data»;
-  pairs = unsigned_abs run.smooth;
-  labels = unsigned_abs run.label;
+  energy = unsigned_abs run.«data» + unsigned_abs run.smooth + unsigned_abs run.label;
+  «data» = unsigned_abs run.«data»;
+  smooth = unsigned_abs run.smooth;
+  label = unsigned_abs run.label;
 }
 
 -- the energy with its parts, the label of each site, and the bound where it is asked for

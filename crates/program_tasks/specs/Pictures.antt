@@ -20,24 +20,24 @@ use Rattle.program_tasks.specs.Faults.{picture_fault}
 use Rattle.program_texts.specs.Faults.{TellsError, read_fault}
 use Rattle.program_texts.specs.Lines.{picture_lines}
 use Rattle.program_texts.specs.declared.fault.Fault.{Fault}
-use Rattle.program_texts.specs.declared.lines.Parts.{Parts}
+use Rattle.program_texts.specs.declared.lines.EnergyParts.{EnergyParts}
 
 -- the energy of labels, and its parts
-abbrev pub parts_at : Job → List ℕ → Parts
+abbrev pub parts_at : Job → List ℕ → EnergyParts
 parts_at job labels = record {
-  whole = energy job.problem (labelling labels);
-  sites = data_energy job.problem (labelling labels);
-  pairs = smooth_energy job.problem (labelling labels);
-  labels = label_energy job.problem (labelling labels);
+  energy = energy job.problem (labelling labels);
+  «data» = data_energy job.problem (labelling labels);
+  smooth = smooth_energy job.problem (labelling labels);
+  label = label_energy job.problem (labelling labels);
 }
 
 -- those that a report tells
-abbrev pub report_parts : Report → Parts
+abbrev pub report_parts : Report → EnergyParts
 report_parts report = record {
-  whole = unsigned_abs report.energy;
-  sites = unsigned_abs report.data_part;
-  pairs = unsigned_abs report.smooth_part;
-  labels = unsigned_abs report.label_part;
+  energy = unsigned_abs report.energy;
+  «data» = unsigned_abs report.data_part;
+  smooth = unsigned_abs report.smooth_part;
+  label = unsigned_abs report.label_part;
 }
 
 -- the text is the picture of the labels where the chain of the job ends, and what is said beside it

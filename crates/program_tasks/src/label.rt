@@ -21,7 +21,7 @@ use byte_streams::{Source, read_input};
 use cut_ways::How;
 use moves::{MoveError, Request, Run, run_tables};
 use problem_files::{LabelProblem, read_label};
-use program_texts::{Answer, Fault, Line, Parts, label_text};
+use program_texts::{Answer, EnergyParts, Fault, Line, label_text};
 use std::alloc::{AllocError, Global};
 
 /// Where the moves of the problem that the input is end, and how near that is to the least energy
@@ -132,17 +132,17 @@ fn run_text(alloc: Global, run: &Run, tells: bool, bound: bool) -> Result<Vec<u8
 }
 
 // The energy of a run, and its parts.
-fn parts_of(run: &Run) -> Parts
+fn parts_of(run: &Run) -> EnergyParts
     requires { (start : LabelField) × IsRunInRange start run.now }
     ensures { result ≡ parts_of run.now }
 {
-    let sites = run.data.unsigned_abs();
-    let pairs = run.smooth.unsigned_abs();
-    let labels = run.label.unsigned_abs();
-    Parts {
-        whole: sites + pairs + labels,
-        sites,
-        pairs,
-        labels,
+    let data = run.data.unsigned_abs();
+    let smooth = run.smooth.unsigned_abs();
+    let label = run.label.unsigned_abs();
+    EnergyParts {
+        energy: data + smooth + label,
+        data,
+        smooth,
+        label,
     }
 }

@@ -19,7 +19,7 @@ use crate::library_faults::picture_fault;
 use byte_streams::{Sink, Source, read_input};
 use command_line::PictureOptions;
 use cut_ways::How;
-use program_texts::{Fault, Line, Parts, picture_lines};
+use program_texts::{EnergyParts, Fault, Line, picture_lines};
 use std::alloc::Global;
 use vision::{Report, VisionError, run_restore, run_segment, run_stereo};
 
@@ -90,14 +90,14 @@ fn report_lines(report: &Report, tells: bool, asked: bool) -> Line
 }
 
 // The energy that a report tells, and its parts.
-fn report_parts(report: &Report) -> Parts
+fn report_parts(report: &Report) -> EnergyParts
     ensures { result ≡ report_parts report.now }
 {
-    Parts {
-        whole: report.energy.unsigned_abs(),
-        sites: report.data_part.unsigned_abs(),
-        pairs: report.smooth_part.unsigned_abs(),
-        labels: report.label_part.unsigned_abs(),
+    EnergyParts {
+        energy: report.energy.unsigned_abs(),
+        data: report.data_part.unsigned_abs(),
+        smooth: report.smooth_part.unsigned_abs(),
+        label: report.label_part.unsigned_abs(),
     }
 }
 

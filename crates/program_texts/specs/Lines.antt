@@ -3,7 +3,7 @@ use Rattle.std.specs.Prelude.{ℕ, Bool, true, false, List, [], ◌++◌, Option
 use Rattle.std.specs.Prelude.{decimal}
 use Rattle.std.specs.List.{flat_map}
 use Rattle.program_texts.specs.declared.lines.Near.{Near}
-use Rattle.program_texts.specs.declared.lines.Parts.{Parts}
+use Rattle.program_texts.specs.declared.lines.EnergyParts.{EnergyParts}
 
 -- what the labels that some site has cost by themselves, where it is to be told
 abbrev pub label_words : Bool → ℕ → List ℕ
@@ -11,10 +11,10 @@ label_words false labels = []
 label_words true labels = codes " label " ++ decimal labels
 
 -- the energy and its parts: what the labels cost the sites, the pairs of sites, and by themselves
-abbrev pub energy_words : Bool → Parts → List ℕ
+abbrev pub energy_words : Bool → EnergyParts → List ℕ
 energy_words tells parts =
-    codes "energy " ++ decimal parts.whole ++ codes " data " ++ decimal parts.sites
-    ++ codes " smooth " ++ decimal parts.pairs ++ label_words tells parts.labels
+    codes "energy " ++ decimal parts.energy ++ codes " data " ++ decimal parts.«data»
+    ++ codes " smooth " ++ decimal parts.smooth ++ label_words tells parts.label
 
 -- how near the energy is to the least, where it is known: the first number times it is at most the
 -- second times that of any labelling
@@ -28,7 +28,7 @@ bound_line false near = []
 bound_line true near = codes "bound " ++ near_words near ++ codes "\n"
 
 -- the line of an energy and its parts, and that of how near it is where that is asked for
-abbrev pub picture_lines : Bool → Bool → Parts → Option Near → List ℕ
+abbrev pub picture_lines : Bool → Bool → EnergyParts → Option Near → List ℕ
 picture_lines tells asked parts near =
     energy_words tells parts ++ codes "\n" ++ bound_line asked near
 
@@ -38,7 +38,7 @@ numbers_text labels = flat_map (λ label. codes " " ++ decimal label) labels
 
 -- the energy with its parts, the label of each site, and how near the energy is where that is asked
 -- for
-abbrev pub label_text : Bool → Bool → Parts → List ℕ → Option Near → List ℕ
+abbrev pub label_text : Bool → Bool → EnergyParts → List ℕ → Option Near → List ℕ
 label_text tells asked parts labels near =
     energy_words tells parts ++ codes "\nlabels"
     ++ numbers_text labels ++ codes "\n"

@@ -2,7 +2,7 @@
 ghost use Rattle.std.specs.Prelude.{◌≡◌, ◌++◌, codes, decimal, OnOk, IfOk};
 ghost use Rattle.program_texts.specs.Lines.{label_text, numbers_text};
 
-use crate::lines::{Near, Parts, bound_line, energy_words};
+use crate::lines::{EnergyParts, Near, bound_line, energy_words};
 use itoa::Buffer;
 use std::alloc::{AllocError, Global};
 
@@ -11,7 +11,7 @@ use std::alloc::{AllocError, Global};
 /// for.
 pub fn label_text(
     alloc: Global,
-    parts: Parts,
+    parts: EnergyParts,
     labels: &[u8],
     near: Option<Near>,
     tells: bool,

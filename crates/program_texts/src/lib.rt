@@ -21,7 +21,7 @@ pub use fault::Fault;
 pub use fault_line::line_of;
 pub use labels::label_text;
 pub use line::{LINE_LIMIT, Line};
-pub use lines::{Near, Parts, picture_lines};
+pub use lines::{EnergyParts, Near, picture_lines};
 pub use lost_words::refuse_unread;
 pub use no_task::end_without_task;
 pub use refusal::Refusal;

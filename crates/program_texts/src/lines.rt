@@ -9,14 +9,14 @@ use arrayvec::ArrayString;
 
 /// An energy and its parts.
 #[derive(Clone, Copy)]
-pub struct Parts {
-    pub whole: u64,
+pub struct EnergyParts {
+    pub energy: u64,
     /// What the labels cost the sites.
-    pub sites: u64,
+    pub data: u64,
     /// What the labels cost the pairs of sites.
-    pub pairs: u64,
+    pub smooth: u64,
     /// What the labels that some site has cost by themselves.
-    pub labels: u64,
+    pub label: u64,
 }
 
 /// How near an energy is to the least: the first number times it is at most the second times that
@@ -30,7 +30,7 @@ pub struct Near {
 /// What is said beside a picture: the line of its energy, in which the cost of the labels by
 /// themselves stands where it is to be told, and the line of how near it is to the least where that
 /// is asked for.
-pub fn picture_lines(parts: Parts, near: Option<Near>, tells: bool, asked: bool) -> Line
+pub fn picture_lines(parts: EnergyParts, near: Option<Near>, tells: bool, asked: bool) -> Line
     ensures { result.bytes ≡ picture_lines tells asked parts near }
 {
     let mut line = energy_words(parts, tells);
@@ -40,15 +40,15 @@ pub fn picture_lines(parts: Parts, near: Option<Near>, tells: bool, asked: bool)
 }
 
 // The words that tell an energy and its parts, that of the labels where it is to be told.
-pub(crate) fn energy_words(parts: Parts, tells: bool) -> Line
+pub(crate) fn energy_words(parts: EnergyParts, tells: bool) -> Line
     ensures bytes { result.bytes ≡ energy_words tells parts }
     ensures len { array_string_len result ≤ 160 }
 {
     let mut line = ArrayString::new();
-    push_number(&mut line, "energy ", parts.whole);
-    push_number(&mut line, " data ", parts.sites);
-    push_number(&mut line, " smooth ", parts.pairs);
-    push_label(&mut line, parts.labels, tells);
+    push_number(&mut line, "energy ", parts.energy);
+    push_number(&mut line, " data ", parts.data);
+    push_number(&mut line, " smooth ", parts.smooth);
+    push_label(&mut line, parts.label, tells);
     line
 }
 
