@@ -3,7 +3,7 @@ use Rattle.std.specs.Prelude.{◌≡◌, ℕ, ◌<◌, List, Option, Some, Resul
 use Rattle.std.specs.declared.alloc.AllocError.{AllocError}
 use Rattle.flow_network.specs.Cut.{IsNet}
 use Rattle.block_net.specs.Views.{CellsView}
-use Rattle.block_split.specs.declared.net_in_blocks.NetInBlocks.{NetInBlocks}
+use Rattle.block_split.specs.declared.net_to_split.NetInBlocks.{NetInBlocks}
 use Rattle.block_split.specs.declared.rows.SortedNet.{SortedNet}
 use Rattle.block_split.specs.Split.{ByNode, CanSplit, node_blocks_made, firsts_made}
 use Rattle.block_split.specs.Split.{starts_made}
