@@ -14,7 +14,6 @@ use Rattle.site_bounds.specs.declared.sites.Deciding.{Deciding}
 use Rattle.site_bounds.specs.Decisions.{Decision, with_decisions, Passes, HavePassed}
 use Rattle.site_bounds.specs.Listed.{AreListed}
 use Rattle.move_prices.specs.MoveValues.{move_value}
-use Rattle.move_prices.specs.Rising.{IsRiseTable}
 use Rattle.site_bounds.specs.Working.{AreOfSites}
 
 -- the sites were decided one after another, each by the test, and none that is open passes it
@@ -34,9 +33,8 @@ IsDecidedMove m move f choices (Ok done) =
 IsDecidedMove m move f choices (Err e) = IsPrepareRefusal m move (labelling f) e
 
 -- what deciding leaves where it refuses nothing: a choice and two bounds of each site, the greatest
--- ones in their limit together, a table of rises for so many labels, and the lists of the sites
-pub record KnowsSites (labels : ℕ) (move : Move) (f : List ℕ) (room : Deciding) : Type 0 where
+-- ones in their limit together, and the lists of the sites
+pub record KnowsSites (move : Move) (f : List ℕ) (room : Deciding) : Type 0 where
   pub sized : AreOfSites (length f) room.bounds
   pub small : weights_size room.bounds.greatest.items ≤ weights_limit
-  pub table : IsRiseTable labels room.table
   pub listed : AreListed move (labelling f) room.bounds.choices.items room.lists

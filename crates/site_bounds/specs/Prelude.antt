@@ -15,6 +15,7 @@ pub use Rattle.site_bounds.specs.Working.{AreUndecided, AreUnsummed, AreWaiting,
 pub use Rattle.site_bounds.specs.Working.{greatest_total, TellsValue, IsMarked, IsSummed}
 pub use Rattle.site_bounds.specs.Working.{IsWithinRange, AreWaitingBut, SeesPair, IsLooking, Shifts}
 pub use Rattle.site_bounds.specs.Working.{least_shift, greatest_shift}
+pub use Rattle.label_field.specs.Limits.{label_limit}
 pub use Rattle.label_field.specs.PairLists.{IsPair}
 pub use Rattle.label_energies.specs.Energies.{labelling, Instance, IsInstance}
 pub use Rattle.label_energies.specs.Moves.{IsAllowed}
@@ -26,7 +27,6 @@ pub use Rattle.move_energy.specs.Problems.{IsPrepareRefusal}
 pub use Rattle.move_energy.specs.declared.choice.Choice.TheVariants.{Open, One, Zero}
 pub use Rattle.move_prices.specs.Assignments.{rise}
 pub use Rattle.move_prices.specs.Ends.{decided_or}
-pub use Rattle.move_prices.specs.Finding.{IsPosedMove, WhereFound}
 pub use Rattle.move_prices.specs.MoveValues.{move_value}
-pub use Rattle.site_forms.specs.Lists.{AreFormLists, IsReadOf}
-pub use Rattle.site_forms.specs.Numbers.{IsFormOf, WhereRead}
+pub use Rattle.site_forms.specs.Lists.{AreFormLists, IsReadOf, KnowsCosts, HasNoCosts}
+pub use Rattle.site_forms.specs.Numbers.{IsFormOf, IsOverPairs, WhereRead}

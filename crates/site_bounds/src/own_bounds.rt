@@ -4,7 +4,7 @@ ghost use Rattle.std.specs.Prelude.{◌≡◌, ◌≢◌, ◌<◌, ◌≤◌, �
 ghost use Rattle.std.specs.Prelude.{length, OnOk, IfOk};
 ghost use Rattle.site_bounds.specs.Prelude.{weights_limit, labelling, Open, One, choice_at};
 ghost use Rattle.site_bounds.specs.Prelude.{Changes};
-ghost use Rattle.site_bounds.specs.Prelude.{IsPosedMove, WhereFound, IsInBudget, SumsSite};
+ghost use Rattle.site_bounds.specs.Prelude.{IsOverPairs, WhereRead, IsInBudget, SumsSite};
 ghost use Rattle.site_bounds.specs.Prelude.{summed_count, CanDecide, AreOfSites, AreOfNoSites};
 ghost use Rattle.site_bounds.specs.Prelude.{HasBounds, HasSummed, IsAnswered, AddsBounds};
 ghost use Rattle.site_bounds.specs.Prelude.{PassesClosed, AreUndecided, AreUnsummed, AreWaiting};
@@ -13,7 +13,7 @@ ghost use Rattle.site_bounds.specs.Prelude.{ArePartlyDecided, greatest_total};
 use crate::Bounds;
 use label_energies::Move;
 use move_energy::Choice;
-use move_prices::{MoveToFind, site_rises};
+use site_forms::{SiteForm, site_rises};
 use std::alloc::AllocError;
 
 /// What is known of a site before anything is summed. Where the move cannot change its label its
@@ -132,19 +132,15 @@ impl Bounds {
 
     /// Sums the next site, which is open, and decides it or lets it wait if its bounds tell its
     /// value.
-    fn sum_site<F: Fn(u32, u32) -> i64 + Sync, V: Fn(u32, u32) -> i64 + Sync>(
-        &mut self,
-        step: &MoveToFind<F, V>,
-        site: u32,
-    ) -> Result<(), AllocError>
-        requires posed { IsPosedMove F.Fn V.Fn step.now }
-        requires site { (site < length step.now.at.now) × (summed_count self.old ≡ site) }
+    fn sum_site(&mut self, form: &SiteForm, site: u32) -> Result<(), AllocError>
+        requires over { IsOverPairs form.now }
+        requires site { (site < length form.now.at.now) × (summed_count self.old ≡ site) }
         requires opened { choice_at self.old.choices.items site ≡ Open }
-        requires budget { IsInBudget step.now self.old }
+        requires budget { IsInBudget form.now self.old }
         requires waiting { AreWaiting site self.old }
-        ensures { OnOk result (SumsSite F.Fn V.Fn step.now site self.old self.new) }
+        ensures { OnOk result (SumsSite form.now site self.old self.new) }
     {
-        let rises = site_rises(step, &self.choices, site);
+        let rises = site_rises(form, &self.choices, site);
         self.add_bounds(rises.least, rises.greatest)?;
         self.answer(site, rises.beside)
     }
@@ -152,30 +148,26 @@ impl Bounds {
     /// Sums the sites one after another, but those that are decided already. Each whose bounds tell
     /// its value is decided at once, and so are those whose values then can be told among the sites
     /// that were summed before.
-    pub(crate) fn decide_sites<F: Fn(u32, u32) -> i64 + Sync, V: Fn(u32, u32) -> i64 + Sync>(
-        &mut self,
-        step: &MoveToFind<F, V>,
-    ) -> Result<(), AllocError>
-        requires posed { IsPosedMove F.Fn V.Fn step.now }
-        requires unsummed { AreUnsummed (length step.now.at.now) self.old }
-        requires begun { WhereFound F.Fn V.Fn step.now
-            (λ m move f. ArePartlyDecided m move f 0 self.old) }
-        ensures sized { OnOk result (AreOfSites (length step.now.at.now) self.new) }
+    pub(crate) fn decide_sites(&mut self, form: &SiteForm) -> Result<(), AllocError>
+        requires over { IsOverPairs form.now }
+        requires unsummed { AreUnsummed (length form.now.at.now) self.old }
+        ensures sized { OnOk result (AreOfSites (length form.now.at.now) self.new) }
         ensures total { OnOk result (greatest_total self.new ≤ weights_limit) }
-        ensures none { OnOk result ((u : ℕ) → u < length step.now.at.now →
+        ensures none { OnOk result ((u : ℕ) → u < length form.now.at.now →
             choice_at self.new.choices.items u ≡ Open → ¬ CanDecide self.new u) }
-        ensures decided { OnOk result (WhereFound F.Fn V.Fn step.now (λ m move f.
-            ArePartlyDecided m move f (length step.now.at.now) self.new)) }
+        ensures decided { OnOk result (WhereRead form.now (λ m move f.
+            ArePartlyDecided m move f 0 self.old →
+            ArePartlyDecided m move f (length form.now.at.now) self.new)) }
     {
-        let sites = step.at.len();
+        let sites = form.at.len();
         let mut site = 0usize;
         while site < sites {
             let next = self.pass_closed(site)?;
             if next == sites {
                 return Ok(());
             }
-            self.sum_site(step, next as u32)?;
-            self.decide_waiting(step)?;
+            self.sum_site(form, next as u32)?;
+            self.decide_waiting(form)?;
             site = next + 1;
         }
         Ok(())

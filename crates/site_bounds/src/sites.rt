@@ -1,16 +1,17 @@
 //! Deciding the sites of a move.
-ghost use Rattle.std.specs.Prelude.{◌≡◌, [], IfOk, IfErr, OnOk, OnErr, IsTrue, false};
+ghost use Rattle.std.specs.Prelude.{◌≡◌, ◌≤◌, [], IfOk, IfErr, OnOk, OnErr, false};
 ghost use Rattle.site_bounds.specs.Prelude.{AreBySite, choice_at, AreAllOpen, IsPrepareRefusal};
 ghost use Rattle.site_bounds.specs.Prelude.{labelling, WhereMeant, IsDecidedMove, IsAskedBySite};
 ghost use Rattle.site_bounds.specs.Prelude.{KnowsMove, AreListsEmpty, AreFormLists, IsReadOf};
 ghost use Rattle.site_bounds.specs.Prelude.{ArePassedChoices, AreOfNoSites, IsAllowed};
+ghost use Rattle.site_bounds.specs.Prelude.{KnowsCosts, HasNoCosts, label_limit};
 
 use crate::{Bounds, Lists};
 use cost_store::Problem;
 use label_energies::Move;
-use label_field::{LABEL_LIMIT, Pairs};
+use label_field::Pairs;
 use move_energy::{BuildError, Neighbours, group_pairs};
-use move_prices::{MoveToFind, RiseTable, test_terms};
+use move_prices::test_terms;
 use site_forms::FormLists;
 use std::alloc::{AllocError, Global};
 
@@ -19,7 +20,6 @@ use std::alloc::{AllocError, Global};
 #[derive(Drop)]
 pub struct Deciding {
     pub ends: Neighbours,
-    pub table: RiseTable,
     pub bounds: Bounds,
     pub lists: Lists,
     pub numbers: FormLists,
@@ -32,10 +32,10 @@ impl Deciding {
         ensures ends { (result.ends.starts.items ≡ []) × (result.ends.heads.items ≡ []) }
         ensures bounds { AreOfNoSites result.bounds }
         ensures lists { AreListsEmpty result.lists }
+        ensures costs { HasNoCosts result.numbers }
     {
         Deciding {
             ends: Neighbours::empty(alloc),
-            table: RiseTable::empty(alloc),
             bounds: Bounds::new(alloc),
             lists: Lists::empty(alloc),
             numbers: FormLists::empty(alloc),
@@ -47,10 +47,10 @@ impl Deciding {
         ensures by_site { IfOk result (λ d. AreBySite pairs.now d.ends) }
         ensures bounds { IfOk result (λ d. AreOfNoSites d.bounds) }
         ensures lists { IfOk result (λ d. AreListsEmpty d.lists) }
+        ensures costs { IfOk result (λ d. HasNoCosts d.numbers) }
     {
         Ok(Deciding {
             ends: group_pairs(alloc, pairs)?,
-            table: RiseTable::empty(alloc),
             bounds: Bounds::new(alloc),
             lists: Lists::empty(alloc),
             numbers: FormLists::empty(alloc),
@@ -69,9 +69,8 @@ impl Deciding {
     /// 2013). A site that it decides as soon as it is summed is not looked at again if none of its
     /// neighbours before it is open. Then `bounds.greatest` says of each open site by how much the
     /// energy rises where it turns to 1 while every other open site is at 0; `lists` has how many
-    /// sites are open, and lists them where they are few. `table` has the move's rises, if it
-    /// stands. Where it refuses, nothing is listed, and no more is said of `bounds`, `lists` and
-    /// `table`.
+    /// sites are open, and lists them where they are few; `numbers` has the costs of the move.
+    /// Where it refuses, nothing is listed, and no more is said of `bounds` and `lists`.
     pub fn decide<F: Fn(u32, u32) -> i64 + Sync, V: Fn(u32, u32) -> i64 + Sync>(
         &mut self,
         problem: &Problem<F, V>,
@@ -79,7 +78,10 @@ impl Deciding {
         change: Move,
     ) -> Result<(), BuildError>
         requires asked { IsAskedBySite F.Fn V.Fn problem.now at.now change self.old.ends }
+        requires few { problem.now.data_cost.labels ≤ label_limit }
+        requires known { KnowsCosts F.Fn V.Fn problem.now self.old.numbers }
         ensures kept { self.new.ends ≡ self.old.ends }
+        ensures costs { KnowsCosts F.Fn V.Fn problem.now self.new.numbers }
         ensures known { OnOk result (KnowsMove F.Fn V.Fn problem.now at.now change self.new) }
         ensures decided { WhereMeant F.Fn V.Fn problem.now (λ m. IsDecidedMove m change at.now
             self.new.bounds.choices.items result) }
@@ -87,53 +89,43 @@ impl Deciding {
     {
         self.lists.listed = false;
         test_terms(problem, at, change)?;
-        self.table
-            .make(problem, change, at.len(), self.ends.weight)?;
         self.bounds.open_sites(at, change)?;
-        let step = MoveToFind {
-            problem,
-            ends: &self.ends,
-            table: &self.table,
-            at,
-            change,
-        };
-        self.bounds.decide_sites(&step)?;
+        self.numbers.read(problem, at, change)?;
+        let form = self.numbers.form(&problem.pairs, &self.ends, at);
+        self.bounds.decide_sites(&form)?;
         self.lists.fill(at, change, &self.bounds.choices)?;
         Ok(())
     }
 
     /// Opens the sites of a move, and reads the costs by which threads decide them into `numbers`.
-    /// No, and nothing is opened, where there are more labels than a list has room for. Refused as
-    /// `decide` is.
+    /// Refused as `decide` is.
     pub fn open<F: Fn(u32, u32) -> i64 + Sync, V: Fn(u32, u32) -> i64 + Sync>(
         &mut self,
         problem: &Problem<F, V>,
         at: &[u8],
         change: Move,
-    ) -> Result<bool, BuildError>
+    ) -> Result<(), BuildError>
         requires asked { IsAskedBySite F.Fn V.Fn problem.now at.now change self.old.ends }
+        requires few { problem.now.data_cost.labels ≤ label_limit }
+        requires known { KnowsCosts F.Fn V.Fn problem.now self.old.numbers }
         ensures kept { self.new.ends ≡ self.old.ends }
+        ensures costs { KnowsCosts F.Fn V.Fn problem.now self.new.numbers }
         ensures listed { self.new.lists.listed ≡ false }
-        ensures opened { IfOk result (λ read. IsTrue read →
-            AreAllOpen change at.now self.new.bounds.choices.items) }
-        ensures lists { IfOk result (λ read. IsTrue read →
-            AreFormLists at.now self.new.numbers) }
-        ensures read { WhereMeant F.Fn V.Fn problem.now (λ m. IfOk result (λ read. IsTrue read →
-            IsAllowed m change (labelling at.now) × IsReadOf m change at.now
+        ensures opened { OnOk result (AreAllOpen change at.now self.new.bounds.choices.items) }
+        ensures lists { OnOk result (AreFormLists at.now self.new.numbers) }
+        ensures read { WhereMeant F.Fn V.Fn problem.now (λ m. OnOk result
+            (IsAllowed m change (labelling at.now) × IsReadOf m change at.now
             self.new.numbers)) }
-        ensures passed { WhereMeant F.Fn V.Fn problem.now (λ m. IfOk result (λ read. IsTrue read →
-            ArePassedChoices m change (labelling at.now)
+        ensures passed { WhereMeant F.Fn V.Fn problem.now (λ m. OnOk result
+            (ArePassedChoices m change (labelling at.now)
             (choice_at self.new.bounds.choices.items))) }
         ensures refused { WhereMeant F.Fn V.Fn problem.now (λ m.
             IfErr result (IsPrepareRefusal m change (labelling at.now))) }
     {
         self.lists.listed = false;
-        if problem.data_cost.labels > LABEL_LIMIT {
-            return Ok(false);
-        }
         test_terms(problem, at, change)?;
         self.bounds.open_sites(at, change)?;
         self.numbers.read(problem, at, change)?;
-        Ok(true)
+        Ok(())
     }
 }

@@ -2,7 +2,7 @@
 ghost use Rattle.std.specs.Prelude.{◌≡◌, ◌≢◌, ◌⊎◌, ◌<◌, ◌≤◌, ◌+◌, ◌*◌, ◌^◌, ℕ, Bool, length, Some};
 ghost use Rattle.std.specs.Prelude.{unsigned_abs, OnOk, IsTrue, ◌↔◌, []};
 ghost use Rattle.site_bounds.specs.Prelude.{IsPair, degree, Open, choice_at, bit_of, surplus_limit};
-ghost use Rattle.site_bounds.specs.Prelude.{IsPosedMove, WhereFound, IsInBudget, ends_left};
+ghost use Rattle.site_bounds.specs.Prelude.{IsOverPairs, WhereRead, IsInBudget, ends_left};
 ghost use Rattle.site_bounds.specs.Prelude.{total_left, summed_count, CanDecide, TellsValue};
 ghost use Rattle.site_bounds.specs.Prelude.{IsMarked};
 ghost use Rattle.site_bounds.specs.Prelude.{IsSummed, IsWithinRange, AreWaiting, AreWaitingBut};
@@ -13,7 +13,8 @@ ghost use Rattle.site_bounds.specs.Prelude.{greatest_shift as greatest_shift_of,
 use crate::Bounds;
 use label_field::Pair;
 use move_energy::{Choice, pair_beside};
-use move_prices::{MoveToFind, other_end, pair_surplus};
+use move_prices::other_end;
+use site_forms::{SiteForm, pair_saving};
 use std::alloc::AllocError;
 
 /// What is known of a variable once it has a value.
@@ -97,29 +98,23 @@ impl Bounds {
 
     /// Sees a pair with the value of one of its sites. A site that was not summed sees it when it
     /// is.
-    fn see<F: Fn(u32, u32) -> i64 + Sync, V: Fn(u32, u32) -> i64 + Sync>(
-        &mut self,
-        step: &MoveToFind<F, V>,
-        pair: Pair,
-        site: u32,
-        value: bool,
-    ) -> Result<(), AllocError>
-        requires posed { IsPosedMove F.Fn V.Fn step.now }
-        requires pair { IsPair (length step.now.at.now) pair }
+    fn see(&mut self, form: &SiteForm, pair: Pair, site: u32, value: bool) -> Result<(), AllocError>
+        requires over { IsOverPairs form.now }
+        requires pair { IsPair (length form.now.at.now) pair }
         requires end { (pair.first ≡ site) ⊎ (pair.second ≡ site) }
-        requires sized { IsSummed (length step.now.at.now) self.old }
+        requires sized { IsSummed (length form.now.at.now) self.old }
         requires range { IsWithinRange (2 ^ 60) self.old }
         requires waiting { AreWaiting (summed_count self.old) self.old }
         ensures looking { OnOk result (IsLooking 1 self.old self.new) }
         ensures waiting { OnOk result (AreWaiting (summed_count self.old) self.new) }
-        ensures sees { OnOk result (WhereFound F.Fn V.Fn step.now (λ m move f.
+        ensures sees { OnOk result (WhereRead form.now (λ m move f.
             SeesPair m move f (summed_count self.old) site value pair self.old self.new)) }
     {
         let other = other_end(pair, site);
         if !self.has_bounds(other) {
             return Ok(());
         }
-        let surplus = pair_surplus(step, pair);
+        let surplus = pair_saving(form, pair);
         self.shift(other, value, surplus)
     }
 
@@ -132,39 +127,34 @@ impl Bounds {
     }
 
     /// Decides a site, and sees each of its pairs with its value.
-    fn decide<F: Fn(u32, u32) -> i64 + Sync, V: Fn(u32, u32) -> i64 + Sync>(
-        &mut self,
-        step: &MoveToFind<F, V>,
-        site: u32,
-        value: bool,
-    ) -> Result<(), AllocError>
-        requires posed { IsPosedMove F.Fn V.Fn step.now }
+    fn decide(&mut self, form: &SiteForm, site: u32, value: bool) -> Result<(), AllocError>
+        requires over { IsOverPairs form.now }
         requires site { (site < summed_count self.old)
             × (choice_at self.old.choices.items site ≡ Open) }
-        requires sized { IsSummed (length step.now.at.now) self.old }
+        requires sized { IsSummed (length form.now.at.now) self.old }
         requires range { IsWithinRange (2 ^ 59) self.old }
         requires waiting { AreWaitingBut (summed_count self.old) site self.old }
-        ensures sized { OnOk result (IsSummed (length step.now.at.now) self.new) }
+        ensures sized { OnOk result (IsSummed (length form.now.at.now) self.new) }
         ensures same { OnOk result (summed_count self.new ≡ summed_count self.old) }
         ensures waiting { OnOk result (AreWaiting (summed_count self.old) self.new) }
         ensures range { OnOk result ((most : ℕ) → IsWithinRange most self.old →
-            IsWithinRange (most + surplus_limit * degree step.now.ends.now site) self.new) }
+            IsWithinRange (most + surplus_limit * degree form.now.ends.now site) self.new) }
         ensures total { OnOk result (greatest_total self.new ≤
-            greatest_total self.old + surplus_limit * degree step.now.ends.now site) }
+            greatest_total self.old + surplus_limit * degree form.now.ends.now site) }
         ensures more { OnOk result (length self.new.waiting.items ≤
-            length self.old.waiting.items + degree step.now.ends.now site) }
-        ensures left { OnOk result (ends_left step.now self.new + degree step.now.ends.now site
-            ≡ ends_left step.now self.old) }
-        ensures decided { OnOk result (WhereFound F.Fn V.Fn step.now (λ m move f.
+            length self.old.waiting.items + degree form.now.ends.now site) }
+        ensures left { OnOk result (ends_left form.now self.new + degree form.now.ends.now site
+            ≡ ends_left form.now self.old) }
+        ensures decided { OnOk result (WhereRead form.now (λ m move f.
             TellsValue self.old site value →
             ArePartlyDecided m move f (summed_count self.old) self.old →
             ArePartlyDecided m move f (summed_count self.old) self.new)) }
     {
         self.mark(site as usize, value);
-        let ends = step.ends;
+        let ends = form.ends;
         for place in ends.starts[site as usize]..ends.starts[site as usize + 1] {
-            let pair = pair_beside(&step.problem.pairs, ends, site, place);
-            self.see(step, pair, site, value)?;
+            let pair = pair_beside(form.pairs, ends, site, place);
+            self.see(form, pair, site, value)?;
         }
         Ok(())
     }
@@ -180,23 +170,19 @@ impl Bounds {
     }
 
     /// Decides a site that waited, where its bounds tell its value.
-    fn decide_told<F: Fn(u32, u32) -> i64 + Sync, V: Fn(u32, u32) -> i64 + Sync>(
-        &mut self,
-        step: &MoveToFind<F, V>,
-        site: u32,
-    ) -> Result<(), AllocError>
-        requires posed { IsPosedMove F.Fn V.Fn step.now }
+    fn decide_told(&mut self, form: &SiteForm, site: u32) -> Result<(), AllocError>
+        requires over { IsOverPairs form.now }
         requires site { site < summed_count self.old }
-        requires budget { IsInBudget step.now self.old }
+        requires budget { IsInBudget form.now self.old }
         requires waiting { AreWaitingBut (summed_count self.old) site self.old }
-        ensures budget { OnOk result (IsInBudget step.now self.new) }
+        ensures budget { OnOk result (IsInBudget form.now self.new) }
         ensures same { OnOk result (summed_count self.new ≡ summed_count self.old) }
         ensures waiting { OnOk result (AreWaiting (summed_count self.old) self.new) }
-        ensures total { OnOk result (total_left step.now self.new ≤ total_left step.now self.old) }
+        ensures total { OnOk result (total_left form.now self.new ≤ total_left form.now self.old) }
         ensures less { OnOk result
-            (length self.new.waiting.items + ends_left step.now self.new
-            ≤ length self.old.waiting.items + ends_left step.now self.old) }
-        ensures decided { OnOk result (WhereFound F.Fn V.Fn step.now (λ m move f.
+            (length self.new.waiting.items + ends_left form.now self.new
+            ≤ length self.old.waiting.items + ends_left form.now self.old) }
+        ensures decided { OnOk result (WhereRead form.now (λ m move f.
             ArePartlyDecided m move f (summed_count self.old) self.old →
             ArePartlyDecided m move f (summed_count self.old) self.new)) }
     {
@@ -205,28 +191,25 @@ impl Bounds {
             return Ok(());
         }
         let value = self.told_value(place);
-        self.decide(step, site, value)
+        self.decide(form, site, value)
     }
 
     /// Decides the sites that wait, and those whose values then can be told, until none is left.
-    pub(crate) fn decide_waiting<F: Fn(u32, u32) -> i64 + Sync, V: Fn(u32, u32) -> i64 + Sync>(
-        &mut self,
-        step: &MoveToFind<F, V>,
-    ) -> Result<(), AllocError>
-        requires posed { IsPosedMove F.Fn V.Fn step.now }
-        requires budget { IsInBudget step.now self.old }
+    pub(crate) fn decide_waiting(&mut self, form: &SiteForm) -> Result<(), AllocError>
+        requires over { IsOverPairs form.now }
+        requires budget { IsInBudget form.now self.old }
         requires waiting { AreWaiting (summed_count self.old) self.old }
-        ensures budget { OnOk result (IsInBudget step.now self.new) }
+        ensures budget { OnOk result (IsInBudget form.now self.new) }
         ensures same { OnOk result (summed_count self.new ≡ summed_count self.old) }
         ensures waiting { OnOk result (AreWaiting (summed_count self.old) self.new) }
         ensures none { OnOk result (self.new.waiting.items ≡ []) }
-        ensures total { OnOk result (total_left step.now self.new ≤ total_left step.now self.old) }
-        ensures decided { OnOk result (WhereFound F.Fn V.Fn step.now (λ m move f.
+        ensures total { OnOk result (total_left form.now self.new ≤ total_left form.now self.old) }
+        ensures decided { OnOk result (WhereRead form.now (λ m move f.
             ArePartlyDecided m move f (summed_count self.old) self.old →
             ArePartlyDecided m move f (summed_count self.old) self.new)) }
     {
         'deciding: while let Some(site) = self.waiting.pop() {
-            self.decide_told(step, site)?;
+            self.decide_told(form, site)?;
         }
         Ok(())
     }

@@ -1,14 +1,19 @@
 -- What the lists of a form hold, and where.
-use Rattle.std.proofs.Common.{◌≡◌, ℕ, ◌+◌, ◌*◌, ◌/◌, ◌%◌, ◌<◌, ◌≤◌, Bool, true, false, List, All, length, slice_index, ℤ, pos, ◌-ℤ◌, unsigned_abs, nat_lt, inl, inr, arith}
+use Rattle.std.proofs.Common.{◌≡◌, ℕ, ◌+◌, ◌*◌, ◌<◌, ◌≤◌, Bool, true, false, List, All, length, slice_index, ℤ, pos, ◌-ℤ◌, unsigned_abs, inl, inr, arith}
 use Rattle.std.proofs.lemmas.Int.{ints}
-use Rattle.std.proofs.lemmas.Bool.{cases_lt, lt-ltb, le-ltb}
+use Rattle.std.proofs.lemmas.Bool.{cases_lt}
 use Rattle.std.proofs.lemmas.List.{get_or_past}
 use Rattle.std.proofs.lemmas.List.Elements.{All-get_or}
-use Rattle.move_prices.specs.Rising.{entry_place}
-use Rattle.site_forms.specs.Fields.{table_cost, unit_rise, own_at}
+use Rattle.site_forms.specs.Fields.{table_cost, unit_rise, own_at, IsSiteLabel}
 
 pub label_within : (at : List ℕ) (u k : ℕ) → u < length at → All (λ label. label < k) at → slice_index at u < k
 label_within at u k l all = All-get_or (λ label. label < k) at u 0 l all
+
+pub site_label_within : (at : List ℕ) (k label : ℕ) → All (λ label. label < k) at → IsSiteLabel at label → label < k
+site_label_within at k label all is = (let l = label_within at is.0 k is.1 all in omega (arith, l, is.2))
+
+pub few_label : (at : List ℕ) (label : ℕ) → ((u : ℕ) → u < length at → slice_index at u < 64) → IsSiteLabel at label → label < 64
+few_label at label each is = (let l = each is.0 is.1 in omega (arith, l, is.2))
 
 -- what holds of each number of a list, and of nothing, holds at each place
 pub small_everywhere : (xs : List ℕ) (most i : ℕ) → ((k : ℕ) → k < length xs → slice_index xs k ≤ most) → slice_index xs i ≤ most
@@ -36,15 +41,3 @@ pub unit_small : (stays turns smooth : List ℕ) (first : Bool) (own label : ℕ
 unit_small stays turns smooth first own label z each is =
     difference_small (table_cost smooth first (slice_index turns own) label) (table_cost smooth first (slice_index stays own) label) z is
     (small_cost smooth first (slice_index turns own) label each) (small_cost smooth first (slice_index stays own) label each)
-
-pub place_first : (first : Bool) (own other place : ℕ) → own < 64 → other < 64 → place ≡ entry_place first own other → nat_lt place 4096 ≡ first
-place_first true own other place l h is = lt-ltb place 4096 (omega (arith, l, h, is))
-place_first false own other place l h is = le-ltb place 4096 (omega (arith, l, h, is))
-
-pub place_own : (first : Bool) (own other place : ℕ) → own < 64 → other < 64 → place ≡ entry_place first own other → place / 64 % 64 ≡ own
-place_own true own other place l h is = omega (arith, l, h, is)
-place_own false own other place l h is = omega (arith, l, h, is)
-
-pub place_other : (first : Bool) (own other place : ℕ) → own < 64 → other < 64 → place ≡ entry_place first own other → place % 64 ≡ other
-place_other true own other place l h is = omega (arith, l, h, is)
-place_other false own other place l h is = omega (arith, l, h, is)

@@ -1,14 +1,17 @@
 -- The places of a site, and the machine's numbers there.
-use Rattle.std.proofs.Common.{◌≡◌, ℕ, zero, suc, ◌∙◌, sym, ap, ◌+◌, ◌-◌, ◌*◌, ◌<◌, ◌≤◌, Bool, true, false, arith, length, ℤ, pos, ◌*ℤ◌, ◌-ℤ◌, unsigned_abs, w32, to_z, of_z}
+use Rattle.std.proofs.Common.{◌≡◌, ◌≢◌, ℕ, zero, suc, ◌∙◌, sym, ap, get_or, ◌+◌, ◌-◌, ◌*◌, ◌<◌, ◌≤◌, Bool, true, false, arith, length, ℤ, pos, ◌*ℤ◌, ◌-ℤ◌, unsigned_abs, w32, to_z, of_z}
 use Rattle.std.proofs.lemmas.Int.{ints}
+use Rattle.std.proofs.lemmas.List.{get_or_default}
 use Rattle.std.proofs.Math.IntN.{zero-*ℤ, pred_ℤ-*ℤ}
 use Rattle.label_field.specs.PairLists.{IsPair, PairList, IsPairList}
 use Rattle.move_energy.specs.declared.by_site.Neighbours.{Neighbours}
 use Rattle.move_energy.specs.BySite.{AreBySite, neighbours_start, neighbour_at, is_first, weight_at, pair_from}
 use Rattle.move_energy.proofs.Parts.{starts_rise, starts_within, beside_has}
 use Rattle.move_energy.proofs.PairEnds.{ends_len}
+use Rattle.move_prices.specs.Ends.{AvoidsSite}
 use Rattle.site_forms.specs.Fields.{ArePlaces}
 use Rattle.site_forms.specs.declared.numbers.SiteForm.{SiteForm}
+use Rattle.site_forms.specs.Numbers.{IsSitePlace}
 
 pub few_places : (form : SiteForm) (u place : ℕ) → ArePlaces (length form.at.now) form.ends.now → u < length form.at.now
     → neighbours_start form.ends.now u ≤ place → place < neighbours_start form.ends.now (u + 1) → place - neighbours_start form.ends.now u ≤ 8388608
@@ -60,3 +63,15 @@ times_is w v a b z r same rise al bl product small =
     let unit : to_z w32 (of_z w32 z) ≡ pos a -ℤ pos b = omega (arith, ints, rise, al, bl) in
     let e = ap unsigned_abs passed in
     (passed ∙ product ∙ (λ i. pos (same i) *ℤ unit i) ∙ scaled v a b, omega (arith, e, small))
+
+-- a neighbour, as it is read
+pub head_read : (form : SiteForm) (site place head : ℕ) → IsSitePlace form site place → head ≡ get_or form.ends.now.heads.items place head → neighbour_at form.ends.now place ≡ head
+head_read form site place head at is =
+    let places = form.form.places in
+    let within = places.within (site + 1) (omega (arith, at.inside)) in
+    sym (is ∙ get_or_default form.ends.now.heads.items place head 0 (omega (arith, within, at.to)))
+
+-- the pair of a site and another
+pub pair_avoids : (first : Bool) (site head weight u : ℕ) → head ≢ u → u < site → AvoidsSite u (pair_from first site head weight)
+pair_avoids true site head weight u apart below = (λ same. absurd (omega (arith, same, below)), apart)
+pair_avoids false site head weight u apart below = (apart, λ same. absurd (omega (arith, same, below)))

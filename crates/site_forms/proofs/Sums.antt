@@ -1,7 +1,6 @@
 -- The rises of a site, summed place by place, as the machine counts them.
-use Rattle.std.proofs.Common.{◌≡◌, ℕ, suc, ◌+◌, ◌-◌, ◌*◌, ◌<◌, ◌≤◌, Bool, true, false, cond, ℤ, pos, ◌+ℤ◌, unsigned_abs, FitsSigned, w32, w64, to_z, of_z, lit<, sym, ap, ◌∙◌, subst, arith}
+use Rattle.std.proofs.Common.{◌≡◌, ℕ, suc, ◌+◌, ◌-◌, ◌*◌, ◌<◌, ◌≤◌, Bool, ℤ, pos, ◌+ℤ◌, unsigned_abs, FitsSigned, w32, w64, to_z, of_z, lit<, sym, ap, ◌∙◌, subst, arith}
 use Rattle.std.proofs.lemmas.Int.{ints, to_z-of_z}
-use Rattle.sums.specs.IntegerSums.{int_sum_below}
 use Rattle.sums.proofs.IntegerSumLemmas.{within_fits, abs-add}
 use Rattle.move_prices.specs.Assignments.{rise}
 use Rattle.rise_forms.specs.Forms.{Form, TellsRises, places, place_rise, rise_below}

@@ -1,5 +1,5 @@
 -- What was read for a move tells the rises of its energies.
-use Rattle.std.proofs.Common.{◌≡◌, ℕ, ◌+◌, ◌*◌, ◌<◌, ◌≤◌, Bool, true, false, cond, ℤ, pos, ◌+ℤ◌, ◌-ℤ◌, refl, sym, ap, ◌∙◌, arith, slice_index, length}
+use Rattle.std.proofs.Common.{◌≡◌, ℕ, ◌+◌, ◌*◌, ◌<◌, Bool, true, false, cond, pos, ◌+ℤ◌, ◌-ℤ◌, refl, sym, ◌∙◌, arith, length}
 use Rattle.sums.proofs.IntegerSumLemmas.{int_sum_below-same}
 use Rattle.label_energies.specs.declared.change.Move.{Move}
 use Rattle.label_energies.specs.Energies.{Instance, labelling}
@@ -11,13 +11,14 @@ use Rattle.move_prices.specs.Ends.{end_rise}
 use Rattle.rise_forms.specs.Forms.{place_rise, TellsRises}
 use Rattle.move_forms.specs.MoveForms.{move_form, end_rise_at}
 use Rattle.move_forms.proofs.Moving as moving
-use Rattle.site_forms.specs.Fields.{table_cost, AreReadOf}
+use Rattle.site_forms.specs.Fields.{table_cost, AreReadOf, IsSiteLabel, IsMadeLabel}
 use Rattle.site_forms.specs.declared.numbers.SiteForm.{SiteForm}
 use Rattle.site_forms.specs.Numbers.{form_of, label_by, end_rise_by, rise_at_place, IsFormOf}
-use Rattle.site_forms.proofs.Entries.{label_within}
+use Rattle.site_forms.proofs.Entries.{site_label_within}
 
 -- the costs of the table are those of the problem
-told_is : (m : Instance) (move : Move) (form : SiteForm) (first : Bool) (w s t o : ℕ) → AreReadOf m move form.own.now form.at.now form.stays.now form.turns.now form.smooth.now → s < m.labels → t < m.labels → o < m.labels
+told_is : (m : Instance) (move : Move) (form : SiteForm) (first : Bool) (w s t o : ℕ) → AreReadOf m move form.own.now form.at.now form.stays.now form.turns.now form.smooth.now
+    → IsMadeLabel move form.at.now s → IsMadeLabel move form.at.now t → IsMadeLabel move form.at.now o
     → pos (w * table_cost form.smooth.now first t o) -ℤ pos (w * table_cost form.smooth.now first s o) ≡ end_rise m w first s t o
 told_is m move form true w s t o is sl tl ol = (λ i. pos (w * is.costs t o tl ol i) -ℤ pos (w * is.costs s o sl ol i))
 told_is m move form false w s t o is sl tl ol = (λ i. pos (w * is.costs o t ol tl i) -ℤ pos (w * is.costs o s ol sl i))
@@ -27,20 +28,23 @@ label_is m move form old true is l = (is.after old l).1
 label_is m move form old false is l = (is.after old l).0
 
 -- so are the rises of the ends of a pair
-pub labels_rise : (m : Instance) (move : Move) (form : SiteForm) (w : ℕ) (first : Bool) (own other : ℕ) (b : Bool) → AreReadOf m move form.own.now form.at.now form.stays.now form.turns.now form.smooth.now → own < m.labels → other < m.labels
+pub labels_rise : (m : Instance) (move : Move) (form : SiteForm) (w : ℕ) (first : Bool) (own other : ℕ) (b : Bool) → AreReadOf m move form.own.now form.at.now form.stays.now form.turns.now form.smooth.now
+    → IsSiteLabel form.at.now own → IsSiteLabel form.at.now other
     → end_rise_by form w first own other b ≡ label_rise m move w first own other b
-labels_rise m move form w first own other b is ol hl =
+labels_rise m move form w first own other b is own_is other_is =
+    let ol = site_label_within form.at.now m.labels own is.labels own_is in
+    let hl = site_label_within form.at.now m.labels other is.labels other_is in
     (λ i. pos (w * table_cost form.smooth.now first (label_is m move form own true is ol i) (label_is m move form other b is hl i))
     -ℤ pos (w * table_cost form.smooth.now first (label_is m move form own false is ol i) (label_is m move form other b is hl i)))
     ∙ told_is m move form first w (label_after move own false) (label_after move own true) (label_after move other b) is
-    (is.within own false ol) (is.within own true ol) (is.within other b hl)
+    (own, false, own_is, refl) (own, true, own_is, refl) (other, b, other_is, refl)
 
 -- and what stands at a place
 rise_same : (m : Instance) (move : Move) (form : SiteForm) (b : Bool) (u place : ℕ) → AreReadOf m move form.own.now form.at.now form.stays.now form.turns.now form.smooth.now → u < length form.at.now → neighbour_at form.ends.now place < length form.at.now
     → rise_at_place form b u place ≡ end_rise_at m move (labelling form.at.now) form.ends.now b u place
 rise_same m move form b u place is inside head =
     labels_rise m move form (weight_at form.ends.now place) (is_first form.ends.now u place) (labelling form.at.now u) (labelling form.at.now (neighbour_at form.ends.now place)) b is
-    (label_within form.at.now u m.labels inside is.labels) (label_within form.at.now (neighbour_at form.ends.now place) m.labels head is.labels)
+    (u, inside, refl) (neighbour_at form.ends.now place, head, refl)
 
 place_same : (m : Instance) (move : Move) (form : SiteForm) (x : ℕ → Bool) (u place : ℕ) → AreReadOf m move form.own.now form.at.now form.stays.now form.turns.now form.smooth.now → u < length form.at.now → neighbour_at form.ends.now place < length form.at.now
     → place_rise (move_form m move (labelling form.at.now) form.ends.now) x u place ≡ place_rise (form_of form) x u place

@@ -1,5 +1,5 @@
 -- The lists of a move's numbers.
-use Rattle.std.specs.Prelude.{◌≡◌, ℕ, ◌+◌, ◌*◌, ◌<◌, ◌≤◌, Bool, true, false, cond, ℤ, pos, ◌-ℤ◌}
+use Rattle.std.specs.Prelude.{◌≡◌, ℕ, ◌+◌, ◌*◌, ◌<◌, ◌≤◌, Bool, true, false, ℤ, pos, ◌-ℤ◌}
 use Rattle.std.specs.Prelude.{List, length, slice_index, slice_index_or, unsigned_abs}
 use Rattle.std.specs.List.{All}
 use Rattle.label_field.specs.Limits.{site_limit, label_limit, weight_limit}
@@ -26,20 +26,29 @@ unit_rise stays turns smooth first own label =
     pos (table_cost smooth first (slice_index turns own) label)
     -ℤ pos (table_cost smooth first (slice_index stays own) label)
 
--- the rises of such an end, by a table of rises
-abbrev pub unit_rises_at : List EndRises → Bool → ℕ → ℕ → EndRises
-unit_rises_at table first own other =
-    slice_index_or table (entry_place first own other) (record { low = pos 0; high = pos 0 })
+-- the rises at a place of a table
+abbrev pub rises_in : List EndRises → ℕ → EndRises
+rises_in table place = slice_index_or table place (record { low = pos 0; high = pos 0 })
 
--- the rises of a pair of weight 1 whose labels have this place in a table
-pub record AreUnitRises (stays turns smooth : List ℕ) (place : ℕ) (rises : EndRises)
-    : Type 0 where
-  pub low : (first : Bool) (own other : ℕ) → own < table_labels → other < table_labels
-      → place ≡ entry_place first own other
-      → rises.low ≡ unit_rise stays turns smooth first own (slice_index stays other)
-  pub high : (first : Bool) (own other : ℕ) → own < table_labels → other < table_labels
-      → place ≡ entry_place first own other
-      → rises.high ≡ unit_rise stays turns smooth first own (slice_index turns other)
+-- those of such an end
+abbrev pub unit_rises_at : List EndRises → Bool → ℕ → ℕ → EndRises
+unit_rises_at table first own other = rises_in table (entry_place first own other)
+
+-- these are the rises of a pair of weight 1 whose end of the one label turns, while the other end
+-- has the other
+pub record AreUnitRises (stays turns smooth : List ℕ) (first : Bool) (own other : ℕ)
+    (rises : EndRises) : Type 0 where
+  pub low : rises.low ≡ unit_rise stays turns smooth first own (slice_index stays other)
+  pub high : rises.high ≡ unit_rise stays turns smooth first own (slice_index turns other)
+
+-- some site has this label
+abbrev pub IsSiteLabel : List ℕ → ℕ → Type 0
+IsSiteLabel at label = (u : ℕ) × (u < length at) × (labelling at u ≡ label)
+
+-- the move makes this label of some site's
+abbrev pub IsMadeLabel : Move → List ℕ → ℕ → Type 0
+IsMadeLabel move at label =
+    (old : ℕ) × (b : Bool) × IsSiteLabel at old × (label ≡ label_after move old b)
 
 -- the own rise of a site, as a list has it
 abbrev pub own_at : List ℤ → ℕ → ℤ
@@ -61,8 +70,8 @@ pub record ArePlaces (n : ℕ) (ends : Neighbours) : Type 0 where
       → place < neighbours_start ends (u + 1) → weight_at ends place ≤ weight_limit
 
 -- a label and an own rise for each site, two labels for each label, and a cost for each two of 256
--- labels; and where there are few labels, a table of what a pair of weight 1 rises by. None is
--- large
+-- labels; and where there are few labels, a table of what a pair of weight 1 rises by whose ends
+-- have labels of sites. None is large
 pub record AreReadableLists (own : List ℤ) (at stays turns smooth : List ℕ) (few : Bool)
     (table : List EndRises) : Type 0 where
   pub own_len : length own ≡ length at
@@ -73,12 +82,9 @@ pub record AreReadableLists (own : List ℤ) (at stays turns smooth : List ℕ) 
   pub costs : (place : ℕ) → slice_index smooth place ≤ 10000
   pub table_len : few ≡ true → length table ≡ 8192
   pub few_labels : few ≡ true → (u : ℕ) → u < length at → slice_index at u < table_labels
-  pub low : few ≡ true → (first : Bool) (own other : ℕ) → own < table_labels → other < table_labels
-      → (unit_rises_at table first own other).low
-      ≡ unit_rise stays turns smooth first own (slice_index stays other)
-  pub high : few ≡ true → (first : Bool) (own other : ℕ) → own < table_labels → other < table_labels
-      → (unit_rises_at table first own other).high
-      ≡ unit_rise stays turns smooth first own (slice_index turns other)
+  pub rises : few ≡ true → (first : Bool) (own other : ℕ) → IsSiteLabel at own
+      → IsSiteLabel at other
+      → AreUnitRises stays turns smooth first own other (unit_rises_at table first own other)
 
 -- the lists are of these sites and their places
 pub record AreReadable (ends : Neighbours) (own : List ℤ) (at stays turns smooth : List ℕ)
@@ -86,14 +92,14 @@ pub record AreReadable (ends : Neighbours) (own : List ℤ) (at stays turns smoo
   pub places : ArePlaces (length at) ends
   pub numbers : AreReadableLists own at stays turns smooth few table
 
--- they were read of a move from these labels
+-- they were read of a move from these labels: what each label becomes, what the labels that the
+-- move makes cost beside one another, and what each site's own rise is
 pub record AreReadOf (m : Instance) (move : Move) (own : List ℤ) (at stays turns smooth : List ℕ)
     : Type 0 where
   pub sites : length at ≡ m.sites
   pub labels : All (λ label. label < m.labels) at
   pub after : (old : ℕ) → old < m.labels → (slice_index stays old ≡ label_after move old false)
       × (slice_index turns old ≡ label_after move old true)
-  pub within : (old : ℕ) (bit : Bool) → old < m.labels → label_after move old bit < m.labels
-  pub costs : (one other : ℕ) → one < m.labels → other < m.labels
+  pub costs : (one other : ℕ) → IsMadeLabel move at one → IsMadeLabel move at other
       → slice_index smooth (one * label_limit + other) ≡ m.smooth_cost one other
   pub own_are : (u : ℕ) → u < length at → own_at own u ≡ data_rise m move (labelling at) u

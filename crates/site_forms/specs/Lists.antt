@@ -1,16 +1,93 @@
 -- The lists of which a form is lent.
-use Rattle.std.specs.Prelude.{ℕ, List}
+use Rattle.std.specs.Prelude.{◌≡◌, ℕ, ◌+◌, ◌*◌, ◌<◌, ◌≤◌, Bool, true, false, List, [], length}
+use Rattle.std.specs.Prelude.{slice_index, slice_index_or}
+use Rattle.label_field.specs.Limits.{label_limit}
 use Rattle.label_energies.specs.declared.change.Move.{Move}
-use Rattle.label_energies.specs.Energies.{Instance}
+use Rattle.label_energies.specs.declared.change.Move.TheVariants.{Expand, Swap}
+use Rattle.label_energies.specs.Energies.{Instance, labelling}
+use Rattle.label_energies.specs.Moves.{label_after}
+use Rattle.cost_store.specs.declared.problem.Problem.{Problem}
+use Rattle.cost_store.specs.Posed.{Closure, WhereMeant}
 use Rattle.site_forms.specs.Fields.{AreReadableLists, AreReadOf}
 use Rattle.site_forms.specs.declared.lists.FormLists.{FormLists}
+use Rattle.site_forms.specs.declared.smooth_costs.AskedCosts.{AskedCosts}
+
+-- ---- what labels cost beside one another
+
+-- was it asked what this label costs beside each other one that was asked?
+abbrev pub was_asked : AskedCosts → ℕ → Bool
+was_asked asked label = slice_index_or asked.labels.items label false
+
+-- no cost of a list is above the greatest smooth cost
+abbrev pub AreCostsSmall : List ℕ → Type 0
+AreCostsSmall costs = (place : ℕ) → slice_index costs place ≤ 10000
+
+-- the list has what the two labels cost a pair of weight 1
+abbrev pub HasCostOf : Instance → List ℕ → ℕ → ℕ → Type 0
+HasCostOf m costs one other =
+    slice_index costs (one * label_limit + other) ≡ m.smooth_cost one other
+
+-- each such cost that the list had, it has
+abbrev pub KeepsCostsOf : Instance → List ℕ → List ℕ → Type 0
+KeepsCostsOf m old new =
+    (one other : ℕ) → other < label_limit → HasCostOf m old one other → HasCostOf m new one other
+
+-- so it does, and it has this one too
+pub record GetsCostOf (m : Instance) (one other : ℕ) (old new : List ℕ) : Type 0 where
+  pub cost : HasCostOf m new one other
+  pub kept : KeepsCostsOf m old new
+
+-- what each two labels that were asked cost a pair is what they cost in the problem, and no cost is
+-- large
+pub record AreAskedCosts {F V : Type 0} (f : Closure F) (v : Closure V) (problem : Problem F V)
+    (asked : AskedCosts) : Type 0 where
+  pub small : AreCostsSmall asked.costs.items
+  pub costs : WhereMeant f v problem (λ m. (one other : ℕ) → one < m.labels → other < m.labels
+      → was_asked asked one ≡ true → was_asked asked other ≡ true
+      → HasCostOf m asked.costs.items one other)
+
+-- there is room for 256 labels
+abbrev pub HasCostRoom : AskedCosts → Type 0
+HasCostRoom asked =
+    (length asked.labels.items ≡ label_limit) × (length asked.costs.items ≡ 65536)
+
+-- each label that was asked stays so
+pub record KeepsAsked (old new : AskedCosts) : Type 0 where
+  pub labels : (label : ℕ) → was_asked old label ≡ true → was_asked new label ≡ true
+  pub room : HasCostRoom new
+
+-- so it does, and this label was asked too
+pub record AsksLabel (label : ℕ) (old new : AskedCosts) : Type 0 where
+  pub here : was_asked new label ≡ true
+  pub kept : KeepsAsked old new
+
+-- the labels of a move were asked
+abbrev pub AreMoveLabelsAsked : Move → AskedCosts → Type 0
+AreMoveLabelsAsked (Expand a) asked = was_asked asked a ≡ true
+AreMoveLabelsAsked (Swap a b) asked = (was_asked asked a ≡ true) × (was_asked asked b ≡ true)
+
+-- each label that the move makes of a site's was asked
+abbrev pub AreMadeAsked : Move → List ℕ → AskedCosts → Type 0
+AreMadeAsked move at asked =
+    (u : ℕ) (b : Bool) → u < length at
+    → was_asked asked (label_after move (labelling at u) b) ≡ true
+
+-- ---- all lists
+
+-- the smooth costs that the lists have asked are those of the problem
+abbrev pub KnowsCosts : {F V : Type 0} → Closure F → Closure V → Problem F V → FormLists → Type 0
+KnowsCosts {F} {V} f v problem lists = AreAskedCosts f v problem lists.smooth
+
+-- no smooth cost was asked
+abbrev pub HasNoCosts : FormLists → Type 0
+HasNoCosts lists = (lists.smooth.labels.items ≡ []) × (lists.smooth.costs.items ≡ [])
 
 -- the lists have numbers for each site, label and two labels, none of them large
 abbrev pub AreFormLists : List ℕ → FormLists → Type 0
 AreFormLists at lists = AreReadableLists lists.own.items at lists.stays.items lists.turns.items
-    lists.smooth.items lists.few lists.table.items
+    lists.smooth.costs.items lists.few lists.table.items
 
 -- they were read of a move from these labels
 abbrev pub IsReadOf : Instance → Move → List ℕ → FormLists → Type 0
 IsReadOf m move at lists = AreReadOf m move lists.own.items at lists.stays.items
-    lists.turns.items lists.smooth.items
+    lists.turns.items lists.smooth.costs.items

@@ -9,8 +9,9 @@ mod numbers;
 mod reading;
 mod rises;
 mod savings;
+mod smooth_costs;
 
 pub use lists::FormLists;
 pub use numbers::SiteForm;
-pub use rises::read_rises;
+pub use rises::{read_rises, site_rises};
 pub use savings::pair_saving;

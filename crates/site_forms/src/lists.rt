@@ -1,6 +1,6 @@
 //! The door: the costs of a move, read once into lists. Only this file asks a problem for costs.
-ghost use Rattle.std.specs.Prelude.{◌≡◌, ◌*◌, ◌+◌, ◌<◌, ◌≤◌, ℕ, pos, length, slice_index, OnOk};
-ghost use Rattle.std.specs.Prelude.{true, unsigned_abs, Bool, slice_index_or};
+ghost use Rattle.std.specs.Prelude.{◌≡◌, ◌⊎◌, ◌<◌, ◌≤◌, ℕ, length, slice_index, OnOk};
+ghost use Rattle.std.specs.Prelude.{true, unsigned_abs, Bool};
 ghost use Rattle.label_field.specs.Limits.{label_limit};
 ghost use Rattle.label_energies.specs.Energies.{labelling, Instance};
 ghost use Rattle.label_energies.specs.Moves.{IsMoveOf, label_after, IsAllowed};
@@ -10,12 +10,15 @@ ghost use Rattle.cost_store.specs.Posed.{IsPosed, IsAsked, WhereMeant};
 ghost use Rattle.move_energy.specs.BySite.{AreBySite};
 ghost use Rattle.move_prices.specs.MoveValues.{data_rise as data_rise_of};
 ghost use Rattle.move_prices.specs.Rising.{table_labels, entry_place};
-ghost use Rattle.site_forms.specs.Fields.{own_at, unit_rise, AreUnitRises};
-ghost use Rattle.site_forms.specs.Lists.{AreFormLists, IsReadOf};
+ghost use Rattle.site_forms.specs.Fields.{own_at, unit_rise, AreUnitRises, rises_in};
+ghost use Rattle.site_forms.specs.Fields.{unit_rises_at};
+ghost use Rattle.site_forms.specs.Lists.{AreFormLists, IsReadOf, KnowsCosts, HasNoCosts};
+ghost use Rattle.site_forms.specs.Lists.{AreCostsSmall};
 ghost use Rattle.site_forms.specs.Numbers.{IsFormOf, IsOverPairs};
 
 use crate::numbers::SiteForm;
-use crate::reading::smooth_of;
+use crate::reading::{smooth_of, table_place};
+use crate::smooth_costs::AskedCosts;
 use cost_store::Problem;
 use label_energies::Move;
 use label_field::{LABEL_LIMIT, Pairs};
@@ -28,77 +31,42 @@ const TABLE_LABELS: u32 = 64;
 
 /// How many rises stand in a table: one for each label of a first end and of a second end, and for
 /// each label of its neighbour.
-const ENTRIES: u32 = 8192;
-
-/// How many costs stand in a table: one for each two of 256 labels.
-const COSTS: u32 = 65536;
+const ENTRIES: usize = 8192;
 
 /// The lists of a form. They keep their memory from move to move: 4 bytes a site, 256 KB, and 64 KB
-/// where there are at most 64 labels.
+/// where there are at most 64 labels. They keep the smooth costs too, so that a run asks each two
+/// labels once.
 #[derive(Drop)]
 pub struct FormLists {
     own: Vec<i32>,
     stays: Vec<u8>,
     turns: Vec<u8>,
-    smooth: Vec<u32>,
+    smooth: AskedCosts,
     few: bool,
     table: Vec<EndRises>,
 }
 
-/// Lists what each label becomes by a move, where the site's value is this bit.
-fn list_labels(list: &mut Vec<u8>, change: Move, bit: bool) -> Result<(), AllocError>
-    requires { IsMoveOf label_limit change }
+/// Whether a move over so many sites has a table of rises: where there are few labels for it, and
+/// its rises are fewer than the sites.
+fn has_table(labels: u32, sites: usize) -> bool
+    requires { labels ≤ label_limit }
+    ensures { result ≡ true → labels ≤ table_labels }
+{
+    labels <= TABLE_LABELS && (2 * labels * labels) as usize <= sites
+}
+
+/// Lists what each of so many labels becomes by a move, where the site's value is this bit.
+fn list_labels(list: &mut Vec<u8>, change: Move, bit: bool, labels: u32) -> Result<(), AllocError>
+    requires change { IsMoveOf labels change }
+    requires few { labels ≤ label_limit }
     ensures count { OnOk result (length list.new.items ≡ label_limit) }
-    ensures each { OnOk result ((old : ℕ) → old < label_limit →
+    ensures each { OnOk result ((old : ℕ) → old < labels →
         slice_index list.new.items old ≡ label_after change old bit) }
 {
-    list.clear();
-    list.reserve(256)?;
-    for label in 0..LABEL_LIMIT {
-        list.push(change.label(label, bit) as u8)?;
+    list.resize(256, 0)?;
+    for label in 0..labels {
+        list[label as usize] = change.label(label, bit) as u8;
     }
-    Ok(())
-}
-
-/// What two labels cost a pair of weight 1, by the place where their cost stands; nothing where
-/// these are no labels of the problem.
-fn cost_at<F: Fn(u32, u32) -> i64 + Sync, V: Fn(u32, u32) -> i64 + Sync>(
-    problem: &Problem<F, V>,
-    place: u32,
-) -> u32
-    requires posed { IsPosed F.Fn V.Fn problem.now }
-    ensures small { result ≤ 10000 }
-    ensures cost { WhereMeant F.Fn V.Fn problem.now (λ m. (one other : ℕ) → one < m.labels →
-        other < m.labels → other < label_limit → place ≡ one * label_limit + other →
-        result ≡ m.smooth_cost one other) }
-{
-    let one = place / LABEL_LIMIT;
-    let other = place % LABEL_LIMIT;
-    if one >= problem.data_cost.labels || other >= problem.data_cost.labels {
-        return 0;
-    }
-    problem.smooth_cost.cost(one, other) as u32
-}
-
-/// Lists what each two labels cost a pair of weight 1.
-fn list_costs<F: Fn(u32, u32) -> i64 + Sync, V: Fn(u32, u32) -> i64 + Sync>(
-    smooth: &mut Vec<u32>,
-    problem: &Problem<F, V>,
-) -> Result<(), AllocError>
-    requires posed { IsPosed F.Fn V.Fn problem.now }
-    requires few { problem.now.data_cost.labels ≤ label_limit }
-    ensures count { OnOk result (length smooth.new.items ≡ 65536) }
-    ensures small { OnOk result ((place : ℕ) → slice_index smooth.new.items place ≤ 10000) }
-    ensures costs { OnOk result (WhereMeant F.Fn V.Fn problem.now (λ m. (one other : ℕ) →
-        one < m.labels → other < m.labels →
-        slice_index smooth.new.items (one * label_limit + other) ≡ m.smooth_cost one other)) }
-{
-    smooth.clear();
-    smooth.reserve(COSTS as usize)?;
-    for place in 0..problem.data_cost.labels * LABEL_LIMIT {
-        smooth.push(cost_at(problem, place))?;
-    }
-    smooth.resize(COSTS as usize, 0)?;
     Ok(())
 }
 
@@ -108,49 +76,28 @@ fn unit_rise_of(stays: &[u8], turns: &[u8], smooth: &[u32], first: bool, own: u8
     requires stays { length stays.now ≡ label_limit }
     requires turns { length turns.now ≡ label_limit }
     requires size { length smooth.now ≡ 65536 }
-    requires small { (place : ℕ) → slice_index smooth.now place ≤ 10000 }
+    requires small { AreCostsSmall smooth.now }
     ensures { result ≡ unit_rise stays.now turns.now smooth.now first own other }
 {
     smooth_of(smooth, first, turns[own as usize], other) as i32
         - smooth_of(smooth, first, stays[own as usize], other) as i32
 }
 
-/// Whether the rises of first ends stand at a place of the table.
-fn is_of_first(place: u32) -> bool
-    ensures { (first : Bool) (own other : ℕ) → own < table_labels → other < table_labels →
-        place ≡ entry_place first own other → result ≡ first }
-{
-    place < ENTRIES / 2
-}
-
-/// The label of the end whose rises stand at a place of the table.
-fn own_label(place: u32) -> u8
-    ensures { (first : Bool) (own other : ℕ) → own < table_labels → other < table_labels →
-        place ≡ entry_place first own other → result ≡ own }
-{
-    (place / TABLE_LABELS % TABLE_LABELS) as u8
-}
-
-/// The label of its neighbour.
-fn other_label(place: u32) -> u8
-    ensures small { result < table_labels }
-    ensures label { (first : Bool) (own other : ℕ) → own < table_labels → other < table_labels →
-        place ≡ entry_place first own other → result ≡ other }
-{
-    (place % TABLE_LABELS) as u8
-}
-
-/// The rises that stand at a place of the table.
-fn rises_of_place(stays: &[u8], turns: &[u8], smooth: &[u32], place: u32) -> EndRises
+/// The rises of a pair of weight 1, by the labels of its ends.
+fn unit_rises_of(
+    stays: &[u8],
+    turns: &[u8],
+    smooth: &[u32],
+    first: bool,
+    own: u8,
+    other: u8,
+) -> EndRises
     requires stays { length stays.now ≡ label_limit }
     requires turns { length turns.now ≡ label_limit }
     requires size { length smooth.now ≡ 65536 }
-    requires small { (place : ℕ) → slice_index smooth.now place ≤ 10000 }
-    ensures { AreUnitRises stays.now turns.now smooth.now place result }
+    requires small { AreCostsSmall smooth.now }
+    ensures { AreUnitRises stays.now turns.now smooth.now first own other result }
 {
-    let first = is_of_first(place);
-    let own = own_label(place);
-    let other = other_label(place);
     let stayed = stays[other as usize];
     let turned = turns[other as usize];
     EndRises {
@@ -159,32 +106,51 @@ fn rises_of_place(stays: &[u8], turns: &[u8], smooth: &[u32], place: u32) -> End
     }
 }
 
-/// Lists the rises of pairs of weight 1 by the labels of their ends, where there are few labels.
-fn list_rises(
-    table: &mut Vec<EndRises>,
+/// Writes the rises of the ends of one label, the first ends or the second ones, beside so many
+/// labels.
+fn write_row(
+    table: &mut [EndRises],
     stays: &[u8],
     turns: &[u8],
     smooth: &[u32],
-    few: bool,
-) -> Result<(), AllocError>
+    first: bool,
+    own: u8,
+    labels: u32,
+)
     requires stays { length stays.now ≡ label_limit }
     requires turns { length turns.now ≡ label_limit }
     requires size { length smooth.now ≡ 65536 }
-    requires small { (place : ℕ) → slice_index smooth.now place ≤ 10000 }
-    ensures count { OnOk result (few ≡ true → length table.new.items ≡ 8192) }
-    ensures rises { OnOk result (few ≡ true → (place : ℕ) → place < 8192 →
-        AreUnitRises stays.now turns.now smooth.now place (slice_index_or table.new.items place
-        (record { low = pos 0; high = pos 0 }))) }
+    requires small { AreCostsSmall smooth.now }
+    requires few { (own < labels) × (labels ≤ table_labels) }
+    requires table { length table.old ≡ 8192 }
+    ensures rises { (other : ℕ) → other < labels →
+        AreUnitRises stays.now turns.now smooth.now first own other
+        (unit_rises_at table.new first own other) }
+    ensures others { (k : ℕ) → (k < entry_place first own 0) ⊎ (entry_place first own 64 ≤ k) →
+        rises_in table.new k ≡ rises_in table.old k }
 {
-    if !few {
-        return Ok(());
+    for other in 0..labels {
+        let rises = unit_rises_of(stays, turns, smooth, first, own, other as u8);
+        table[table_place(first, own, other as u8)] = rises;
     }
-    table.clear();
-    table.reserve(8192)?;
-    for place in 0..ENTRIES {
-        table.push(rises_of_place(stays, turns, smooth, place))?;
+}
+
+/// Writes the rises of pairs of weight 1 by the labels of their ends, of which there are so many.
+fn write_rises(table: &mut [EndRises], stays: &[u8], turns: &[u8], smooth: &[u32], labels: u32)
+    requires stays { length stays.now ≡ label_limit }
+    requires turns { length turns.now ≡ label_limit }
+    requires size { length smooth.now ≡ 65536 }
+    requires small { AreCostsSmall smooth.now }
+    requires few { labels ≤ table_labels }
+    requires table { length table.old ≡ 8192 }
+    ensures { (first : Bool) (own other : ℕ) → own < labels → other < labels →
+        AreUnitRises stays.now turns.now smooth.now first own other
+        (unit_rises_at table.new first own other) }
+{
+    for own in 0..labels {
+        write_row(table, stays, turns, smooth, true, own as u8, labels);
+        write_row(table, stays, turns, smooth, false, own as u8, labels);
     }
-    Ok(())
 }
 
 /// How much more the label costs a site where its value turns from 0 to 1, in four bytes.
@@ -230,19 +196,53 @@ fn list_own_rises<F: Fn(u32, u32) -> i64 + Sync, V: Fn(u32, u32) -> i64 + Sync>(
 
 impl FormLists {
     /// Of no move. It takes no memory.
-    pub fn empty(alloc: Global) -> FormLists {
+    pub fn empty(alloc: Global) -> FormLists
+        ensures { HasNoCosts result }
+    {
         FormLists {
             own: Vec::new(alloc),
             stays: Vec::new(alloc),
             turns: Vec::new(alloc),
-            smooth: Vec::new(alloc),
+            smooth: AskedCosts::empty(alloc),
             few: false,
             table: Vec::new(alloc),
         }
     }
 
+    /// Makes the table of a move over so many sites, where it has one.
+    fn make_table(&mut self, labels: u32, sites: usize) -> Result<(), AllocError>
+        requires few { labels ≤ label_limit }
+        requires stays { length self.old.stays.items ≡ label_limit }
+        requires turns { length self.old.turns.items ≡ label_limit }
+        requires size { length self.old.smooth.costs.items ≡ 65536 }
+        requires small { AreCostsSmall self.old.smooth.costs.items }
+        ensures same { (self.new.stays ≡ self.old.stays) × (self.new.turns ≡ self.old.turns)
+            × (self.new.smooth ≡ self.old.smooth) }
+        ensures few { self.new.few ≡ true → labels ≤ table_labels }
+        ensures count { OnOk result (self.new.few ≡ true → length self.new.table.items ≡ 8192) }
+        ensures rises { OnOk result (self.new.few ≡ true → (first : Bool) (own other : ℕ) →
+            own < labels → other < labels →
+            AreUnitRises self.new.stays.items self.new.turns.items self.new.smooth.costs.items
+            first own other (unit_rises_at self.new.table.items first own other)) }
+    {
+        self.few = has_table(labels, sites);
+        if !self.few {
+            return Ok(());
+        }
+        self.table.resize(ENTRIES, EndRises { low: 0, high: 0 })?;
+        write_rises(
+            self.table.as_mut_slice(),
+            &self.stays,
+            &self.turns,
+            &self.smooth.costs,
+            labels,
+        );
+        Ok(())
+    }
+
     /// Reads the costs of a move from these labels: of each site how much more the move's label
-    /// costs it, and what each two labels cost a pair. It refuses only where memory runs out.
+    /// costs it, and what each two labels that are in use cost a pair. Two labels that an earlier
+    /// move asked are not asked again. It refuses only where memory runs out.
     pub fn read<F: Fn(u32, u32) -> i64 + Sync, V: Fn(u32, u32) -> i64 + Sync>(
         &mut self,
         problem: &Problem<F, V>,
@@ -252,21 +252,17 @@ impl FormLists {
         requires posed { IsPosed F.Fn V.Fn problem.now }
         requires asked { IsAsked problem.now at.now change }
         requires few { problem.now.data_cost.labels ≤ label_limit }
+        requires known { KnowsCosts F.Fn V.Fn problem.now self.old }
+        ensures known { KnowsCosts F.Fn V.Fn problem.now self.new }
         ensures lists { OnOk result (AreFormLists at.now self.new) }
         ensures read { OnOk result (WhereMeant F.Fn V.Fn problem.now
             (λ m. IsReadOf m change at.now self.new)) }
     {
-        list_labels(&mut self.stays, change, false)?;
-        list_labels(&mut self.turns, change, true)?;
-        list_costs(&mut self.smooth, problem)?;
-        self.few = problem.data_cost.labels <= TABLE_LABELS;
-        list_rises(
-            &mut self.table,
-            &self.stays,
-            &self.turns,
-            &self.smooth,
-            self.few,
-        )?;
+        let labels = problem.data_cost.labels;
+        self.smooth.ask_all(problem, at, change)?;
+        list_labels(&mut self.stays, change, false, labels)?;
+        list_labels(&mut self.turns, change, true, labels)?;
+        self.make_table(labels, at.len())?;
         list_own_rises(&mut self.own, problem, at, change)
     }
 
@@ -291,7 +287,7 @@ impl FormLists {
             at,
             stays: &self.stays,
             turns: &self.turns,
-            smooth: &self.smooth,
+            smooth: &self.smooth.costs,
             few: self.few,
             table: &self.table,
         }

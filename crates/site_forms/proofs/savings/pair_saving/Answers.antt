@@ -1,9 +1,8 @@
-use Rattle.std.proofs.Common.{◌∙◌, ◌≤◌, ◌-ℤ◌, unsigned_abs, true, false, ap, arith}
+use Rattle.std.proofs.Common.{◌∙◌, ◌≤◌, unsigned_abs, true, false, refl, ap, arith}
 use Rattle.sums.proofs.IntegerSumLemmas.{abs-sub}
 use Rattle.label_energies.specs.Energies.{labelling}
-use Rattle.move_prices.proofs.Numbers.{passed_on, passed_range}
+use Rattle.move_prices.proofs.Numbers.{passed_on}
 use Rattle.move_prices.proofs.Tables.{told_surplus}
-use Rattle.site_forms.proofs.Entries.{label_within}
 use Rattle.site_forms.proofs.Telling.{labels_rise}
 use Rattle.site_forms.proofs.savings.pair_saving.Goals as goal
 
@@ -14,10 +13,14 @@ returns-clause-value c = λ m move is.
     let rises = c.end_rises-rises.result in
     let f = labelling a.form.now.at.now in
     let small : unsigned_abs c.surplus_by.result ≤ 20000000 = omega (arith, ap unsigned_abs c.surplus_by.ensures, abs-sub rises.low rises.high, e.low_small, e.high_small) in
-    let own = label_within a.form.now.at.now a.pair.first m.labels c.requires.pair.first is.read.labels in
-    let other = label_within a.form.now.at.now a.pair.second m.labels c.requires.pair.second is.read.labels in
     passed_on c.surplus_by.result small ∙ c.surplus_by.ensures
     ∙ told_surplus m move f a.pair rises (
-      e.low ∙ labels_rise m move a.form.now a.pair.weight true (f a.pair.first) (f a.pair.second) false is.read own other,
-      e.high ∙ labels_rise m move a.form.now a.pair.weight true (f a.pair.first) (f a.pair.second) true is.read own other,
+      e.low ∙ labels_rise m move a.form.now a.pair.weight true (f a.pair.first) (f a.pair.second) false is.read (a.pair.first, c.requires.pair.first, refl) (a.pair.second, c.requires.pair.second, refl),
+      e.high ∙ labels_rise m move a.form.now a.pair.weight true (f a.pair.first) (f a.pair.second) true is.read (a.pair.first, c.requires.pair.first, refl) (a.pair.second, c.requires.pair.second, refl),
     )
+
+pub end_rises-rises-requires-clause-own : goal.end_rises-rises-requires-clause-own
+end_rises-rises-requires-clause-own c = (c.args.pair.first, c.requires.pair.first, refl)
+
+pub end_rises-rises-requires-clause-other : goal.end_rises-rises-requires-clause-other
+end_rises-rises-requires-clause-other c = (c.args.pair.second, c.requires.pair.second, refl)

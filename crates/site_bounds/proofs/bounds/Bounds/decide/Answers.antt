@@ -8,16 +8,16 @@ use Rattle.move_energy.proofs.Parts.{start_read, starts_rise}
 use Rattle.site_bounds.proofs.Left.{left_less}
 use Rattle.site_bounds.proofs.Ranges.{range_wider, decided_waits, total_same}
 use Rattle.site_bounds.proofs.Spreading.{IsSpread, spread_start, spread_step, spread_end, pair_in}
-use Rattle.move_prices.proofs.Places.{meant_pairs, meant_grouped}
+use Rattle.move_prices.proofs.Places.{meant_grouped}
 use Rattle.site_bounds.proofs.Places.{range_start, range_step, range_enough, site_free}
 use Rattle.std.proofs.lemmas.Result.{err_from_is_err_and}
 use Rattle.site_bounds.proofs.bounds.Bounds.decide.Goals as goal
 
 pub loop-place-init : goal.loop-place-init
-loop-place-init g c =
+loop-place-init c =
     let a = c.args in
-    let inside : a.site < a.step.now.problem.now.pairs.sites = omega (arith, c.requires.site.0, c.requires.sized.within, c.requires.posed.asked.sites) in
-    let start = start_read a.step.now.problem.now.pairs a.step.now.ends.now a.site _ c.requires.posed.by_site (omega (arith, inside)) c.index-place.ensures in
+    let inside : a.site < a.form.now.pairs.now.sites = omega (arith, c.requires.site.0, c.requires.sized.within, c.requires.over.sites) in
+    let start = start_read a.form.now.pairs.now a.form.now.ends.now a.site _ c.requires.over.by_site (omega (arith, inside)) c.index-place.ensures in
     record {
       choices = refl;
       sized = record {
@@ -30,46 +30,46 @@ loop-place-init g c =
       more = (let e = ap (λ (v : _). length v.items) c.mark.ensures.waiting in omega (arith, e));
       range = λ most within. range_wider most _ c.mark.new.self (omega arith) (range_start a.self.now c.mark.new.self a.site a.value c.mark.ensures most within);
       total = (let e = total_same a.self.now c.mark.new.self c.mark.ensures.greatest in omega (arith, e));
-      spread = λ m answers decided by_site.
-          let G = grouped_at a.step.now.ends.now by_site.places in
-          let most : length a.self.now.least.items ≤ m.sites = omega (arith, c.requires.sized.within, c.requires.posed.asked.sites, answers.sites_are) in
-          let P : ℕ → Type 0 = λ p. IsSpread m a.step.now.change (labelling a.step.now.at.now) (length a.self.now.least.items) decided.decisions a.site a.value G p c.mark.new.self in
+      spread = λ m move read decided by_site.
+          let G = grouped_at a.form.now.ends.now by_site.places in
+          let most : length a.self.now.least.items ≤ m.sites = omega (arith, c.requires.sized.within, c.requires.over.sites, read.sites_are) in
+          let P : ℕ → Type 0 = λ p. IsSpread m move (labelling a.form.now.at.now) (length a.self.now.least.items) decided.decisions a.site a.value G p c.mark.new.self in
           subst P (sym start)
-          (spread_start m a.step.now.change (labelling a.step.now.at.now) a.site a.value G a.self.now c.mark.new.self (length a.self.now.least.items) most (meant_grouped m a.step.now.problem.now.pairs a.step.now.ends.now answers.pairs_are answers.sites_are by_site) decided c.mark.ensures);
+          (spread_start m move (labelling a.form.now.at.now) a.site a.value G a.self.now c.mark.new.self (length a.self.now.least.items) most (meant_grouped m a.form.now.pairs.now a.form.now.ends.now read.pairs_are read.sites_are by_site) decided c.mark.ensures);
     }
 
 pub pair_beside-pair-requires-clause-site : goal.pair_beside-pair-requires-clause-site
-pair_beside-pair-requires-clause-site g c = omega (arith, c.requires.site.0, c.requires.sized.within, c.requires.posed.asked.sites)
+pair_beside-pair-requires-clause-site c = omega (arith, c.requires.site.0, c.requires.sized.within, c.requires.over.sites)
 
 pub pair_beside-pair-requires-clause-place : goal.pair_beside-pair-requires-clause-place
-pair_beside-pair-requires-clause-place g c =
+pair_beside-pair-requires-clause-place c =
     let a = c.args in
-    let inside : a.site < a.step.now.problem.now.pairs.sites = omega (arith, c.requires.site.0, c.requires.sized.within, c.requires.posed.asked.sites) in
-    let start = start_read a.step.now.problem.now.pairs a.step.now.ends.now a.site _ c.requires.posed.by_site (omega (arith, inside)) c.index-place.ensures in
-    let end = start_read a.step.now.problem.now.pairs a.step.now.ends.now (a.site + 1) _ c.requires.posed.by_site (omega (arith, inside)) c.index-place-end.ensures in
+    let inside : a.site < a.form.now.pairs.now.sites = omega (arith, c.requires.site.0, c.requires.sized.within, c.requires.over.sites) in
+    let start = start_read a.form.now.pairs.now a.form.now.ends.now a.site _ c.requires.over.by_site (omega (arith, inside)) c.index-place.ensures in
+    let end = start_read a.form.now.pairs.now a.form.now.ends.now (a.site + 1) _ c.requires.over.by_site (omega (arith, inside)) c.index-place-end.ensures in
     (omega (arith, start, c.loop-place.auto.place), omega (arith, end, c.loop-place-test.true))
 
 pub see-requires-clause-end : goal.see-requires-clause-end
-see-requires-clause-end g c = λ κs lives. c.pair_beside-pair.ensures.end
+see-requires-clause-end c = c.pair_beside-pair.ensures.end
 
 pub see-requires-clause-range : goal.see-requires-clause-range
-see-requires-clause-range g c = λ κs lives.
+see-requires-clause-range c =
     let a = c.args in
-    let inside : a.site < a.step.now.problem.now.pairs.sites = omega (arith, c.requires.site.0, c.requires.sized.within, c.requires.posed.asked.sites) in
-    let start = start_read a.step.now.problem.now.pairs a.step.now.ends.now a.site _ c.requires.posed.by_site (omega (arith, inside)) c.index-place.ensures in
-    let end = start_read a.step.now.problem.now.pairs a.step.now.ends.now (a.site + 1) _ c.requires.posed.by_site (omega (arith, inside)) c.index-place-end.ensures in
-    let from : neighbours_start a.step.now.ends.now a.site ≤ c.loop-place.place = omega (arith, start, c.loop-place.auto.place) in
-    let to : c.loop-place.place < neighbours_start a.step.now.ends.now (a.site + 1) = omega (arith, end, c.loop-place-test.true) in
-    range_enough a.step.now.problem.now.pairs a.step.now.ends.now a.site c.loop-place.place a.self.now c.loop-place.self c.requires.posed.by_site c.requires.posed.posed.pairs inside from to c.loop-place.invariant.range c.requires.range
+    let inside : a.site < a.form.now.pairs.now.sites = omega (arith, c.requires.site.0, c.requires.sized.within, c.requires.over.sites) in
+    let start = start_read a.form.now.pairs.now a.form.now.ends.now a.site _ c.requires.over.by_site (omega (arith, inside)) c.index-place.ensures in
+    let end = start_read a.form.now.pairs.now a.form.now.ends.now (a.site + 1) _ c.requires.over.by_site (omega (arith, inside)) c.index-place-end.ensures in
+    let from : neighbours_start a.form.now.ends.now a.site ≤ c.loop-place.place = omega (arith, start, c.loop-place.auto.place) in
+    let to : c.loop-place.place < neighbours_start a.form.now.ends.now (a.site + 1) = omega (arith, end, c.loop-place-test.true) in
+    range_enough a.form.now.pairs.now a.form.now.ends.now a.site c.loop-place.place a.self.now c.loop-place.self c.requires.over.by_site c.requires.over.list inside from to c.loop-place.invariant.range c.requires.range
 
 pub loop-place-preserved : goal.loop-place-preserved
-loop-place-preserved g c =
+loop-place-preserved c =
     let a = c.args in
-    let inside : a.site < a.step.now.problem.now.pairs.sites = omega (arith, c.requires.site.0, c.requires.sized.within, c.requires.posed.asked.sites) in
-    let start = start_read a.step.now.problem.now.pairs a.step.now.ends.now a.site _ c.requires.posed.by_site (omega (arith, inside)) c.index-place.ensures in
-    let end = start_read a.step.now.problem.now.pairs a.step.now.ends.now (a.site + 1) _ c.requires.posed.by_site (omega (arith, inside)) c.index-place-end.ensures in
-    let from : neighbours_start a.step.now.ends.now a.site ≤ c.loop-place.place = omega (arith, start, c.loop-place.auto.place) in
-    let to : c.loop-place.place < neighbours_start a.step.now.ends.now (a.site + 1) = omega (arith, end, c.loop-place-test.true) in
+    let inside : a.site < a.form.now.pairs.now.sites = omega (arith, c.requires.site.0, c.requires.sized.within, c.requires.over.sites) in
+    let start = start_read a.form.now.pairs.now a.form.now.ends.now a.site _ c.requires.over.by_site (omega (arith, inside)) c.index-place.ensures in
+    let end = start_read a.form.now.pairs.now a.form.now.ends.now (a.site + 1) _ c.requires.over.by_site (omega (arith, inside)) c.index-place-end.ensures in
+    let from : neighbours_start a.form.now.ends.now a.site ≤ c.loop-place.place = omega (arith, start, c.loop-place.auto.place) in
+    let to : c.loop-place.place < neighbours_start a.form.now.ends.now (a.site + 1) = omega (arith, end, c.loop-place-test.true) in
     let looking = c.in_ok-see.ensures.looking in
     record {
       choices = looking.choices ∙ c.loop-place.invariant.choices;
@@ -81,110 +81,110 @@ loop-place-preserved g c =
       same = looking.least_len ∙ c.loop-place.invariant.same;
       waiting = (let P : ℕ → Type 0 = λ n. AreWaiting n c.see.new.self in subst P c.loop-place.invariant.same c.in_ok-see.ensures.waiting);
       more = omega (arith, looking.waiting, c.loop-place.invariant.more, from);
-      range = range_step (neighbours_start a.step.now.ends.now a.site) c.loop-place.place a.self.now c.loop-place.self c.see.new.self from looking c.loop-place.invariant.range;
+      range = range_step (neighbours_start a.form.now.ends.now a.site) c.loop-place.place a.self.now c.loop-place.self c.see.new.self from looking c.loop-place.invariant.range;
       total = omega (arith, looking.total, c.loop-place.invariant.total, from);
-      spread = λ m answers decided by_site.
-          let G = grouped_at a.step.now.ends.now by_site.places in
-          let within : a.site < m.sites = omega (arith, inside, answers.sites_are) in
-          let S : ℕ → Type 0 = λ n. SeesPair m a.step.now.change (labelling a.step.now.at.now) n a.site a.value c.pair_beside-pair.result c.loop-place.self c.see.new.self in
-          spread_step m a.step.now.change (labelling a.step.now.at.now) (length a.self.now.least.items) decided.decisions a.site a.value G c.loop-place.place c.pair_beside-pair.result c.loop-place.self c.see.new.self
-          (meant_pairs m a.step.now.problem.now.pairs answers.pairs_are answers.sites_are c.requires.posed.posed.pairs) (meant_grouped m a.step.now.problem.now.pairs a.step.now.ends.now answers.pairs_are answers.sites_are by_site) within from to
-          ((λ i. pair_in (answers.pairs_are i) (place_at G c.loop-place.place / 2)) ∙ sym (by_site.each a.site c.loop-place.place inside from to) ∙ sym c.pair_beside-pair.ensures.value)
-          (site_free m a.step.now.change (labelling a.step.now.at.now) a.site true a.self.now (length a.self.now.least.items) decided within c.requires.site.1)
-          (site_free m a.step.now.change (labelling a.step.now.at.now) a.site false a.self.now (length a.self.now.least.items) decided within c.requires.site.1)
-          looking.choices (subst S c.loop-place.invariant.same (c.in_ok-see.ensures.sees m answers)) (c.loop-place.invariant.spread m answers decided by_site);
+      spread = λ m move read decided by_site.
+          let G = grouped_at a.form.now.ends.now by_site.places in
+          let within : a.site < m.sites = omega (arith, inside, read.sites_are) in
+          let S : ℕ → Type 0 = λ n. SeesPair m move (labelling a.form.now.at.now) n a.site a.value c.pair_beside-pair.result c.loop-place.self c.see.new.self in
+          spread_step m move (labelling a.form.now.at.now) (length a.self.now.least.items) decided.decisions a.site a.value G c.loop-place.place c.pair_beside-pair.result c.loop-place.self c.see.new.self
+          read.instance (meant_grouped m a.form.now.pairs.now a.form.now.ends.now read.pairs_are read.sites_are by_site) within from to
+          ((λ i. pair_in (read.pairs_are i) (place_at G c.loop-place.place / 2)) ∙ sym (by_site.each a.site c.loop-place.place inside from to) ∙ sym c.pair_beside-pair.ensures.value)
+          (site_free m move (labelling a.form.now.at.now) a.site true a.self.now (length a.self.now.least.items) decided within c.requires.site.1)
+          (site_free m move (labelling a.form.now.at.now) a.site false a.self.now (length a.self.now.least.items) decided within c.requires.site.1)
+          looking.choices (subst S c.loop-place.invariant.same (c.in_ok-see.ensures.sees m move read)) (c.loop-place.invariant.spread m move read decided by_site);
     }
 
 pub returns-clause-range : goal.returns-clause-range
-returns-clause-range g c = λ most within.
+returns-clause-range c = λ most within.
     let a = c.args in
-    let inside : a.site < a.step.now.problem.now.pairs.sites = omega (arith, c.requires.site.0, c.requires.sized.within, c.requires.posed.asked.sites) in
-    let end = start_read a.step.now.problem.now.pairs a.step.now.ends.now (a.site + 1) _ c.requires.posed.by_site (omega (arith, inside)) c.index-place-end.ensures in
-    let start = start_read a.step.now.problem.now.pairs a.step.now.ends.now a.site _ c.requires.posed.by_site (omega (arith, inside)) c.index-place.ensures in
-    let ordered = starts_rise a.step.now.problem.now.pairs a.step.now.ends.now a.site c.requires.posed.by_site inside in
-    let last : c.loop-place.place - neighbours_start a.step.now.ends.now a.site ≤ degree a.step.now.ends.now a.site = omega (arith, start, end, ordered, c.loop-place.auto.place-end) in
-    range_wider (most + 20000000 * (c.loop-place.place - neighbours_start a.step.now.ends.now a.site)) (most + 20000000 * degree a.step.now.ends.now a.site) c.loop-place.self
+    let inside : a.site < a.form.now.pairs.now.sites = omega (arith, c.requires.site.0, c.requires.sized.within, c.requires.over.sites) in
+    let end = start_read a.form.now.pairs.now a.form.now.ends.now (a.site + 1) _ c.requires.over.by_site (omega (arith, inside)) c.index-place-end.ensures in
+    let start = start_read a.form.now.pairs.now a.form.now.ends.now a.site _ c.requires.over.by_site (omega (arith, inside)) c.index-place.ensures in
+    let ordered = starts_rise a.form.now.pairs.now a.form.now.ends.now a.site c.requires.over.by_site inside in
+    let last : c.loop-place.place - neighbours_start a.form.now.ends.now a.site ≤ degree a.form.now.ends.now a.site = omega (arith, start, end, ordered, c.loop-place.auto.place-end) in
+    range_wider (most + 20000000 * (c.loop-place.place - neighbours_start a.form.now.ends.now a.site)) (most + 20000000 * degree a.form.now.ends.now a.site) c.loop-place.self
     (omega (arith, last)) (c.loop-place.invariant.range most within)
 
 pub returns-clause-left : goal.returns-clause-left
-returns-clause-left g c =
+returns-clause-left c =
     let a = c.args in
     let marked = c.mark.ensures in
     let choices = ap (λ (v : _). v.items) c.loop-place.invariant.choices in
-    left_less a.step.now.ends.now (length a.step.now.at.now) a.site a.self.now.choices.items c.loop-place.self.choices.items (omega (arith, c.requires.site.0, c.requires.sized.within)) c.requires.site.1
+    left_less a.form.now.ends.now (length a.form.now.at.now) a.site a.self.now.choices.items c.loop-place.self.choices.items (omega (arith, c.requires.site.0, c.requires.sized.within)) c.requires.site.1
     (λ opened. marked.closed (sym (ap (λ (xs : _). choice_at xs a.site) choices) ∙ opened))
     (λ u other. ap (λ (xs : _). choice_at xs u) choices ∙ marked.others u other)
 
 pub returns-clause-decided : goal.returns-clause-decided
-returns-clause-decided g c = λ m answers tells decided.
+returns-clause-decided c = λ m move read tells decided.
     let a = c.args in
-    let inside : a.site < a.step.now.problem.now.pairs.sites = omega (arith, c.requires.site.0, c.requires.sized.within, c.requires.posed.asked.sites) in
-    let end = start_read a.step.now.problem.now.pairs a.step.now.ends.now (a.site + 1) _ c.requires.posed.by_site (omega (arith, inside)) c.index-place-end.ensures in
-    let past : neighbours_start a.step.now.ends.now (a.site + 1) ≤ c.loop-place.place = omega (arith, end, c.loop-place-test.false) in
-    let most : length a.self.now.least.items ≤ m.sites = omega (arith, c.requires.sized.within, c.requires.posed.asked.sites, answers.sites_are) in
-    spread_end m a.step.now.change (labelling a.step.now.at.now) (length a.self.now.least.items) a.site a.value (grouped_at a.step.now.ends.now c.requires.posed.by_site.places) c.loop-place.place a.self.now c.mark.new.self c.loop-place.self
-    (meant_pairs m a.step.now.problem.now.pairs answers.pairs_are answers.sites_are c.requires.posed.posed.pairs) most c.requires.site.0 decided c.requires.site.1 tells c.mark.ensures c.loop-place.invariant.choices past
-    (c.loop-place.invariant.spread m answers decided c.requires.posed.by_site)
+    let inside : a.site < a.form.now.pairs.now.sites = omega (arith, c.requires.site.0, c.requires.sized.within, c.requires.over.sites) in
+    let end = start_read a.form.now.pairs.now a.form.now.ends.now (a.site + 1) _ c.requires.over.by_site (omega (arith, inside)) c.index-place-end.ensures in
+    let past : neighbours_start a.form.now.ends.now (a.site + 1) ≤ c.loop-place.place = omega (arith, end, c.loop-place-test.false) in
+    let most : length a.self.now.least.items ≤ m.sites = omega (arith, c.requires.sized.within, c.requires.over.sites, read.sites_are) in
+    spread_end m move (labelling a.form.now.at.now) (length a.self.now.least.items) a.site a.value (grouped_at a.form.now.ends.now c.requires.over.by_site.places) c.loop-place.place a.self.now c.mark.new.self c.loop-place.self
+    read.instance most c.requires.site.0 decided c.requires.site.1 tells c.mark.ensures c.loop-place.invariant.choices past
+    (c.loop-place.invariant.spread m move read decided c.requires.over.by_site)
 
 pub see-requires-clause-sized : goal.see-requires-clause-sized
-see-requires-clause-sized g c = λ κs lives. c.loop-place.invariant.sized
+see-requires-clause-sized c = c.loop-place.invariant.sized
 
 pub see-requires-clause-waiting : goal.see-requires-clause-waiting
-see-requires-clause-waiting g c = λ κs lives.
+see-requires-clause-waiting c =
     let P : ℕ → Type 0 = λ n. AreWaiting n c.loop-place.self in subst P (sym c.loop-place.invariant.same) c.loop-place.invariant.waiting
 
 pub returns-in_err-see-clause-sized : goal.returns-in_err-see-clause-sized
-returns-in_err-see-clause-sized g c =
+returns-in_err-see-clause-sized c =
     let p = err_from_is_err_and c.from_residual.result c.from_residual.ensures.1 in
     rw (p.1) tt
 
 pub returns-in_err-see-clause-waiting : goal.returns-in_err-see-clause-waiting
-returns-in_err-see-clause-waiting g c =
+returns-in_err-see-clause-waiting c =
     let p = err_from_is_err_and c.from_residual.result c.from_residual.ensures.1 in
     rw (p.1) tt
 
 pub returns-in_err-see-clause-range : goal.returns-in_err-see-clause-range
-returns-in_err-see-clause-range g c =
+returns-in_err-see-clause-range c =
     let p = err_from_is_err_and c.from_residual.result c.from_residual.ensures.1 in
     rw (p.1) tt
 
 pub returns-in_err-see-clause-more : goal.returns-in_err-see-clause-more
-returns-in_err-see-clause-more g c =
+returns-in_err-see-clause-more c =
     let p = err_from_is_err_and c.from_residual.result c.from_residual.ensures.1 in
     rw (p.1) tt
 
 pub returns-in_err-see-clause-left : goal.returns-in_err-see-clause-left
-returns-in_err-see-clause-left g c =
+returns-in_err-see-clause-left c =
     let p = err_from_is_err_and c.from_residual.result c.from_residual.ensures.1 in
     rw (p.1) tt
 
 pub returns-in_err-see-clause-decided : goal.returns-in_err-see-clause-decided
-returns-in_err-see-clause-decided g c =
+returns-in_err-see-clause-decided c =
     let p = err_from_is_err_and c.from_residual.result c.from_residual.ensures.1 in
     rw (p.1) tt
 
 pub returns-clause-sized : goal.returns-clause-sized
-returns-clause-sized g c = c.loop-place.invariant.sized
+returns-clause-sized c = c.loop-place.invariant.sized
 
 pub returns-clause-waiting : goal.returns-clause-waiting
-returns-clause-waiting g c = c.loop-place.invariant.waiting
+returns-clause-waiting c = c.loop-place.invariant.waiting
 
 pub returns-in_err-see-clause-same : goal.returns-in_err-see-clause-same
-returns-in_err-see-clause-same g c =
+returns-in_err-see-clause-same c =
     let p = err_from_is_err_and c.from_residual.result c.from_residual.ensures.1 in
     rw (p.1) tt
 
 pub returns-clause-total : goal.returns-clause-total
-returns-clause-total g c =
+returns-clause-total c =
     let a = c.args in
-    let inside : a.site < a.step.now.problem.now.pairs.sites = omega (arith, c.requires.site.0, c.requires.sized.within, c.requires.posed.asked.sites) in
-    let end = start_read a.step.now.problem.now.pairs a.step.now.ends.now (a.site + 1) _ c.requires.posed.by_site (omega (arith, inside)) c.index-place-end.ensures in
-    let start = start_read a.step.now.problem.now.pairs a.step.now.ends.now a.site _ c.requires.posed.by_site (omega (arith, inside)) c.index-place.ensures in
-    let ordered = starts_rise a.step.now.problem.now.pairs a.step.now.ends.now a.site c.requires.posed.by_site inside in
-    let last : c.loop-place.place - neighbours_start a.step.now.ends.now a.site ≤ degree a.step.now.ends.now a.site = omega (arith, start, end, ordered, c.loop-place.auto.place-end) in
+    let inside : a.site < a.form.now.pairs.now.sites = omega (arith, c.requires.site.0, c.requires.sized.within, c.requires.over.sites) in
+    let end = start_read a.form.now.pairs.now a.form.now.ends.now (a.site + 1) _ c.requires.over.by_site (omega (arith, inside)) c.index-place-end.ensures in
+    let start = start_read a.form.now.pairs.now a.form.now.ends.now a.site _ c.requires.over.by_site (omega (arith, inside)) c.index-place.ensures in
+    let ordered = starts_rise a.form.now.pairs.now a.form.now.ends.now a.site c.requires.over.by_site inside in
+    let last : c.loop-place.place - neighbours_start a.form.now.ends.now a.site ≤ degree a.form.now.ends.now a.site = omega (arith, start, end, ordered, c.loop-place.auto.place-end) in
     omega (arith, last, c.loop-place.invariant.total)
 
 pub returns-in_err-see-clause-total : goal.returns-in_err-see-clause-total
-returns-in_err-see-clause-total g c =
+returns-in_err-see-clause-total c =
     let p = err_from_is_err_and c.from_residual.result c.from_residual.ensures.1 in
     rw (p.1) tt

@@ -12,36 +12,36 @@ use Rattle.site_bounds.proofs.Ranges.{empty_list, empty_range, range_wider, tota
 use Rattle.site_bounds.proofs.bounds.Bounds.decide_sites.Goals as goal
 
 pub loop-site-init : goal.loop-site-init
-loop-site-init g c =
+loop-site-init c =
     let a = c.args in
     let u = c.requires.unsummed in
-    let L : ℕ → Type 0 = λ n. open_ends a.step.now.ends.now n a.self.now.choices.items ≤ 2 * length a.step.now.problem.now.pairs.list in
+    let L : ℕ → Type 0 = λ n. open_ends a.form.now.ends.now n a.self.now.choices.items ≤ 2 * length a.form.now.pairs.now.list in
     record {
       within = omega arith;
       budget = record {
         sized = record { choices = u.choices; greatest = u.greatest ∙ sym u.least; within = omega (arith, u.least) };
-        left = subst L (sym c.requires.posed.asked.sites) (left_most a.step.now.problem.now.pairs a.step.now.ends.now a.self.now.choices.items c.requires.posed.by_site);
+        left = subst L (sym c.requires.over.sites) (left_most a.form.now.pairs.now a.form.now.ends.now a.self.now.choices.items c.requires.over.by_site);
         range = empty_range _ a.self.now u.least u.greatest;
       };
       same = u.least;
       waiting = record { sites = λ i d l. absurd (omega (arith, l, u.none)); each = λ v l. absurd (omega (arith, l)) };
       none = empty_list a.self.now.waiting.items u.none;
-      total = (let few : open_ends a.step.now.ends.now (length a.step.now.at.now) a.self.now.choices.items ≤ 2 * length a.step.now.problem.now.pairs.list = subst L (sym c.requires.posed.asked.sites) (left_most a.step.now.problem.now.pairs a.step.now.ends.now a.self.now.choices.items c.requires.posed.by_site) in
+      total = (let few : open_ends a.form.now.ends.now (length a.form.now.at.now) a.self.now.choices.items ≤ 2 * length a.form.now.pairs.now.list = subst L (sym c.requires.over.sites) (left_most a.form.now.pairs.now a.form.now.ends.now a.self.now.choices.items c.requires.over.by_site) in
           omega (arith, few, total_none a.self.now u.greatest));
-      decided = λ m answers. c.requires.begun m answers;
+      decided = λ m move read begun. begun;
     }
 
 pub pass_closed-requires-clause-from : goal.pass_closed-requires-clause-from
-pass_closed-requires-clause-from g c = omega (arith, c.loop-site.invariant.within, c.loop-site.invariant.budget.sized.choices)
+pass_closed-requires-clause-from c = omega (arith, c.loop-site.invariant.within, c.loop-site.invariant.budget.sized.choices)
 
 pub pass_closed-requires-clause-summed : goal.pass_closed-requires-clause-summed
-pass_closed-requires-clause-summed g c = (c.loop-site.invariant.same, c.loop-site.invariant.budget.sized.greatest ∙ c.loop-site.invariant.same)
+pass_closed-requires-clause-summed c = (c.loop-site.invariant.same, c.loop-site.invariant.budget.sized.greatest ∙ c.loop-site.invariant.same)
 
-pub sum_site-requires-clause-posed : goal.sum_site-requires-clause-posed
-sum_site-requires-clause-posed g c = λ κs lives. c.requires.posed
+pub sum_site-requires-clause-over : goal.sum_site-requires-clause-over
+sum_site-requires-clause-over c = c.requires.over
 
 pub sum_site-requires-clause-site : goal.sum_site-requires-clause-site
-sum_site-requires-clause-site g c = λ κs lives.
+sum_site-requires-clause-site c =
     let a = c.args in
     let mid = c.pass_closed.new.self in
     let next = c.in_ok-next.next in
@@ -50,7 +50,7 @@ sum_site-requires-clause-site g c = λ κs lives.
     (omega (arith, passes.within, i.budget.sized.choices, c.if-next-sites.false), passed_len c.loop-site.site next c.loop-site.self mid i.same passes)
 
 pub sum_site-requires-clause-opened : goal.sum_site-requires-clause-opened
-sum_site-requires-clause-opened g c = λ κs lives.
+sum_site-requires-clause-opened c =
     let a = c.args in
     let mid = c.pass_closed.new.self in
     let next = c.in_ok-next.next in
@@ -59,22 +59,22 @@ sum_site-requires-clause-opened g c = λ κs lives.
     ap (λ (v : _). choice_at v.items next) passes.choices ∙ passes.opened (omega (arith, passes.within, i.budget.sized.choices, c.if-next-sites.false))
 
 pub sum_site-requires-clause-budget : goal.sum_site-requires-clause-budget
-sum_site-requires-clause-budget g c = λ κs lives.
+sum_site-requires-clause-budget c =
     let a = c.args in
     let mid = c.pass_closed.new.self in
     let next = c.in_ok-next.next in
     let i = c.loop-site.invariant in
     let passes = c.in_ok-next.ensures in
-    let same = ap (λ (v : _). open_ends a.step.now.ends.now (length a.step.now.at.now) v.items) passes.choices in
+    let same = ap (λ (v : _). open_ends a.form.now.ends.now (length a.form.now.at.now) v.items) passes.choices in
     let R : ℕ → Type 0 = λ n. IsWithinRange (budget_of n) mid in
     record {
-      sized = passed_sized (length a.step.now.at.now) c.loop-site.site next c.loop-site.self mid i.same passes i.budget.sized;
+      sized = passed_sized (length a.form.now.at.now) c.loop-site.site next c.loop-site.self mid i.same passes i.budget.sized;
       left = omega (arith, same, i.budget.left);
       range = subst R (sym same) (passed_range c.loop-site.site next _ c.loop-site.self mid passes i.budget.range);
     }
 
 pub sum_site-requires-clause-waiting : goal.sum_site-requires-clause-waiting
-sum_site-requires-clause-waiting g c = λ κs lives.
+sum_site-requires-clause-waiting c =
     let a = c.args in
     let mid = c.pass_closed.new.self in
     let next = c.in_ok-next.next in
@@ -82,15 +82,15 @@ sum_site-requires-clause-waiting g c = λ κs lives.
     let passes = c.in_ok-next.ensures in
     passed_waits c.loop-site.site next c.loop-site.self mid passes i.waiting
 
-pub decide_waiting-requires-clause-posed : goal.decide_waiting-requires-clause-posed
-decide_waiting-requires-clause-posed g c = λ κs lives. c.requires.posed
+pub decide_waiting-requires-clause-over : goal.decide_waiting-requires-clause-over
+decide_waiting-requires-clause-over c = c.requires.over
 
 pub decide_waiting-requires-clause-budget : goal.decide_waiting-requires-clause-budget
-decide_waiting-requires-clause-budget g c = λ κs lives.
+decide_waiting-requires-clause-budget c =
     let a = c.args in
-    let same = ap (λ (v : _). open_ends a.step.now.ends.now (length a.step.now.at.now) v.items) c.in_ok-next.ensures.choices in
-    let was = open_ends a.step.now.ends.now (length a.step.now.at.now) c.pass_closed.new.self.choices.items in
-    let now = open_ends a.step.now.ends.now (length a.step.now.at.now) c.sum_site.new.self.choices.items in
+    let same = ap (λ (v : _). open_ends a.form.now.ends.now (length a.form.now.at.now) v.items) c.in_ok-next.ensures.choices in
+    let was = open_ends a.form.now.ends.now (length a.form.now.at.now) c.pass_closed.new.self.choices.items in
+    let now = open_ends a.form.now.ends.now (length a.form.now.at.now) c.sum_site.new.self.choices.items in
     let few : now ≤ was = c.in_ok-sum_site.ensures.left in
     record {
       sized = c.in_ok-sum_site.ensures.sized;
@@ -99,12 +99,12 @@ decide_waiting-requires-clause-budget g c = λ κs lives.
     }
 
 pub decide_waiting-requires-clause-waiting : goal.decide_waiting-requires-clause-waiting
-decide_waiting-requires-clause-waiting g c = λ κs lives.
+decide_waiting-requires-clause-waiting c =
     let W : ℕ → Type 0 = λ k. AreWaiting k c.sum_site.new.self in
     subst W (sym c.in_ok-sum_site.ensures.summed) c.in_ok-sum_site.ensures.waiting
 
 pub loop-site-preserved : goal.loop-site-preserved
-loop-site-preserved g c =
+loop-site-preserved c =
     let a = c.args in
     let mid = c.pass_closed.new.self in
     let next = c.in_ok-next.next in
@@ -119,129 +119,129 @@ loop-site-preserved g c =
       same = e.same ∙ one.summed;
       waiting = subst W one.summed e.waiting;
       none = e.none;
-      total = (let inside : next < a.step.now.problem.now.pairs.sites = omega (arith, passes.within, i.budget.sized.choices, c.if-next-sites.false, c.requires.posed.asked.sites) in
-          let ordered = starts_rise a.step.now.problem.now.pairs a.step.now.ends.now next c.requires.posed.by_site inside in
-          let climbs = starts_climb a.step.now.problem.now.pairs a.step.now.ends.now c.loop-site.site next c.requires.posed.by_site passes.on (omega (arith, inside)) in
-          let same = ap (λ (v : _). open_ends a.step.now.ends.now (length a.step.now.at.now) v.items) passes.choices in
+      total = (let inside : next < a.form.now.pairs.now.sites = omega (arith, passes.within, i.budget.sized.choices, c.if-next-sites.false, c.requires.over.sites) in
+          let ordered = starts_rise a.form.now.pairs.now a.form.now.ends.now next c.requires.over.by_site inside in
+          let climbs = starts_climb a.form.now.pairs.now a.form.now.ends.now c.loop-site.site next c.requires.over.by_site passes.on (omega (arith, inside)) in
+          let same = ap (λ (v : _). open_ends a.form.now.ends.now (length a.form.now.at.now) v.items) passes.choices in
           let before = passed_total c.loop-site.site next c.loop-site.self mid passes in
           omega (arith, e.total, one.total, one.left, same, before, ordered, climbs, passes.on, i.total));
-      decided = λ m answers.
-          let D : ℕ → Type 0 = λ k. ArePartlyDecided m a.step.now.change (labelling a.step.now.at.now) k c.sum_site.new.self in
-          let E : ℕ → Type 0 = λ k. ArePartlyDecided m a.step.now.change (labelling a.step.now.at.now) k c.decide_waiting.new.self in
-          let was = passed_decides m a.step.now.change (labelling a.step.now.at.now) c.loop-site.site next c.loop-site.self mid passes (i.decided m answers) in
-          subst E one.summed (e.decided m answers (subst D (sym one.summed) (one.decided m answers was)));
+      decided = λ m move read begun.
+          let D : ℕ → Type 0 = λ k. ArePartlyDecided m move (labelling a.form.now.at.now) k c.sum_site.new.self in
+          let E : ℕ → Type 0 = λ k. ArePartlyDecided m move (labelling a.form.now.at.now) k c.decide_waiting.new.self in
+          let was = passed_decides m move (labelling a.form.now.at.now) c.loop-site.site next c.loop-site.self mid passes (i.decided m move read begun) in
+          subst E one.summed (e.decided m move read (subst D (sym one.summed) (one.decided m move read was)));
     }
 
 pub returns-then-next-sites-clause-sized : goal.returns-then-next-sites-clause-sized
-returns-then-next-sites-clause-sized g c =
+returns-then-next-sites-clause-sized c =
     let a = c.args in
     let mid = c.pass_closed.new.self in
     let next = c.in_ok-next.next in
     let i = c.loop-site.invariant in
     let passes = c.in_ok-next.ensures in
-    let at_end : next ≡ length a.step.now.at.now = c.if-next-sites.true in
-    let sized = passed_sized (length a.step.now.at.now) c.loop-site.site next c.loop-site.self mid i.same passes i.budget.sized in
+    let at_end : next ≡ length a.form.now.at.now = c.if-next-sites.true in
+    let sized = passed_sized (length a.form.now.at.now) c.loop-site.site next c.loop-site.self mid i.same passes i.budget.sized in
     let count = passed_len c.loop-site.site next c.loop-site.self mid i.same passes in
     record { choices = sized.choices; least = count ∙ at_end; greatest = sized.greatest ∙ count ∙ at_end }
 
 pub returns-then-next-sites-clause-none : goal.returns-then-next-sites-clause-none
-returns-then-next-sites-clause-none g c =
+returns-then-next-sites-clause-none c =
     let a = c.args in
     let mid = c.pass_closed.new.self in
     let next = c.in_ok-next.next in
     let i = c.loop-site.invariant in
     let passes = c.in_ok-next.ensures in
-    let at_end : next ≡ length a.step.now.at.now = c.if-next-sites.true in
+    let at_end : next ≡ length a.form.now.at.now = c.if-next-sites.true in
     let W : ℕ → Type 0 = λ k. AreWaiting k mid in
-    none_waits (length a.step.now.at.now) mid (ap (λ (v : _). v.items) passes.waiting ∙ i.none) (subst W at_end (passed_waits c.loop-site.site next c.loop-site.self mid passes i.waiting))
+    none_waits (length a.form.now.at.now) mid (ap (λ (v : _). v.items) passes.waiting ∙ i.none) (subst W at_end (passed_waits c.loop-site.site next c.loop-site.self mid passes i.waiting))
 
 pub returns-then-next-sites-clause-decided : goal.returns-then-next-sites-clause-decided
-returns-then-next-sites-clause-decided g c = λ m answers.
+returns-then-next-sites-clause-decided c = λ m move read begun.
     let a = c.args in
     let mid = c.pass_closed.new.self in
     let next = c.in_ok-next.next in
     let i = c.loop-site.invariant in
     let passes = c.in_ok-next.ensures in
-    let at_end : next ≡ length a.step.now.at.now = c.if-next-sites.true in
-    let D : ℕ → Type 0 = λ k. ArePartlyDecided m a.step.now.change (labelling a.step.now.at.now) k mid in
-    subst D at_end (passed_decides m a.step.now.change (labelling a.step.now.at.now) c.loop-site.site next c.loop-site.self mid passes (i.decided m answers))
+    let at_end : next ≡ length a.form.now.at.now = c.if-next-sites.true in
+    let D : ℕ → Type 0 = λ k. ArePartlyDecided m move (labelling a.form.now.at.now) k mid in
+    subst D at_end (passed_decides m move (labelling a.form.now.at.now) c.loop-site.site next c.loop-site.self mid passes (i.decided m move read begun))
 
 pub returns-then-next-sites-clause-total : goal.returns-then-next-sites-clause-total
-returns-then-next-sites-clause-total g c =
+returns-then-next-sites-clause-total c =
     let a = c.args in
     let mid = c.pass_closed.new.self in
     let next = c.in_ok-next.next in
     let i = c.loop-site.invariant in
     let passes = c.in_ok-next.ensures in
-    let inside : c.loop-site.site ≤ a.step.now.problem.now.pairs.sites = omega (arith, i.within, c.requires.posed.asked.sites) in
-    let most = starts_within a.step.now.problem.now.pairs a.step.now.ends.now c.loop-site.site c.requires.posed.by_site inside in
+    let inside : c.loop-site.site ≤ a.form.now.pairs.now.sites = omega (arith, i.within, c.requires.over.sites) in
+    let most = starts_within a.form.now.pairs.now a.form.now.ends.now c.loop-site.site c.requires.over.by_site inside in
     let before = passed_total c.loop-site.site next c.loop-site.self mid passes in
-    omega (arith, before, i.total, inside, most, ends_len a.step.now.problem.now.pairs.list, c.requires.posed.posed.pairs.count, c.requires.posed.posed.pairs.sites)
+    omega (arith, before, i.total, inside, most, ends_len a.form.now.pairs.now.list, c.requires.over.list.count, c.requires.over.list.sites)
 
 pub returns-in_err-sum_site-clause-sized : goal.returns-in_err-sum_site-clause-sized
-returns-in_err-sum_site-clause-sized g c =
+returns-in_err-sum_site-clause-sized c =
     let p = err_from_is_err_and c.from_residual-in_err-sum_site.result c.from_residual-in_err-sum_site.ensures.1 in
     rw (p.1) tt
 
 pub returns-in_err-sum_site-clause-none : goal.returns-in_err-sum_site-clause-none
-returns-in_err-sum_site-clause-none g c =
+returns-in_err-sum_site-clause-none c =
     let p = err_from_is_err_and c.from_residual-in_err-sum_site.result c.from_residual-in_err-sum_site.ensures.1 in
     rw (p.1) tt
 
 pub returns-in_err-sum_site-clause-decided : goal.returns-in_err-sum_site-clause-decided
-returns-in_err-sum_site-clause-decided g c =
+returns-in_err-sum_site-clause-decided c =
     let p = err_from_is_err_and c.from_residual-in_err-sum_site.result c.from_residual-in_err-sum_site.ensures.1 in
     rw (p.1) tt
 
 pub returns-in_err-decide_waiting-clause-sized : goal.returns-in_err-decide_waiting-clause-sized
-returns-in_err-decide_waiting-clause-sized g c =
+returns-in_err-decide_waiting-clause-sized c =
     let p = err_from_is_err_and c.from_residual-in_err-decide_waiting.result c.from_residual-in_err-decide_waiting.ensures.1 in
     rw (p.1) tt
 
 pub returns-in_err-decide_waiting-clause-none : goal.returns-in_err-decide_waiting-clause-none
-returns-in_err-decide_waiting-clause-none g c =
+returns-in_err-decide_waiting-clause-none c =
     let p = err_from_is_err_and c.from_residual-in_err-decide_waiting.result c.from_residual-in_err-decide_waiting.ensures.1 in
     rw (p.1) tt
 
 pub returns-in_err-decide_waiting-clause-decided : goal.returns-in_err-decide_waiting-clause-decided
-returns-in_err-decide_waiting-clause-decided g c =
+returns-in_err-decide_waiting-clause-decided c =
     let p = err_from_is_err_and c.from_residual-in_err-decide_waiting.result c.from_residual-in_err-decide_waiting.ensures.1 in
     rw (p.1) tt
 
 pub returns-clause-sized : goal.returns-clause-sized
-returns-clause-sized g c =
-    let at_end : c.loop-site.site ≡ length c.args.step.now.at.now = omega (arith, c.loop-site-test.false, c.loop-site.invariant.within) in
+returns-clause-sized c =
+    let at_end : c.loop-site.site ≡ length c.args.form.now.at.now = omega (arith, c.loop-site-test.false, c.loop-site.invariant.within) in
     let i = c.loop-site.invariant in
     record { choices = i.budget.sized.choices; least = i.same ∙ at_end; greatest = i.budget.sized.greatest ∙ i.same ∙ at_end }
 
 pub returns-clause-none : goal.returns-clause-none
-returns-clause-none g c =
-    let at_end : c.loop-site.site ≡ length c.args.step.now.at.now = omega (arith, c.loop-site-test.false, c.loop-site.invariant.within) in
+returns-clause-none c =
+    let at_end : c.loop-site.site ≡ length c.args.form.now.at.now = omega (arith, c.loop-site-test.false, c.loop-site.invariant.within) in
     let i = c.loop-site.invariant in
     let W : ℕ → Type 0 = λ k. AreWaiting k c.loop-site.self in
-    none_waits (length c.args.step.now.at.now) c.loop-site.self i.none (subst W at_end i.waiting)
+    none_waits (length c.args.form.now.at.now) c.loop-site.self i.none (subst W at_end i.waiting)
 
 pub returns-clause-decided : goal.returns-clause-decided
-returns-clause-decided g c = λ m answers.
+returns-clause-decided c = λ m move read begun.
     let a = c.args in
-    let at_end : c.loop-site.site ≡ length a.step.now.at.now = omega (arith, c.loop-site-test.false, c.loop-site.invariant.within) in
-    let D : ℕ → Type 0 = λ k. ArePartlyDecided m a.step.now.change (labelling a.step.now.at.now) k c.loop-site.self in
-    subst D at_end (c.loop-site.invariant.decided m answers)
+    let at_end : c.loop-site.site ≡ length a.form.now.at.now = omega (arith, c.loop-site-test.false, c.loop-site.invariant.within) in
+    let D : ℕ → Type 0 = λ k. ArePartlyDecided m move (labelling a.form.now.at.now) k c.loop-site.self in
+    subst D at_end (c.loop-site.invariant.decided m move read begun)
 
 pub returns-clause-total : goal.returns-clause-total
-returns-clause-total g c =
+returns-clause-total c =
     let a = c.args in
-    let at_end : c.loop-site.site ≡ length a.step.now.at.now = omega (arith, c.loop-site-test.false, c.loop-site.invariant.within) in
-    let inside : c.loop-site.site ≤ a.step.now.problem.now.pairs.sites = omega (arith, at_end, c.requires.posed.asked.sites) in
-    let most = starts_within a.step.now.problem.now.pairs a.step.now.ends.now c.loop-site.site c.requires.posed.by_site inside in
-    omega (arith, c.loop-site.invariant.total, inside, most, ends_len a.step.now.problem.now.pairs.list, c.requires.posed.posed.pairs.count, c.requires.posed.posed.pairs.sites)
+    let at_end : c.loop-site.site ≡ length a.form.now.at.now = omega (arith, c.loop-site-test.false, c.loop-site.invariant.within) in
+    let inside : c.loop-site.site ≤ a.form.now.pairs.now.sites = omega (arith, at_end, c.requires.over.sites) in
+    let most = starts_within a.form.now.pairs.now a.form.now.ends.now c.loop-site.site c.requires.over.by_site inside in
+    omega (arith, c.loop-site.invariant.total, inside, most, ends_len a.form.now.pairs.now.list, c.requires.over.list.count, c.requires.over.list.sites)
 
 pub returns-in_err-sum_site-clause-total : goal.returns-in_err-sum_site-clause-total
-returns-in_err-sum_site-clause-total g c =
+returns-in_err-sum_site-clause-total c =
     let p = err_from_is_err_and c.from_residual-in_err-sum_site.result c.from_residual-in_err-sum_site.ensures.1 in
     rw (p.1) tt
 
 pub returns-in_err-decide_waiting-clause-total : goal.returns-in_err-decide_waiting-clause-total
-returns-in_err-decide_waiting-clause-total g c =
+returns-in_err-decide_waiting-clause-total c =
     let p = err_from_is_err_and c.from_residual-in_err-decide_waiting.result c.from_residual-in_err-decide_waiting.ensures.1 in
     rw (p.1) tt

@@ -6,29 +6,29 @@ use Rattle.std.proofs.lemmas.Result.{err_from_is_err_and}
 use Rattle.site_bounds.proofs.bounds.Bounds.decide_waiting.Goals as goal
 
 pub deciding-init : goal.deciding-init
-deciding-init g c = record {
+deciding-init c = record {
   budget = c.requires.budget;
   same = refl;
   waiting = c.requires.waiting;
   total = omega arith;
-  decided = λ m answers decided. decided;
+  decided = λ m move read decided. decided;
 }
 
 pub decide_told-requires-clause-site : goal.decide_told-requires-clause-site
-decide_told-requires-clause-site g c = λ κs lives.
+decide_told-requires-clause-site c =
     let n = length c.args.self.now.least.items in
     let inside = (popped_waits n c.in-Some.site c.deciding.self (record c.deciding.self { waiting = c.pop.new.self }) c.in-Some.ensures.items refl refl refl c.deciding.invariant.waiting).0 in
     omega (arith, inside, c.deciding.invariant.same)
 
 pub decide_told-requires-clause-waiting : goal.decide_told-requires-clause-waiting
-decide_told-requires-clause-waiting g c = λ κs lives.
+decide_told-requires-clause-waiting c =
     let n = length c.args.self.now.least.items in
     let W : ℕ → Type 0 = λ k. AreWaitingBut k c.in-Some.site (record c.deciding.self { waiting = c.pop.new.self }) in
     subst W (sym c.deciding.invariant.same)
     (popped_waits n c.in-Some.site c.deciding.self (record c.deciding.self { waiting = c.pop.new.self }) c.in-Some.ensures.items refl refl refl c.deciding.invariant.waiting).1
 
 pub deciding-preserved : goal.deciding-preserved
-deciding-preserved g c =
+deciding-preserved c =
     let e = c.in_ok-decide_told.ensures in
     let same = c.deciding.invariant.same in
     let n = length c.args.self.now.least.items in
@@ -38,19 +38,19 @@ deciding-preserved g c =
       same = e.same ∙ same;
       waiting = subst W same e.waiting;
       total = omega (arith, e.total, c.deciding.invariant.total);
-      decided = λ m answers first.
-          let f = labelling c.args.step.now.at.now in
+      decided = λ m move read first.
+          let f = labelling c.args.form.now.at.now in
           let popped = record c.deciding.self { waiting = c.pop.new.self } in
-          let D : ℕ → Type 0 = λ k. ArePartlyDecided m c.args.step.now.change f k popped in
-          let E : ℕ → Type 0 = λ k. ArePartlyDecided m c.args.step.now.change f k c.decide_told.new.self in
-          subst E same (e.decided m answers (subst D (sym same) (partly_same m c.args.step.now.change f n c.deciding.self popped refl refl refl (c.deciding.invariant.decided m answers first))));
+          let D : ℕ → Type 0 = λ k. ArePartlyDecided m move f k popped in
+          let E : ℕ → Type 0 = λ k. ArePartlyDecided m move f k c.decide_told.new.self in
+          subst E same (e.decided m move read (subst D (sym same) (partly_same m move f n c.deciding.self popped refl refl refl (c.deciding.invariant.decided m move read first))));
     }
 
-pub decide_told-requires-clause-posed : goal.decide_told-requires-clause-posed
-decide_told-requires-clause-posed g c = λ κs lives. c.requires.posed
+pub decide_told-requires-clause-over : goal.decide_told-requires-clause-over
+decide_told-requires-clause-over c = c.requires.over
 
 pub decide_told-requires-clause-budget : goal.decide_told-requires-clause-budget
-decide_told-requires-clause-budget g c = λ κs lives. record {
+decide_told-requires-clause-budget c = record {
   sized = record {
     choices = c.deciding.invariant.budget.sized.choices;
     greatest = c.deciding.invariant.budget.sized.greatest;
@@ -61,42 +61,42 @@ decide_told-requires-clause-budget g c = λ κs lives. record {
 }
 
 pub returns-in_err-decide_told-clause-budget : goal.returns-in_err-decide_told-clause-budget
-returns-in_err-decide_told-clause-budget g c =
+returns-in_err-decide_told-clause-budget c =
     let p = err_from_is_err_and c.from_residual.result c.from_residual.ensures.1 in
     rw (p.1) tt
 
 pub returns-in_err-decide_told-clause-same : goal.returns-in_err-decide_told-clause-same
-returns-in_err-decide_told-clause-same g c =
+returns-in_err-decide_told-clause-same c =
     let p = err_from_is_err_and c.from_residual.result c.from_residual.ensures.1 in
     rw (p.1) tt
 
 pub returns-in_err-decide_told-clause-waiting : goal.returns-in_err-decide_told-clause-waiting
-returns-in_err-decide_told-clause-waiting g c =
+returns-in_err-decide_told-clause-waiting c =
     let p = err_from_is_err_and c.from_residual.result c.from_residual.ensures.1 in
     rw (p.1) tt
 
 pub returns-in_err-decide_told-clause-none : goal.returns-in_err-decide_told-clause-none
-returns-in_err-decide_told-clause-none g c =
+returns-in_err-decide_told-clause-none c =
     let p = err_from_is_err_and c.from_residual.result c.from_residual.ensures.1 in
     rw (p.1) tt
 
 pub returns-in_err-decide_told-clause-decided : goal.returns-in_err-decide_told-clause-decided
-returns-in_err-decide_told-clause-decided g c =
+returns-in_err-decide_told-clause-decided c =
     let p = err_from_is_err_and c.from_residual.result c.from_residual.ensures.1 in
     rw (p.1) tt
 
 pub returns-clause-decided : goal.returns-clause-decided
-returns-clause-decided g c = λ m answers first.
-    partly_same m c.args.step.now.change (labelling c.args.step.now.at.now) (length c.args.self.now.least.items) c.deciding.self (record c.deciding.self { waiting = c.pop.new.self }) refl refl refl
-    (c.deciding.invariant.decided m answers first)
+returns-clause-decided c = λ m move read first.
+    partly_same m move (labelling c.args.form.now.at.now) (length c.args.self.now.least.items) c.deciding.self (record c.deciding.self { waiting = c.pop.new.self }) refl refl refl
+    (c.deciding.invariant.decided m move read first)
 
 pub returns-in_err-decide_told-clause-total : goal.returns-in_err-decide_told-clause-total
-returns-in_err-decide_told-clause-total g c =
+returns-in_err-decide_told-clause-total c =
     let p = err_from_is_err_and c.from_residual.result c.from_residual.ensures.1 in
     rw (p.1) tt
 
 pub returns-clause-budget : goal.returns-clause-budget
-returns-clause-budget g c = record {
+returns-clause-budget c = record {
   sized = record {
     choices = c.deciding.invariant.budget.sized.choices;
     greatest = c.deciding.invariant.budget.sized.greatest;

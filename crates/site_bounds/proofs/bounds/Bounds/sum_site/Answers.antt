@@ -10,64 +10,66 @@ use Rattle.move_prices.specs.Ends.{decided_or, HasNoneBefore}
 use Rattle.site_bounds.specs.Working.{open_ends, budget_of}
 use Rattle.site_bounds.proofs.Answering.{answered_bounds, answered_summed, answered_waits, answered_left, answered_decides}
 use Rattle.move_prices.proofs.Places.{degree_most}
-use Rattle.move_prices.proofs.Places.{meant_pairs, meant_beside}
 use Rattle.site_bounds.proofs.Ranges.{added_of, added_summed, added_range, added_waits, range_same, added_total, total_same, sum_room}
 use Rattle.move_prices.proofs.SiteSums.{sum_passed}
+use Rattle.site_forms.proofs.Telling.{form_tells}
 use Rattle.site_bounds.proofs.Whole.{partly_more}
 use Rattle.site_bounds.proofs.bounds.Bounds.sum_site.Goals as goal
 
 pub answer-requires-clause-bounds : goal.answer-requires-clause-bounds
-answer-requires-clause-bounds g c =
+answer-requires-clause-bounds c =
     let a = c.args in
     let added = added_of a.site _ _ a.self.now c.add_bounds.new.self c.requires.site.1 c.requires.budget.sized.greatest c.in_ok-add_bounds.ensures.adds in
-    let one = added_summed (length a.step.now.at.now) a.site _ _ a.self.now c.add_bounds.new.self added c.requires.site.0 c.requires.budget.sized.choices in
+    let one = added_summed (length a.form.now.at.now) a.site _ _ a.self.now c.add_bounds.new.self added c.requires.site.0 c.requires.budget.sized.choices in
     (omega (arith, one.0), omega (arith, one.0, one.1.greatest))
 
 pub answer-requires-clause-choice : goal.answer-requires-clause-choice
-answer-requires-clause-choice g c =
+answer-requires-clause-choice c =
     let a = c.args in
     let added = added_of a.site _ _ a.self.now c.add_bounds.new.self c.requires.site.1 c.requires.budget.sized.greatest c.in_ok-add_bounds.ensures.adds in
     let count = ap (λ (v : _). length v.items) added.choices in
     omega (arith, count, c.requires.site.0, c.requires.budget.sized.choices)
 
 pub returns : goal.returns
-returns g c =
+returns c =
     let a = c.args in
     let added = added_of a.site _ _ a.self.now c.add_bounds.new.self c.requires.site.1 c.requires.budget.sized.greatest c.in_ok-add_bounds.ensures.adds in
     let opened = ap (λ (v : _). choice_at v.items a.site) added.choices ∙ c.requires.opened in
-    let same = ap (λ (v : _). open_ends a.step.now.ends.now (length a.step.now.at.now) v.items) added.choices in
-    let inside : a.site < a.step.now.problem.now.pairs.sites = omega (arith, c.requires.site.0, c.requires.posed.asked.sites) in
-    let few : degree a.step.now.ends.now a.site ≤ 8388608 = omega (arith, degree_most a.step.now.problem.now.pairs a.step.now.ends.now a.site c.requires.posed.by_site inside, c.requires.posed.posed.pairs.count) in
+    let same = ap (λ (v : _). open_ends a.form.now.ends.now (length a.form.now.at.now) v.items) added.choices in
+    let inside : a.site < a.form.now.pairs.now.sites = omega (arith, c.requires.site.0, c.requires.over.sites) in
+    let few : degree a.form.now.ends.now a.site ≤ 8388608 = omega (arith, degree_most a.form.now.pairs.now a.form.now.ends.now a.site c.requires.over.by_site inside, c.requires.over.list.count) in
     let rises = c.site_rises-rises in
-    let N : List Choice → Type 0 = λ cs. HasNoneBefore cs a.step.now.ends.now a.site in
-    let size = ap unsigned_abs (sum_passed rises.result.greatest (degree a.step.now.ends.now a.site) rises.ensures.range.1 few) in
-    let more = added_total a.site (10000000 + 10000000 * degree a.step.now.ends.now a.site) _ _ a.self.now c.add_bounds.new.self added (omega (arith, size, rises.ensures.range.1)) in
+    let N : List Choice → Type 0 = λ cs. HasNoneBefore cs a.form.now.ends.now a.site in
+    let size = ap unsigned_abs (sum_passed rises.result.greatest (degree a.form.now.ends.now a.site) rises.ensures.range.1 few) in
+    let more = added_total a.site (10000000 + 10000000 * degree a.form.now.ends.now a.site) _ _ a.self.now c.add_bounds.new.self added (omega (arith, size, rises.ensures.range.1)) in
     on_ok_weaker c.answer.result (λ told. record {
-      left = (let less = answered_left a.step.now.ends.now (length a.step.now.at.now) a.site _ c.add_bounds.new.self c.answer.new.self c.requires.site.0 opened told in
+      left = (let less = answered_left a.form.now.ends.now (length a.form.now.at.now) a.site _ c.add_bounds.new.self c.answer.new.self c.requires.site.0 opened told in
           omega (arith, less, same));
       summed = ap (λ (v : _). length v.items) (answered_bounds a.site _ c.add_bounds.new.self c.answer.new.self told).0
-          ∙ (added_summed (length a.step.now.at.now) a.site _ _ a.self.now c.add_bounds.new.self added c.requires.site.0 c.requires.budget.sized.choices).0;
-      sized = answered_summed (length a.step.now.at.now) a.site _ c.add_bounds.new.self c.answer.new.self told
-          (added_summed (length a.step.now.at.now) a.site _ _ a.self.now c.add_bounds.new.self added c.requires.site.0 c.requires.budget.sized.choices).1;
+          ∙ (added_summed (length a.form.now.at.now) a.site _ _ a.self.now c.add_bounds.new.self added c.requires.site.0 c.requires.budget.sized.choices).0;
+      sized = answered_summed (length a.form.now.at.now) a.site _ c.add_bounds.new.self c.answer.new.self told
+          (added_summed (length a.form.now.at.now) a.site _ _ a.self.now c.add_bounds.new.self added c.requires.site.0 c.requires.budget.sized.choices).1;
       range = (let same = answered_bounds a.site _ c.add_bounds.new.self c.answer.new.self told in
           range_same c.add_bounds.new.self c.answer.new.self _ same.0 same.1
-          (added_range a.site (budget_of (open_ends a.step.now.ends.now (length a.step.now.at.now) a.self.now.choices.items)) _ _ a.self.now c.add_bounds.new.self added
-          (sum_room rises.result.least (degree a.step.now.ends.now a.site) _ rises.ensures.range.0 few (omega (arith, c.requires.budget.left, c.requires.posed.posed.pairs.count)))
-          (sum_room rises.result.greatest (degree a.step.now.ends.now a.site) _ rises.ensures.range.1 few (omega (arith, c.requires.budget.left, c.requires.posed.posed.pairs.count))) c.requires.budget.range));
+          (added_range a.site (budget_of (open_ends a.form.now.ends.now (length a.form.now.at.now) a.self.now.choices.items)) _ _ a.self.now c.add_bounds.new.self added
+          (sum_room rises.result.least (degree a.form.now.ends.now a.site) _ rises.ensures.range.0 few (omega (arith, c.requires.budget.left, c.requires.over.list.count)))
+          (sum_room rises.result.greatest (degree a.form.now.ends.now a.site) _ rises.ensures.range.1 few (omega (arith, c.requires.budget.left, c.requires.over.list.count))) c.requires.budget.range));
       waiting = answered_waits (a.site + 1) a.site _ c.add_bounds.new.self c.answer.new.self (omega arith) told
           (added_waits a.site _ _ a.self.now c.add_bounds.new.self added c.requires.waiting);
-      decided = λ m answers decided.
-          answered_decides m a.step.now.change (labelling a.step.now.at.now) a.step.now.ends.now a.site _ c.add_bounds.new.self c.answer.new.self
-          (meant_pairs m a.step.now.problem.now.pairs answers.pairs_are answers.sites_are c.requires.posed.posed.pairs)
-          (meant_beside m a.step.now.problem.now.pairs a.step.now.ends.now answers.pairs_are answers.sites_are c.requires.posed.by_site)
-          (omega (arith, inside, answers.sites_are))
+      decided = λ m move read decided.
+          let f = labelling a.form.now.at.now in
+          let tells = form_tells a.form.now m move read in
+          answered_decides m move (labelling a.form.now.at.now) a.form.now.ends.now a.site _ c.add_bounds.new.self c.answer.new.self
+          read.instance
+          read.by_site
+          (omega (arith, inside, read.sites_are))
           (λ none. subst N (sym (ap (λ (v : _). v.items) added.choices)) (subst N c.deref.ensures.value (rises.ensures.alone none))) opened told
-          (partly_more m a.step.now.change (labelling a.step.now.at.now) a.site _ _ a.self.now c.add_bounds.new.self (meant_pairs m a.step.now.problem.now.pairs answers.pairs_are answers.sites_are c.requires.posed.posed.pairs) added
+          (partly_more m move (labelling a.form.now.at.now) a.site _ _ a.self.now c.add_bounds.new.self read.instance added
           (λ here. (
-            sum_passed rises.result.least (degree a.step.now.ends.now a.site) rises.ensures.range.0 few ∙ rises.ensures.least m answers
-                ∙ ap (λ (cs : List Choice). rise (move_value m a.step.now.change (labelling a.step.now.at.now)) a.site (decided_or cs true)) c.deref.ensures.value,
-            sum_passed rises.result.greatest (degree a.step.now.ends.now a.site) rises.ensures.range.1 few ∙ rises.ensures.greatest m answers
-                ∙ ap (λ (cs : List Choice). rise (move_value m a.step.now.change (labelling a.step.now.at.now)) a.site (decided_or cs false)) c.deref.ensures.value,
+            sum_passed rises.result.least (degree a.form.now.ends.now a.site) rises.ensures.range.0 few ∙ rises.ensures.least (move_value m move f) tells
+                ∙ ap (λ (cs : List Choice). rise (move_value m move (labelling a.form.now.at.now)) a.site (decided_or cs true)) c.deref.ensures.value,
+            sum_passed rises.result.greatest (degree a.form.now.ends.now a.site) rises.ensures.range.1 few ∙ rises.ensures.greatest (move_value m move f) tells
+                ∙ ap (λ (cs : List Choice). rise (move_value m move (labelling a.form.now.at.now)) a.site (decided_or cs false)) c.deref.ensures.value,
           )) decided);
       total = (let same = answered_bounds a.site _ c.add_bounds.new.self c.answer.new.self told in
           omega (arith, more, total_same c.add_bounds.new.self c.answer.new.self same.1));

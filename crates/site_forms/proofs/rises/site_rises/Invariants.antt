@@ -1,9 +1,11 @@
-use Rattle.std.proofs.Common.{◌≡◌, ◌+◌, ◌-◌, ◌*◌, ◌≤◌, true, false, unsigned_abs}
-use Rattle.move_energy.specs.BySite.{neighbours_start}
-use Rattle.move_prices.specs.Ends.{decided_or}
+use Rattle.std.proofs.Common.{◌≡◌, ℕ, ◌+◌, ◌-◌, ◌*◌, ◌<◌, ◌≤◌, true, false, unsigned_abs}
+use Rattle.move_energy.specs.BySite.{neighbours_start, pair_beside}
+use Rattle.move_energy.specs.declared.choice.Choice.TheVariants.{Open}
+use Rattle.move_energy.specs.Choices.{choice_at}
+use Rattle.move_prices.specs.Ends.{decided_or, AvoidsSite}
 use Rattle.rise_forms.specs.Forms.{rise_below}
 use Rattle.site_forms.specs.Numbers.{form_of}
-use Rattle.site_forms.proofs.rises.read_rises.Given as goal
+use Rattle.site_forms.proofs.rises.site_rises.Given as goal
 
 abbrev pub invariant-loop-place : goal.invariant-loop-place
 invariant-loop-place l = record {
@@ -11,4 +13,6 @@ invariant-loop-place l = record {
   greatest_small : unsigned_abs l.greatest ≤ 10000000 + 10000000 * (l.place - neighbours_start l.form.ends.now l.site);
   least : l.least ≡ rise_below (form_of l.form) (decided_or l.known true) l.site (l.place - neighbours_start l.form.ends.now l.site);
   greatest : l.greatest ≡ rise_below (form_of l.form) (decided_or l.known false) l.site (l.place - neighbours_start l.form.ends.now l.site);
+  alone : l.beside ≡ false → (p u : ℕ) → neighbours_start l.form.ends.now l.site ≤ p → p < l.place → u < l.site → choice_at l.known u ≡ Open
+      → AvoidsSite u (pair_beside l.form.ends.now l.site p);
 }

@@ -1,9 +1,11 @@
-use Rattle.std.proofs.Common.{◌≡◌, ◌<◌, ◌≤◌, ◌-◌, ◌+◌, w64, to_z, true, false, arith, refl}
-use Rattle.move_prices.specs.Ends.{decided_or}
+use Rattle.std.proofs.Common.{◌≡◌, ℕ, ◌≤◌, ◌-◌, ◌+◌, w64, to_z, true, false, sym, subst, inl, inr, arith}
+use Rattle.std.proofs.lemmas.Bool.{cases_eq}
+use Rattle.move_energy.specs.BySite.{pair_beside}
+use Rattle.move_prices.specs.Ends.{decided_or, AvoidsSite}
 use Rattle.site_forms.proofs.Sums.{first_rise, next_rise, last_rise, own_passed, added_is, sum_fits, range_more}
 use Rattle.site_forms.specs.Numbers.{form_of}
 use Rattle.site_forms.proofs.Places.{few_places}
-use Rattle.site_forms.proofs.rises.read_rises.Goals as goal
+use Rattle.site_forms.proofs.rises.site_rises.Goals as goal
 
 pub rises_at-rises-requires-clause-place : goal.rises_at-rises-requires-clause-place
 rises_at-rises-requires-clause-place c = record { inside = c.requires.site; from = omega (arith, c.loop-place.auto.place, c.start-place.ensures); to = omega (arith, c.loop-place-test.true, c.start-place-end.ensures) }
@@ -18,6 +20,7 @@ loop-place-init c =
       greatest_small = omega (arith, own.1);
       least = first_rise form (decided_or a.known.now true) a.site _ _ own.0 c.start-place.ensures;
       greatest = first_rise form (decided_or a.known.now false) a.site _ _ own.0 c.start-place.ensures;
+      alone = λ none p u from before below opened. absurd (omega (arith, c.start-place.ensures, from, before));
     }
 
 pub overflow_add-least : goal.overflow_add-least
@@ -47,6 +50,14 @@ loop-place-preserved c =
       greatest_small = range_more (to_z w64 c.loop-place.greatest-bits) e.result.greatest _ (form.start a.site) c.loop-place.place from i.greatest_small e.ensures.small.1 high;
       least = next_rise form (decided_or a.known.now true) a.site c.loop-place.place (to_z w64 c.loop-place.least-bits) e.result.least _ from e.ensures.least low i.least;
       greatest = next_rise form (decided_or a.known.now false) a.site c.loop-place.place (to_z w64 c.loop-place.greatest-bits) e.result.greatest _ from e.ensures.greatest high i.greatest;
+      alone = λ none p u lower before below opened.
+          let both = c.either-beside.ensures none in
+          elim (cases_eq p c.loop-place.place) [
+            | inl same ↦
+                let P : ℕ → Type 0 = λ q. AvoidsSite u (pair_beside a.form.now.ends.now a.site q) in
+                subst P (sym same) (c.meets_open.ensures both.1 u below opened)
+            | inr other ↦ i.alone both.0 p u lower (omega (arith, before, other)) below opened
+          ];
     }
 
 pub returns-clause-least : goal.returns-clause-least
@@ -65,4 +76,11 @@ pub returns-clause-range : goal.returns-clause-range
 returns-clause-range c =
     let form = form_of c.args.form.now in
     let last : c.loop-place.place ≡ form.start (c.args.site + 1) = omega (arith, c.args.form.now.form.places.rising c.args.site c.requires.site, c.loop-place.auto.place-end, c.loop-place-test.false, c.start-place.ensures, c.start-place-end.ensures) in
-    omega (arith, last, c.loop-place.invariant.greatest_small)
+    (omega (arith, last, c.loop-place.invariant.least_small), omega (arith, last, c.loop-place.invariant.greatest_small))
+
+pub returns-clause-alone : goal.returns-clause-alone
+returns-clause-alone c = λ none p u lower before below opened.
+    c.loop-place.invariant.alone none p u lower (omega (arith, before, c.loop-place-test.false, c.start-place-end.ensures)) below opened
+
+pub meets_open-requires-clause-place : goal.meets_open-requires-clause-place
+meets_open-requires-clause-place c = record { inside = c.requires.site; from = omega (arith, c.loop-place.auto.place, c.start-place.ensures); to = omega (arith, c.loop-place-test.true, c.start-place-end.ensures) }

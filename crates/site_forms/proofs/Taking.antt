@@ -1,0 +1,42 @@
+-- What is read of a move.
+use Rattle.std.proofs.Common.{◌≡◌, ℕ, ◌<◌, true, false, List, All, ℤ, length, slice_index, sym, ap, ◌∙◌, subst, arith}
+use Rattle.label_energies.specs.declared.change.Move.{Move}
+use Rattle.label_energies.specs.Energies.{Instance, labelling}
+use Rattle.label_energies.specs.Moves.{IsMoveOf, label_after}
+use Rattle.cost_store.specs.declared.problem.Problem.{Problem}
+use Rattle.cost_store.specs.Posed.{Closure, IsMeant, IsAsked}
+use Rattle.move_energy.proofs.Values.{label_below}
+use Rattle.move_prices.specs.MoveValues.{data_rise}
+use Rattle.site_forms.specs.declared.smooth_costs.AskedCosts.{AskedCosts}
+use Rattle.site_forms.specs.Fields.{own_at, IsMadeLabel, AreReadOf}
+use Rattle.site_forms.specs.Lists.{was_asked, AreAskedCosts, AreMadeAsked}
+use Rattle.site_forms.proofs.Entries.{site_label_within}
+
+made_within : (k : ℕ) (move : Move) (at : List ℕ) (label : ℕ) → IsMoveOf k move → All (λ l. l < k) at → IsMadeLabel move at label → label < k
+made_within k move at label of all made = label_below k move made.0 label made.1 of (site_label_within at k made.0 all made.2) made.3
+
+made_was_asked : (move : Move) (at : List ℕ) (label : ℕ) (asked : AskedCosts) → AreMadeAsked move at asked → IsMadeLabel move at label → was_asked asked label ≡ true
+made_was_asked move at label asked each made =
+    ap (was_asked asked) (made.3 ∙ ap (λ old. label_after move old made.1) (sym made.2.2)) ∙ each made.2.0 made.1 made.2.1
+
+pub read_of : {F V : Type 0} (f : Closure F) (v : Closure V) (problem : Problem F V) (at : List ℕ) (move : Move) (m : Instance) (own : List ℤ) (stays turns : List ℕ) (asked : AskedCosts)
+    → IsMeant f v problem m → IsAsked problem at move → AreAskedCosts f v problem asked → AreMadeAsked move at asked
+    → ((old : ℕ) → old < problem.data_cost.labels → slice_index stays old ≡ label_after move old false)
+    → ((old : ℕ) → old < problem.data_cost.labels → slice_index turns old ≡ label_after move old true)
+    → ((u : ℕ) → u < length at → own_at own u ≡ data_rise m move (labelling at) u)
+    → AreReadOf m move own at stays turns asked.costs.items
+read_of {F} {V} f v problem at move m own stays turns asked meant is known made low high rises =
+    let labels : problem.data_cost.labels ≡ m.labels = sym meant.labels_are in
+    let L : ℕ → Type 0 = λ n. All (λ l. l < n) at in
+    let M : ℕ → Type 0 = λ n. IsMoveOf n move in
+    let within = subst L labels is.labels in
+    let of = subst M labels is.move_of in
+    record {
+      sites = is.sites ∙ sym meant.sites_are;
+      labels = within;
+      after = λ old l. (let below : old < problem.data_cost.labels = omega (arith, l, labels) in (low old below, high old below));
+      costs = λ one other a b.
+          known.costs m meant one other (made_within m.labels move at one of within a) (made_within m.labels move at other of within b)
+          (made_was_asked move at one asked made a) (made_was_asked move at other asked made b);
+      own_are = rises;
+    }

@@ -1,0 +1,263 @@
+//! What labels cost beside one another, asked once.
+ghost use Rattle.std.specs.Prelude.{◌≡◌, ◌<◌, ◌≤◌, ℕ, true, false, [], All, length, OnOk};
+ghost use Rattle.std.specs.Prelude.{slice_index, slice_index_or};
+ghost use Rattle.label_field.specs.Limits.{label_limit};
+ghost use Rattle.label_energies.specs.Energies.{labelling};
+ghost use Rattle.label_energies.specs.Moves.{IsMoveOf};
+ghost use Rattle.cost_store.specs.Posed.{IsPosed, IsAsked, WhereMeant};
+ghost use Rattle.site_forms.specs.Lists.{was_asked, AreCostsSmall, HasCostOf};
+ghost use Rattle.site_forms.specs.Lists.{AreAskedCosts, HasCostRoom, AsksLabel, AreMadeAsked};
+ghost use Rattle.site_forms.specs.Lists.{GetsCostOf, KeepsCostsOf, KeepsAsked};
+ghost use Rattle.site_forms.specs.Lists.{AreMoveLabelsAsked};
+
+use cost_store::Problem;
+use label_energies::Move;
+use std::alloc::{AllocError, Global};
+
+/// How many labels and how many costs there is room for.
+const LABELS: usize = 256;
+
+const COSTS: usize = 65536;
+
+/// What labels cost beside one another. A label is asked where it is first in use, beside each that
+/// was asked before: so each two labels are asked once a run. It takes 256 KB once a label was.
+#[derive(Drop)]
+pub(crate) struct AskedCosts {
+    /// Of each label whether it was asked.
+    pub labels: Vec<bool>,
+    /// What a pair of weight 1 costs: a row for each label of its first end.
+    pub costs: Vec<u32>,
+}
+
+/// What a pair of weight 1 costs whose first end has the one label and its second the other.
+fn cost_of<F: Fn(u32, u32) -> i64 + Sync, V: Fn(u32, u32) -> i64 + Sync>(
+    problem: &Problem<F, V>,
+    one: u32,
+    other: u32,
+) -> u32
+    requires posed { IsPosed F.Fn V.Fn problem.now }
+    requires labels { (one < problem.now.data_cost.labels)
+        × (other < problem.now.data_cost.labels) }
+    ensures cost { WhereMeant F.Fn V.Fn problem.now (λ m. result ≡ m.smooth_cost one other) }
+    ensures small { result ≤ 10000 }
+{
+    problem.smooth_cost.cost(one, other) as u32
+}
+
+/// Asks for that cost.
+fn ask_cost<F: Fn(u32, u32) -> i64 + Sync, V: Fn(u32, u32) -> i64 + Sync>(
+    costs: &mut [u32],
+    problem: &Problem<F, V>,
+    one: u32,
+    other: u32,
+)
+    requires posed { IsPosed F.Fn V.Fn problem.now }
+    requires few { problem.now.data_cost.labels ≤ label_limit }
+    requires labels { (one < problem.now.data_cost.labels)
+        × (other < problem.now.data_cost.labels) }
+    requires size { length costs.old ≡ 65536 }
+    ensures cost { WhereMeant F.Fn V.Fn problem.now
+        (λ m. GetsCostOf m one other costs.old costs.new) }
+    ensures small { AreCostsSmall costs.old → AreCostsSmall costs.new }
+{
+    let cost = cost_of(problem, one, other);
+    costs[one as usize * LABELS + other as usize] = cost;
+}
+
+/// Asks what a label costs beside another, with either at the first end, if that was asked.
+fn ask_both<F: Fn(u32, u32) -> i64 + Sync, V: Fn(u32, u32) -> i64 + Sync>(
+    costs: &mut [u32],
+    labels: &[bool],
+    problem: &Problem<F, V>,
+    label: u32,
+    other: u32,
+)
+    requires posed { IsPosed F.Fn V.Fn problem.now }
+    requires few { problem.now.data_cost.labels ≤ label_limit }
+    requires labels { (label < problem.now.data_cost.labels)
+        × (other < problem.now.data_cost.labels) }
+    requires room { (length labels.now ≡ label_limit) × (length costs.old ≡ 65536) }
+    ensures both { WhereMeant F.Fn V.Fn problem.now
+        (λ m. slice_index_or labels.now other false ≡ true →
+        HasCostOf m costs.new label other × HasCostOf m costs.new other label) }
+    ensures kept { WhereMeant F.Fn V.Fn problem.now (λ m. KeepsCostsOf m costs.old costs.new) }
+    ensures small { AreCostsSmall costs.old → AreCostsSmall costs.new }
+{
+    if !labels[other as usize] {
+        return;
+    }
+    ask_cost(costs, problem, label, other);
+    ask_cost(costs, problem, other, label);
+}
+
+/// Asks what a label costs beside each that was asked.
+fn ask_beside<F: Fn(u32, u32) -> i64 + Sync, V: Fn(u32, u32) -> i64 + Sync>(
+    costs: &mut [u32],
+    labels: &[bool],
+    problem: &Problem<F, V>,
+    label: u32,
+)
+    requires posed { IsPosed F.Fn V.Fn problem.now }
+    requires few { problem.now.data_cost.labels ≤ label_limit }
+    requires label { label < problem.now.data_cost.labels }
+    requires room { (length labels.now ≡ label_limit) × (length costs.old ≡ 65536) }
+    ensures beside { WhereMeant F.Fn V.Fn problem.now
+        (λ m. (other : ℕ) → other < m.labels → slice_index_or labels.now other false ≡ true →
+        HasCostOf m costs.new label other × HasCostOf m costs.new other label) }
+    ensures kept { WhereMeant F.Fn V.Fn problem.now (λ m. KeepsCostsOf m costs.old costs.new) }
+    ensures small { AreCostsSmall costs.old → AreCostsSmall costs.new }
+{
+    for other in 0..problem.data_cost.labels {
+        ask_both(costs, labels, problem, label, other);
+    }
+}
+
+/// Makes room for 256 labels. Those that were asked stay so.
+fn grow_labels(labels: &mut Vec<bool>) -> Result<(), AllocError>
+    ensures same { (k : ℕ) → k < label_limit →
+        slice_index_or labels.new.items k false ≡ slice_index_or labels.old.items k false }
+    ensures size { OnOk result (length labels.new.items ≡ label_limit) }
+{
+    labels.resize(LABELS, false)
+}
+
+/// Makes room for their costs. Those that were listed stay.
+fn grow_costs(costs: &mut Vec<u32>) -> Result<(), AllocError>
+    ensures same { (k : ℕ) → k < 65536 →
+        slice_index costs.new.items k ≡ slice_index costs.old.items k }
+    ensures small { AreCostsSmall costs.old.items → AreCostsSmall costs.new.items }
+    ensures size { OnOk result (length costs.new.items ≡ 65536) }
+{
+    costs.resize(COSTS, 0)
+}
+
+impl AskedCosts {
+    /// No label. It takes no memory.
+    pub(crate) fn empty(alloc: Global) -> AskedCosts
+        ensures { (result.labels.items ≡ []) × (result.costs.items ≡ []) }
+    {
+        AskedCosts {
+            labels: Vec::new(alloc),
+            costs: Vec::new(alloc),
+        }
+    }
+
+    /// Makes room for 256 labels.
+    fn make_room<F: Fn(u32, u32) -> i64 + Sync, V: Fn(u32, u32) -> i64 + Sync>(
+        &mut self,
+        problem: &Problem<F, V>,
+    ) -> Result<(), AllocError>
+        requires few { problem.now.data_cost.labels ≤ label_limit }
+        requires known { AreAskedCosts F.Fn V.Fn problem.now self.old }
+        ensures known { AreAskedCosts F.Fn V.Fn problem.now self.new }
+        ensures room { OnOk result (HasCostRoom self.new) }
+    {
+        grow_labels(&mut self.labels)?;
+        grow_costs(&mut self.costs)
+    }
+
+    /// Asks a label that was not asked yet.
+    fn ask_new<F: Fn(u32, u32) -> i64 + Sync, V: Fn(u32, u32) -> i64 + Sync>(
+        &mut self,
+        problem: &Problem<F, V>,
+        label: u32,
+    )
+        requires posed { IsPosed F.Fn V.Fn problem.now }
+        requires few { problem.now.data_cost.labels ≤ label_limit }
+        requires label { label < problem.now.data_cost.labels }
+        requires room { HasCostRoom self.old }
+        requires known { AreAskedCosts F.Fn V.Fn problem.now self.old }
+        ensures known { AreAskedCosts F.Fn V.Fn problem.now self.new }
+        ensures asks { AsksLabel label self.old self.new }
+    {
+        self.labels[label as usize] = true;
+        ask_beside(self.costs.as_mut_slice(), &self.labels, problem, label);
+    }
+
+    /// Asks a label, unless it was asked.
+    #[inline]
+    fn ask<F: Fn(u32, u32) -> i64 + Sync, V: Fn(u32, u32) -> i64 + Sync>(
+        &mut self,
+        problem: &Problem<F, V>,
+        label: u32,
+    )
+        requires posed { IsPosed F.Fn V.Fn problem.now }
+        requires few { problem.now.data_cost.labels ≤ label_limit }
+        requires label { label < problem.now.data_cost.labels }
+        requires room { HasCostRoom self.old }
+        requires known { AreAskedCosts F.Fn V.Fn problem.now self.old }
+        ensures known { AreAskedCosts F.Fn V.Fn problem.now self.new }
+        ensures asks { AsksLabel label self.old self.new }
+    {
+        if self.labels[label as usize] {
+            return;
+        }
+        self.ask_new(problem, label);
+    }
+
+    /// Asks the labels of the sites.
+    fn ask_sites<F: Fn(u32, u32) -> i64 + Sync, V: Fn(u32, u32) -> i64 + Sync>(
+        &mut self,
+        problem: &Problem<F, V>,
+        at: &[u8],
+    )
+        requires posed { IsPosed F.Fn V.Fn problem.now }
+        requires few { problem.now.data_cost.labels ≤ label_limit }
+        requires labels { All (λ label. label < problem.now.data_cost.labels) at.now }
+        requires room { HasCostRoom self.old }
+        requires known { AreAskedCosts F.Fn V.Fn problem.now self.old }
+        ensures known { AreAskedCosts F.Fn V.Fn problem.now self.new }
+        ensures sites { (u : ℕ) → u < length at.now →
+            was_asked self.new (labelling at.now u) ≡ true }
+        ensures kept { KeepsAsked self.old self.new }
+    {
+        for site in 0..at.len() {
+            self.ask(problem, u32::from(at[site]));
+        }
+    }
+
+    /// Asks the labels of a move.
+    fn ask_move<F: Fn(u32, u32) -> i64 + Sync, V: Fn(u32, u32) -> i64 + Sync>(
+        &mut self,
+        problem: &Problem<F, V>,
+        change: Move,
+    )
+        requires posed { IsPosed F.Fn V.Fn problem.now }
+        requires few { problem.now.data_cost.labels ≤ label_limit }
+        requires change { IsMoveOf problem.now.data_cost.labels change }
+        requires room { HasCostRoom self.old }
+        requires known { AreAskedCosts F.Fn V.Fn problem.now self.old }
+        ensures known { AreAskedCosts F.Fn V.Fn problem.now self.new }
+        ensures labels { AreMoveLabelsAsked change self.new }
+        ensures kept { KeepsAsked self.old self.new }
+    {
+        match change {
+            Move::Expand(alpha) => self.ask(problem, alpha),
+            Move::Swap(alpha, beta) => {
+                self.ask(problem, alpha);
+                self.ask(problem, beta);
+            }
+        }
+    }
+
+    /// Asks each label that is in use in a move: that some site has, or that the move makes.
+    pub(crate) fn ask_all<F: Fn(u32, u32) -> i64 + Sync, V: Fn(u32, u32) -> i64 + Sync>(
+        &mut self,
+        problem: &Problem<F, V>,
+        at: &[u8],
+        change: Move,
+    ) -> Result<(), AllocError>
+        requires posed { IsPosed F.Fn V.Fn problem.now }
+        requires few { problem.now.data_cost.labels ≤ label_limit }
+        requires asked { IsAsked problem.now at.now change }
+        requires known { AreAskedCosts F.Fn V.Fn problem.now self.old }
+        ensures known { AreAskedCosts F.Fn V.Fn problem.now self.new }
+        ensures room { OnOk result (HasCostRoom self.new) }
+        ensures made { OnOk result (AreMadeAsked change at.now self.new) }
+    {
+        self.make_room(problem)?;
+        self.ask_move(problem, change);
+        self.ask_sites(problem, at);
+        Ok(())
+    }
+}
