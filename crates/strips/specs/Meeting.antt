@@ -16,25 +16,28 @@ use Rattle.strips.specs.Building.{view_by, counts_in}
 -- both sites of the pair at this place are in the strip, and it counts at this site
 abbrev pub is_met : Material → StripSites → ℕ → ℕ → Bool
 is_met material sites site place =
-    are_open (choice_at (view_by sites material)) (pair_beside material.ends.now site place)
+    are_open (choice_at (view_by sites material))
+    (pair_beside material.form.now.ends.now site place)
     && counts_in material sites site place
 
 -- the nodes of the pair at this place, where it is met there
 abbrev pub ends_met : Material → StripSites → ℕ → ℕ → List ℕ
 ends_met material sites site place = cond (is_met material sites site place)
-    (open_rank (view_by sites material) (pair_beside material.ends.now site place).first
-    ∷ open_rank (view_by sites material) (pair_beside material.ends.now site place).second ∷ [])
+    (open_rank (view_by sites material) (pair_beside material.form.now.ends.now site place).first
+    ∷ open_rank (view_by sites material)
+    (pair_beside material.form.now.ends.now site place).second ∷ [])
     []
 
 -- those of the first k pairs of a site
 abbrev pub ends_below : Material → StripSites → ℕ → ℕ → List ℕ
 ends_below material sites site zero = []
 ends_below material sites site (suc k) = ends_below material sites site k
-    ++ ends_met material sites site (neighbours_start material.ends.now site + k)
+    ++ ends_met material sites site (neighbours_start material.form.now.ends.now site + k)
 
 -- those of all pairs of a site
 abbrev pub ends_at : Material → StripSites → ℕ → List ℕ
-ends_at material sites site = ends_below material sites site (degree material.ends.now site)
+ends_at material sites site =
+    ends_below material sites site (degree material.form.now.ends.now site)
 
 -- the nodes of all pairs of a strip
 abbrev pub strip_ends : Material → StripSites → List ℕ
@@ -43,15 +46,16 @@ strip_ends material sites = flat_map (ends_at material sites) sites.opened.now
 -- the pair at this place, of two sites in the strip
 pub record IsPairInside (material : Material) (sites : StripSites) (site place : ℕ) (pair : Pair)
     : Type 0 where
-  pub beside : pair ≡ pair_beside material.ends.now site place
-  pub valid : IsPair material.pairs.now.sites pair
+  pub beside : pair ≡ pair_beside material.form.now.ends.now site place
+  pub valid : IsPair material.form.now.pairs.now.sites pair
   pub both : are_open (choice_at (view_by sites material)) pair ≡ true
 
 -- a pair that is met, with its two nodes
 pub record IsMet (material : Material) (sites : StripSites) (site place : ℕ) (met : Met)
     : Type 0 where
-  pub pair : met.pair ≡ pair_beside material.ends.now site place
-  pub valid : IsPair material.pairs.now.sites (pair_beside material.ends.now site place)
+  pub pair : met.pair ≡ pair_beside material.form.now.ends.now site place
+  pub valid : IsPair material.form.now.pairs.now.sites
+      (pair_beside material.form.now.ends.now site place)
   pub both : are_open (choice_at (view_by sites material)) met.pair ≡ true
   pub counts : counts_in material sites site place ≡ true
   pub first : met.first ≡ open_rank (view_by sites material) met.pair.first

@@ -22,7 +22,8 @@ ghost use Rattle.move_energy.specs.Limits.{surplus_limit, weights_limit};
 ghost use Rattle.move_energy.specs.Weights.{pair_surplus as surplus_between};
 ghost use Rattle.persistency.specs.Borders.{border_at, is_beyond as beyond_of, not_ones, range_of};
 ghost use Rattle.persistency.specs.Borders.{is_inside as inside_of};
-ghost use Rattle.strips.specs.Building.{CanAsk, CanBuild, WhereSaved, AreStripSites, view_by};
+ghost use Rattle.site_forms.specs.Numbers.{WhereRead};
+ghost use Rattle.strips.specs.Building.{CanBuild, AreStripSites, view_by};
 ghost use Rattle.strips.specs.Building.{AreStartWeights, AreWeighed};
 ghost use Rattle.strips.specs.Building.{IsStripNumbering};
 ghost use Rattle.sink_distances.specs.Laying.{AreEndsCounted};
@@ -40,6 +41,7 @@ use compile_cut::Quadratic;
 use label_field::Pair;
 use move_energy::{Choice, pair_beside};
 use sink_distances::Laying;
+use site_bounds::pair_saving;
 use std::alloc::AllocError;
 
 /// Whether a site is an open one of the strip.
@@ -93,7 +95,7 @@ fn site_at(material: &Material, sites: &StripSites, index: usize) -> u32
     requires opened { AreStripSites material.now sites.now }
     requires index { index < length sites.now.opened.now }
     ensures value { result ≡ slice_index sites.now.opened.now index }
-    ensures site { (result < material.now.pairs.now.sites)
+    ensures site { (result < material.now.form.now.pairs.now.sites)
         × (open_at (view_by sites.now material.now) result ≡ true) }
 {
     sites.opened[index]
@@ -103,69 +105,62 @@ fn site_at(material: &Material, sites: &StripSites, index: usize) -> u32
 #[inline]
 fn row_start(material: &Material, site: u32) -> u32
     requires can { CanBuild material.now }
-    requires site { site ≤ material.now.pairs.now.sites }
-    ensures { result ≡ neighbours_start material.now.ends.now site }
+    requires site { site ≤ material.now.form.now.pairs.now.sites }
+    ensures { result ≡ neighbours_start material.now.form.now.ends.now site }
 {
-    material.ends.starts[site as usize]
+    material.form.ends.starts[site as usize]
 }
 
 /// The neighbour of a site at a place.
 #[inline]
 fn head_beside(material: &Material, site: u32, place: u32) -> u32
     requires can { CanBuild material.now }
-    requires site { site < material.now.pairs.now.sites }
-    requires place { (neighbours_start material.now.ends.now site ≤ place)
-        × (place < neighbours_start material.now.ends.now (site + 1)) }
-    ensures head { result ≡ neighbour_at material.now.ends.now place }
-    ensures inside { result < material.now.pairs.now.sites }
+    requires site { site < material.now.form.now.pairs.now.sites }
+    requires place { (neighbours_start material.now.form.now.ends.now site ≤ place)
+        × (place < neighbours_start material.now.form.now.ends.now (site + 1)) }
+    ensures head { result ≡ neighbour_at material.now.form.now.ends.now place }
+    ensures inside { result < material.now.form.now.pairs.now.sites }
 {
-    material.ends.heads[place as usize]
+    material.form.ends.heads[place as usize]
 }
 
 /// The surplus of the pair of a site and a neighbour where it counts. Where it does not, 0, and it
 /// is not asked for.
 #[inline]
-fn counted_surplus<S: Fn(Pair) -> i64>(
-    savings: &S,
-    material: &Material,
-    site: u32,
-    place: u32,
-    counts: bool,
-) -> i64
-    requires ask { CanAsk (S.pre savings.now) (S.post savings.now) material.now }
+fn counted_surplus(material: &Material, site: u32, place: u32, counts: bool) -> i64
     requires can { CanBuild material.now }
-    requires site { site < material.now.pairs.now.sites }
-    requires place { (neighbours_start material.now.ends.now site ≤ place)
-        × (place < neighbours_start material.now.ends.now (site + 1)) }
-    ensures value { WhereSaved (S.post savings.now) material.now (λ m move f. result
+    requires site { site < material.now.form.now.pairs.now.sites }
+    requires place { (neighbours_start material.now.form.now.ends.now site ≤ place)
+        × (place < neighbours_start material.now.form.now.ends.now (site + 1)) }
+    ensures value { WhereRead material.now.form.now (λ m move f. result
         ≡ pos (count_if counts
-        (surplus_between m move f (beside_at material.now.ends.now site place)))) }
+        (surplus_between m move f (beside_at material.now.form.now.ends.now site place)))) }
     ensures range { unsigned_abs result ≤ surplus_limit }
 {
     if !counts {
         return 0;
     }
-    let pair = pair_beside(material.pairs, material.ends, site, place);
-    savings(pair)
+    let pair = pair_beside(material.form.pairs, material.form.ends, site, place);
+    pair_saving(material.form, pair)
 }
 
 /// The pair of a site of the strip and a neighbour, where that is in the strip as well.
 #[inline]
 fn pair_inside(material: &Material, sites: &StripSites, site: u32, place: u32) -> Option<Pair>
     requires can { CanBuild material.now }
-    requires site { (site < material.now.pairs.now.sites)
+    requires site { (site < material.now.form.now.pairs.now.sites)
         × (open_at (view_by sites.now material.now) site ≡ true) }
-    requires place { (neighbours_start material.now.ends.now site ≤ place)
-        × (place < neighbours_start material.now.ends.now (site + 1)) }
+    requires place { (neighbours_start material.now.form.now.ends.now site ≤ place)
+        × (place < neighbours_start material.now.form.now.ends.now (site + 1)) }
     ensures { MatchOption result (are_open (choice_at (view_by sites.now material.now))
-        (beside_at material.now.ends.now site place) ≡ false)
+        (beside_at material.now.form.now.ends.now site place) ≡ false)
         (λ pair. IsPairInside material.now sites.now site place pair) }
 {
     let head = head_beside(material, site, place);
     if !is_inside(material.known, sites.from, sites.to, head) {
         return None;
     }
-    Some(pair_beside(material.pairs, material.ends, site, place))
+    Some(pair_beside(material.form.pairs, material.form.ends, site, place))
 }
 
 /// The node of an open site of the strip. `numbers` has the node of each site of the strip.
@@ -199,10 +194,10 @@ fn met_beside(
     requires can { CanBuild material.now }
     requires opened { AreStripSites material.now sites.now }
     requires numbering { IsStripNumbering material.now.known.now sites.now numbers.now }
-    requires site { (site < material.now.pairs.now.sites)
+    requires site { (site < material.now.form.now.pairs.now.sites)
         × (open_at (view_by sites.now material.now) site ≡ true) }
-    requires place { (neighbours_start material.now.ends.now site ≤ place)
-        × (place < neighbours_start material.now.ends.now (site + 1)) }
+    requires place { (neighbours_start material.now.form.now.ends.now site ≤ place)
+        × (place < neighbours_start material.now.form.now.ends.now (site + 1)) }
     ensures { MatchOption result (is_met material.now sites.now site place ≡ false)
         (λ met. IsMet material.now sites.now site place met) }
 {
@@ -234,7 +229,7 @@ fn count_row(
     requires can { CanBuild material.now }
     requires opened { AreStripSites material.now sites.now }
     requires numbering { IsStripNumbering material.now.known.now sites.now numbers.now }
-    requires site { (site < material.now.pairs.now.sites)
+    requires site { (site < material.now.form.now.pairs.now.sites)
         × (open_at (view_by sites.now material.now) site ≡ true) }
     requires counted { (ends : List ℕ) × (AreEndsCounted (length sites.now.opened.now) ends
         laying.old.nexts.items) × (length ends ≤ 33554432) }
@@ -323,8 +318,7 @@ fn put_saving(form: &mut RowForm, first: u32, second: u32, surplus: i64) -> Resu
 /// Puts what the pair of a site and a neighbour saves where both are in the strip and at 1. It is
 /// put at its first end, and nothing at its second one.
 #[inline]
-fn add_inside<S: Fn(Pair) -> i64>(
-    savings: &S,
+fn add_inside(
     material: &Material,
     sites: &StripSites,
     form: &mut RowForm,
@@ -332,7 +326,6 @@ fn add_inside<S: Fn(Pair) -> i64>(
     site: u32,
     place: u32,
 ) -> Result<(), AllocError>
-    requires ask { CanAsk (S.pre savings.now) (S.post savings.now) material.now }
     requires can { CanBuild material.now }
     requires opened { AreStripSites material.now sites.now }
     requires numbering { IsStripNumbering material.now.known.now sites.now numbers.now }
@@ -340,24 +333,24 @@ fn add_inside<S: Fn(Pair) -> i64>(
         form.old }
     requires begins { IsFirstPart (arc_ends (arcs_in form.old)
         ++ ends_met material.now sites.now site place) (strip_ends material.now sites.now) }
-    requires site { (site < material.now.pairs.now.sites)
+    requires site { (site < material.now.form.now.pairs.now.sites)
         × (open_at (view_by sites.now material.now) site ≡ true) }
-    requires place { (neighbours_start material.now.ends.now site ≤ place)
-        × (place < neighbours_start material.now.ends.now (site + 1)) }
+    requires place { (neighbours_start material.now.form.now.ends.now site ≤ place)
+        × (place < neighbours_start material.now.form.now.ends.now (site + 1)) }
     ensures laid { OnOk result (IsLaidTo (length sites.now.opened.now)
         (strip_ends material.now sites.now) form.new) }
     ensures ends { OnOk result (arc_ends (arcs_in form.new) ≡ arc_ends (arcs_in form.old)
         ++ ends_met material.now sites.now site place) }
-    ensures adds { WhereSaved (S.post savings.now) material.now (λ m move f.
+    ensures adds { WhereRead material.now.form.now (λ m move f.
         OnOk result (AddsCost (form_in form.old) (form_in form.new)
         (λ x. count_if (counts_in material.now sites.now site place)
         (unsaved_in m move f (view_by sites.now material.now) x
-        (beside_at material.now.ends.now site place))))) }
+        (beside_at material.now.form.now.ends.now site place))))) }
 {
     match met_beside(material, sites, numbers, site, place) {
         None => Ok(()),
         Some(met) => {
-            let surplus = savings(met.pair);
+            let surplus = pair_saving(material.form, met.pair);
             put_saving(form, met.first, met.second, surplus)
         }
     }
@@ -374,15 +367,13 @@ struct SiteBorders {
 
 /// The row of a site, in one pass over its neighbours: its borders, and in the form what its pairs
 /// to other sites of the strip save.
-fn add_row<S: Fn(Pair) -> i64>(
-    savings: &S,
+fn add_row(
     material: &Material,
     sites: &StripSites,
     form: &mut RowForm,
     numbers: &[u32],
     site: u32,
 ) -> Result<SiteBorders, AllocError>
-    requires ask { CanAsk (S.pre savings.now) (S.post savings.now) material.now }
     requires can { CanBuild material.now }
     requires opened { AreStripSites material.now sites.now }
     requires numbering { IsStripNumbering material.now.known.now sites.now numbers.now }
@@ -390,21 +381,22 @@ fn add_row<S: Fn(Pair) -> i64>(
         form.old }
     requires begins { IsFirstPart (arc_ends (arcs_in form.old)
         ++ ends_at material.now sites.now site) (strip_ends material.now sites.now) }
-    requires site { (site < material.now.pairs.now.sites)
+    requires site { (site < material.now.form.now.pairs.now.sites)
         × (open_at (view_by sites.now material.now) site ≡ true) }
-    ensures ones { WhereSaved (S.post savings.now) material.now (λ m move f. IfOk result (λ found.
+    ensures ones { WhereRead material.now.form.now (λ m move f. IfOk result (λ found.
         found.ones ≡ pos (border_at m move f (choice_at material.now.start.now)
         (not_ones (choice_at material.now.known.now)) site))) }
-    ensures beyond { WhereSaved (S.post savings.now) material.now (λ m move f. IfOk result (λ found.
+    ensures beyond { WhereRead material.now.form.now (λ m move f. IfOk result (λ found.
         found.beyond ≡ pos (border_of_site m move f material.now sites.now site))) }
     ensures range { IfOk result (λ found.
-        (unsigned_abs found.ones ≤ surplus_limit * degree material.now.ends.now site)
-        × (unsigned_abs found.beyond ≤ surplus_limit * degree material.now.ends.now site)) }
+        (unsigned_abs found.ones ≤ surplus_limit * degree material.now.form.now.ends.now site)
+        × (unsigned_abs found.beyond
+        ≤ surplus_limit * degree material.now.form.now.ends.now site)) }
     ensures laid { OnOk result (IsLaidTo (length sites.now.opened.now)
         (strip_ends material.now sites.now) form.new) }
     ensures ends { OnOk result (arc_ends (arcs_in form.new) ≡ arc_ends (arcs_in form.old)
         ++ ends_at material.now sites.now site) }
-    ensures adds { WhereSaved (S.post savings.now) material.now (λ m move f. OnOk result
+    ensures adds { WhereRead material.now.form.now (λ m move f. OnOk result
         (AddsCost (form_in form.old) (form_in form.new)
         (λ x. unsaved_at m move f material.now sites.now x site))) }
 {
@@ -413,17 +405,16 @@ fn add_row<S: Fn(Pair) -> i64>(
     for place in row_start(material, site)..row_start(material, site + 1) {
         let head = head_beside(material, site, place);
         let counts = counts_of(material, sites, head);
-        ones += counted_surplus(savings, material, site, place, counts.one);
-        beyond += counted_surplus(savings, material, site, place, counts.beyond);
-        add_inside(savings, material, sites, form, numbers, site, place)?;
+        ones += counted_surplus(material, site, place, counts.one);
+        beyond += counted_surplus(material, site, place, counts.beyond);
+        add_inside(material, sites, form, numbers, site, place)?;
     }
     Ok(SiteBorders { ones, beyond })
 }
 
 /// The rows of all listed sites: the weights of the sites by now and their borders in lists, and in
 /// the form what pairs of two of them save.
-pub(crate) fn add_rows<S: Fn(Pair) -> i64>(
-    savings: &S,
+pub(crate) fn add_rows(
     material: &Material,
     sites: &StripSites,
     form: &mut RowForm,
@@ -431,7 +422,6 @@ pub(crate) fn add_rows<S: Fn(Pair) -> i64>(
     list: &mut Vec<i64>,
     borders: &mut Vec<u64>,
 ) -> Result<(), AllocError>
-    requires ask { CanAsk (S.pre savings.now) (S.post savings.now) material.now }
     requires can { CanBuild material.now }
     requires opened { AreStripSites material.now sites.now }
     requires weighed { AreWeighed sites.now }
@@ -447,13 +437,13 @@ pub(crate) fn add_rows<S: Fn(Pair) -> i64>(
         (strip_ends material.now sites.now) form.new) }
     ensures ends { OnOk result (arc_ends (arcs_in form.new)
         ≡ strip_ends material.now sites.now) }
-    ensures weights { WhereSaved (S.post savings.now) material.now (λ m move f.
+    ensures weights { WhereRead material.now.form.now (λ m move f.
         AreStartWeights material.now sites.now m move f → OnOk result
         (list.new.items ≡ map (weight_by_now m move f material.now) sites.now.opened.now)) }
-    ensures borders { WhereSaved (S.post savings.now) material.now (λ m move f. OnOk result
+    ensures borders { WhereRead material.now.form.now (λ m move f. OnOk result
         (borders.new.items
         ≡ map (border_of_site m move f material.now sites.now) sites.now.opened.now)) }
-    ensures adds { WhereSaved (S.post savings.now) material.now (λ m move f. OnOk result
+    ensures adds { WhereRead material.now.form.now (λ m move f. OnOk result
         (AddsCost (form_in form.old) (form_in form.new) (λ x.
         sum_by (unsaved_at m move f material.now sites.now x) sites.now.opened.now))) }
 {
@@ -463,7 +453,7 @@ pub(crate) fn add_rows<S: Fn(Pair) -> i64>(
     borders.reserve(sites.opened.len())?;
     for index in 0..sites.opened.len() {
         let site = site_at(material, sites, index);
-        let found = add_row(savings, material, sites, form, numbers, site)?;
+        let found = add_row(material, sites, form, numbers, site)?;
         list.push_reserved(sites.weights[index] - found.ones);
         borders.push_reserved(found.beyond.unsigned_abs());
     }

@@ -15,14 +15,14 @@ pub returns-in-None : goal.returns-in-None
 returns-in-None c =
     let a = c.args in
     let v = strip_view a.material.now.known.now a.sites.now.from a.sites.now.to in
-    unmet_first (are_open (choice_at v) (pair_beside a.material.now.ends.now a.site a.place)) _ c.in-None.ensures
+    unmet_first (are_open (choice_at v) (pair_beside a.material.now.form.now.ends.now a.site a.place)) _ c.in-None.ensures
 
 pub returns-then-pair-site : goal.returns-then-pair-site
 returns-then-pair-site c =
     let a = c.args in
     let v = strip_view a.material.now.known.now a.sites.now.from a.sites.now.to in
     let inside = c.in-Some.ensures in
-    unmet_second (are_open (choice_at v) (pair_beside a.material.now.ends.now a.site a.place)) _
+    unmet_second (are_open (choice_at v) (pair_beside a.material.now.form.now.ends.now a.site a.place)) _
     (ap (is_counted (open_at v) a.site) (sym inside.beside) ∙ uncounted_second (choice_at v) a.site c.in-Some.pair c.if-pair-site.true inside.both)
 
 pub node_of-first-requires-clause-open : goal.node_of-first-requires-clause-open

@@ -12,7 +12,7 @@ returns-then-not-is_inside c =
     let v = strip_view known a.sites.now.from a.sites.now.to in
     let head = c.head_beside-head.result in
     let shuts : open_at v head ≡ false = sym (inside_is known a.sites.now.from a.sites.now.to head) ∙ sym c.is_inside.ensures ∙ c.if-not-is_inside.true in
-    shut_beside (choice_at v) a.material.now.ends.now a.site a.place head c.head_beside-head.ensures.head shuts
+    shut_beside (choice_at v) a.material.now.form.now.ends.now a.site a.place head c.head_beside-head.ensures.head shuts
 
 pub returns : goal.returns
 returns c =
@@ -24,5 +24,5 @@ returns c =
     record {
       beside = c.pair_beside.ensures.value;
       valid = c.pair_beside.ensures.pair;
-      both = open_beside (choice_at v) a.material.now.ends.now a.site a.place head _ c.pair_beside.ensures.value c.head_beside-head.ensures.head c.requires.site.1 opened_head;
+      both = open_beside (choice_at v) a.material.now.form.now.ends.now a.site a.place head _ c.pair_beside.ensures.value c.head_beside-head.ensures.head c.requires.site.1 opened_head;
     }
