@@ -18,23 +18,31 @@ use Rattle.std.proofs.lemmas.List.Sums.{count_by-le-length, sum_by-cons}
 use Rattle.std.proofs.lemmas.List.Concat.{flat_map-cons}
 use Rattle.std.proofs.lemmas.Grind.{flat_map-append}
 use Rattle.label_field.specs.declared.pair.Pair.{Pair}
-use Rattle.move_energy.specs.BySite.{degree, neighbours_start, pair_beside}
-use Rattle.move_energy.specs.Choices.{choice_at, open_rank}
+use Rattle.label_field.specs.PairLists.{IsPair}
+use Rattle.move_energy.specs.BySite.{degree, is_first, neighbour_at, neighbours_start, pair_beside}
+use Rattle.move_energy.specs.Choices.{choice_at, open_at, open_rank}
+use Rattle.move_energy.proofs.Parts.{beside_has}
+use Rattle.persistency.specs.Borders.{is_inside, range_of}
 use Rattle.move_energy.specs.Weights.{are_open, pair_surplus, unsaved_surplus}
 use Rattle.sink_distances.specs.Laying.{AreEndsCounted}
 use Rattle.strips.specs.declared.material.Material.{Material}
 use Rattle.strips.specs.declared.material.StripSites.{StripSites}
 use Rattle.strips.specs.declared.rows.Met.{Met}
-use Rattle.strips.specs.Building.{view_by, counts_in}
+use Rattle.strips.specs.Building.{CanBuild, view_by}
 use Rattle.strips.specs.Meeting.{is_met, ends_met, ends_below, ends_at, IsMet}
+use Rattle.strips.proofs.Inside.{met_by}
+use Rattle.strips.proofs.Views.{inside_is}
 
-pub unmet_first : (a b : Bool) → a ≡ false → (a && b) ≡ false
-unmet_first true b h = absurd (cc (h))
-unmet_first false b h = refl
+-- ---- where a pair is met
 
-pub unmet_second : (a b : Bool) → b ≡ false → (a && b) ≡ false
-unmet_second true b h = h
-unmet_second false b h = refl
+pub met_where : (material : Material) (sites : StripSites) (site place head : ℕ) (inside : Bool) → CanBuild material → site < material.form.now.pairs.now.sites
+    → open_at (view_by sites material) site ≡ true → neighbours_start material.form.now.ends.now site ≤ place → place < neighbours_start material.form.now.ends.now (site + 1)
+    → head ≡ neighbour_at material.form.now.ends.now place → inside ≡ is_inside (choice_at material.known.now) (range_of sites.from sites.to) head
+    → (inside && is_first material.form.now.ends.now site place) ≡ is_met material sites site place
+met_where material sites site place head inside can low opened from to at is =
+    let pairs = material.form.now.pairs.now in
+    let apart = (beside_has (IsPair pairs.sites) pairs material.form.now.ends.now site place can.over.list.each can.over.by_site low from to).unequal in
+    met_by (choice_at (view_by sites material)) material.form.now.ends.now site place head inside at opened (sym (is ∙ inside_is material.known.now sites.from sites.to head)) apart
 
 -- ---- the ends that are met
 
@@ -43,20 +51,14 @@ ends_none material sites site place h =
     ap (λ (b : Bool). cond b (open_rank (view_by sites material) (pair_beside material.form.now.ends.now site place).first
     ∷ open_rank (view_by sites material) (pair_beside material.form.now.ends.now site place).second ∷ []) []) h
 
-both_yes : (a b : Bool) → a ≡ true → b ≡ true → (a && b) ≡ true
-both_yes true b h k = k
-both_yes false b h k = absurd (cc (h))
-
 pub ends_some : (material : Material) (sites : StripSites) (site place : ℕ) (met : Met) → IsMet material sites site place met
     → ends_met material sites site place ≡ met.first ∷ met.second ∷ []
 ends_some material sites site place met h =
     let v = view_by sites material in
     let pair = pair_beside material.form.now.ends.now site place in
-    let both : are_open (choice_at v) pair ≡ true = ap (are_open (choice_at v)) (sym h.pair) ∙ h.both in
-    let first : open_rank v pair.first ≡ met.first = ap (λ (p : Pair). open_rank v p.first) (sym h.pair) ∙ sym h.first in
-    let second : open_rank v pair.second ≡ met.second = ap (λ (p : Pair). open_rank v p.second) (sym h.pair) ∙ sym h.second in
-    ap (λ (b : Bool). cond b (open_rank v pair.first ∷ open_rank v pair.second ∷ []) []) (both_yes (are_open (choice_at v) pair) (counts_in material sites site place) both h.counts)
-    ∙ (λ i. first i ∷ second i ∷ [])
+    let first = sym h.first in
+    let second = sym h.second in
+    ap (λ (b : Bool). cond b (open_rank v pair.first ∷ open_rank v pair.second ∷ []) []) h.is_so ∙ (λ i. first i ∷ second i ∷ [])
 
 pub ends_more : (material : Material) (sites : StripSites) (site place : ℕ) → neighbours_start material.form.now.ends.now site ≤ place
     → ends_below material sites site (place + 1 - neighbours_start material.form.now.ends.now site)

@@ -51,9 +51,6 @@ abbrev pub AreFirstNumbered : List Choice → ℕ → ℕ → List ℕ → ℕ �
 AreFirstNumbered known from to numbers i = (p : ℕ) → choice_at (strip_view known from to) p ≡ Open → open_rank (strip_view known from to) p < i
     → get_or numbers (p - from) 0 ≡ open_rank (strip_view known from to) p
 
-pub numbered_none : (known : List Choice) (from to : ℕ) (numbers : List ℕ) → AreFirstNumbered known from to numbers 0
-numbered_none known from to numbers p is less = absurd (omega (arith, less))
-
 pub numbered_more : (known : List Choice) (from to : ℕ) (opened old new : List ℕ) (i site place : ℕ) → AreOpenSites (strip_view known from to) opened
     → i < length opened → site ≡ get_or opened i 0 → place ≡ site - from → to - from ≤ length old → new ≡ slice_set old place i
     → AreFirstNumbered known from to old i → AreFirstNumbered known from to new (i + 1)

@@ -69,11 +69,6 @@ counts_in material sites site place =
     is_counted (open_at (view_by sites material)) site
     (pair_beside material.form.now.ends.now site place)
 
--- how many pairs count at a site: those of two sites of the strip, each at its first end
-abbrev pub met_inside : Material → StripSites → ℕ → ℕ
-met_inside material sites site =
-    met_at material.form.now.ends.now (open_at (view_by sites material)) (λ pair. 1) site
-
 -- what a pair does not save of its surplus, where these sites are open in a list of choices
 abbrev pub unsaved_in : Instance → Move → (ℕ → ℕ) → List Choice → (ℕ → Bool) → Pair → ℕ
 unsaved_in m move f view x = unsaved_surplus m move f (choice_at view) (open_rank view) x

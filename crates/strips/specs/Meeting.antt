@@ -3,8 +3,6 @@ use Rattle.std.specs.Prelude.{◌≡◌, ◌≢◌, ℕ, zero, suc, ◌+◌, ◌
 use Rattle.std.specs.Prelude.{[], ◌∷◌}
 use Rattle.std.specs.Prelude.{length}
 use Rattle.std.specs.List.{flat_map}
-use Rattle.label_field.specs.declared.pair.Pair.{Pair}
-use Rattle.label_field.specs.PairLists.{IsPair}
 use Rattle.move_energy.specs.BySite.{degree, neighbours_start, pair_beside}
 use Rattle.move_energy.specs.Choices.{choice_at, open_rank}
 use Rattle.move_energy.specs.Weights.{are_open}
@@ -43,23 +41,15 @@ ends_at material sites site =
 abbrev pub strip_ends : Material → StripSites → List ℕ
 strip_ends material sites = flat_map (ends_at material sites) sites.opened.now
 
--- the pair at this place, of two sites in the strip
-pub record IsPairInside (material : Material) (sites : StripSites) (site place : ℕ) (pair : Pair)
-    : Type 0 where
-  pub beside : pair ≡ pair_beside material.form.now.ends.now site place
-  pub valid : IsPair material.form.now.pairs.now.sites pair
-  pub both : are_open (choice_at (view_by sites material)) pair ≡ true
-
--- a pair that is met, with its two nodes
+-- the pair at this place is met there, and these are its nodes
 pub record IsMet (material : Material) (sites : StripSites) (site place : ℕ) (met : Met)
     : Type 0 where
-  pub pair : met.pair ≡ pair_beside material.form.now.ends.now site place
-  pub valid : IsPair material.form.now.pairs.now.sites
-      (pair_beside material.form.now.ends.now site place)
-  pub both : are_open (choice_at (view_by sites material)) met.pair ≡ true
-  pub counts : counts_in material sites site place ≡ true
-  pub first : met.first ≡ open_rank (view_by sites material) met.pair.first
-  pub second : met.second ≡ open_rank (view_by sites material) met.pair.second
+  pub is_so : is_met material sites site place ≡ true
+  pub first : met.first
+      ≡ open_rank (view_by sites material) (pair_beside material.form.now.ends.now site place).first
+  pub second : met.second
+      ≡ open_rank (view_by sites material)
+      (pair_beside material.form.now.ends.now site place).second
   pub first_node : met.first < length sites.opened.now
   pub second_node : met.second < length sites.opened.now
   pub apart : met.first ≢ met.second

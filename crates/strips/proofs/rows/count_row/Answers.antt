@@ -1,4 +1,4 @@
-use Rattle.std.proofs.Common.{◌≡◌, ◌<◌, ◌≤◌, ◌+◌, ◌-◌, ◌++◌, ℕ, List, length, sym, subst, length-append, arith}
+use Rattle.std.proofs.Common.{◌≡◌, ◌<◌, ◌≤◌, ◌+◌, ◌-◌, ◌++◌, ◌∙◌, ℕ, List, length, sym, subst, length-append, arith}
 use Rattle.move_energy.specs.BySite.{degree, neighbours_start}
 use Rattle.move_energy.proofs.Parts.{starts_rise}
 use Rattle.move_prices.proofs.Places.{degree_most}
@@ -8,7 +8,7 @@ use Rattle.strips.specs.Meeting.{ends_below}
 use Rattle.strips.proofs.Meeting.{ends_few, counted_small, count_met, count_unmet}
 use Rattle.std.proofs.lemmas.List.{append-nil}
 use Rattle.strips.proofs.rows.count_row.Goals as goal
-use Rattle.strips.proofs.rows.count_row.Goals.{in-Some, in_default}
+use Rattle.strips.proofs.rows.count_row.Goals.{then-met, else-met}
 
 pub count-requires-clause-room : goal.count-requires-clause-room
 count-requires-clause-room c = λ v.
@@ -51,12 +51,12 @@ loop-place-preserved c = λ ends counted.
     let n = length a.sites.now.opened.now in
     let so_far = c.loop-place.invariant ends counted in
     let P : Laying → Type 0 = λ x. AreEndsCounted n (ends ++ ends_below a.material.now a.sites.now a.site (p + 1 - neighbours_start a.material.now.form.now.ends.now a.site)) x.nexts.items in
-    elim c.match-met_beside.branch [
-      | in-Some w ↦ subst P (sym w.laying-is)
-          (count_met n a.material.now a.sites.now a.site p w.in-Some.met ends a.laying.now.nexts.items c.loop-place.laying.nexts.items w.count.new.self.nexts.items from w.in-Some.ensures so_far
+    elim c.if-met.branch [
+      | then-met w ↦ subst P (sym w.laying-is)
+          (count_met n a.material.now a.sites.now a.site p w.met_nodes-nodes.result ends a.laying.now.nexts.items c.loop-place.laying.nexts.items w.count.new.self.nexts.items from w.met_nodes-nodes.ensures so_far
           (λ now. w.count.ensures n _ now))
-      | in_default w ↦ subst P (sym w.laying-is)
-          (count_unmet n a.material.now a.sites.now a.site p ends c.loop-place.laying.nexts.items from w.in_default.ensures so_far)
+      | else-met w ↦ subst P (sym w.laying-is)
+          (count_unmet n a.material.now a.sites.now a.site p ends c.loop-place.laying.nexts.items from (sym c.is_met_at-met.ensures ∙ w.if-met.false) so_far)
     ]
 
 pub returns : goal.returns

@@ -4,7 +4,7 @@ use Rattle.move_energy.specs.Weights.{pair_surplus}
 use Rattle.sums.specs.Sums.{count_if}
 use Rattle.move_energy.proofs.Weighed.{surplus_counted, surplus_uncounted, surplus_passed}
 use Rattle.strips.proofs.Borders.{regular_beside}
-use Rattle.strips.proofs.rows.counted_surplus.Goals as goal
+use Rattle.strips.proofs.rows.counted_saving.Goals as goal
 
 pub returns-then-not-counts-clause-value : goal.returns-then-not-counts-clause-value
 returns-then-not-counts-clause-value c = λ m move read. surplus_uncounted _ _ c.if-not-counts.true
