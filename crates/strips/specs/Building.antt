@@ -32,9 +32,9 @@ pub record AreWeighed (sites : StripSites) : Type 0 where
 -- the form is of its pairs, something is known of each of its sites, and what was chosen at the
 -- start stays
 pub record CanBuild (material : Material) : Type 0 where
-  pub over : IsOverPairs material.form.now
-  pub starts : length material.start.now ≡ material.form.now.pairs.now.sites
-  pub count : length material.known.now ≡ material.form.now.pairs.now.sites
+  pub over : IsOverPairs material.form
+  pub starts : length material.start.now ≡ material.form.pairs.now.sites
+  pub count : length material.known.now ≡ material.form.pairs.now.sites
   pub goes_on : KeepsChosen material.start.now material.known.now
 
 -- what a strip sees: what is known, and each open site outside it at 0
@@ -67,7 +67,7 @@ pub record IsStripForm (m : Instance) (move : Move) (f : ℕ → ℕ) (known : L
 abbrev pub counts_in : Material → StripSites → ℕ → ℕ → Bool
 counts_in material sites site place =
     is_counted (open_at (view_by sites material)) site
-    (pair_beside material.form.now.ends.now site place)
+    (pair_beside material.form.ends.now site place)
 
 -- what a pair does not save of its surplus, where these sites are open in a list of choices
 abbrev pub unsaved_in : Instance → Move → (ℕ → ℕ) → List Choice → (ℕ → Bool) → Pair → ℕ
@@ -76,7 +76,7 @@ unsaved_in m move f view x = unsaved_surplus m move f (choice_at view) (open_ran
 -- what the pairs that count at a site do not save
 abbrev pub unsaved_at : Instance → Move → (ℕ → ℕ) → Material → StripSites → (ℕ → Bool) → ℕ → ℕ
 unsaved_at m move f material sites x =
-    met_at material.form.now.ends.now (open_at (view_by sites material))
+    met_at material.form.ends.now (open_at (view_by sites material))
     (unsaved_in m move f (view_by sites material) x)
 
 -- the border of a site of the strip: what its pairs to open sites outside it come to

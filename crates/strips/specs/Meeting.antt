@@ -15,27 +15,27 @@ use Rattle.strips.specs.Building.{view_by, counts_in}
 abbrev pub is_met : Material → StripSites → ℕ → ℕ → Bool
 is_met material sites site place =
     are_open (choice_at (view_by sites material))
-    (pair_beside material.form.now.ends.now site place)
+    (pair_beside material.form.ends.now site place)
     && counts_in material sites site place
 
 -- the nodes of the pair at this place, where it is met there
 abbrev pub ends_met : Material → StripSites → ℕ → ℕ → List ℕ
 ends_met material sites site place = cond (is_met material sites site place)
-    (open_rank (view_by sites material) (pair_beside material.form.now.ends.now site place).first
+    (open_rank (view_by sites material) (pair_beside material.form.ends.now site place).first
     ∷ open_rank (view_by sites material)
-    (pair_beside material.form.now.ends.now site place).second ∷ [])
+    (pair_beside material.form.ends.now site place).second ∷ [])
     []
 
 -- those of the first k pairs of a site
 abbrev pub ends_below : Material → StripSites → ℕ → ℕ → List ℕ
 ends_below material sites site zero = []
 ends_below material sites site (suc k) = ends_below material sites site k
-    ++ ends_met material sites site (neighbours_start material.form.now.ends.now site + k)
+    ++ ends_met material sites site (neighbours_start material.form.ends.now site + k)
 
 -- those of all pairs of a site
 abbrev pub ends_at : Material → StripSites → ℕ → List ℕ
 ends_at material sites site =
-    ends_below material sites site (degree material.form.now.ends.now site)
+    ends_below material sites site (degree material.form.ends.now site)
 
 -- the nodes of all pairs of a strip
 abbrev pub strip_ends : Material → StripSites → List ℕ
@@ -46,10 +46,10 @@ pub record IsMet (material : Material) (sites : StripSites) (site place : ℕ) (
     : Type 0 where
   pub is_so : is_met material sites site place ≡ true
   pub first : met.first
-      ≡ open_rank (view_by sites material) (pair_beside material.form.now.ends.now site place).first
+      ≡ open_rank (view_by sites material) (pair_beside material.form.ends.now site place).first
   pub second : met.second
       ≡ open_rank (view_by sites material)
-      (pair_beside material.form.now.ends.now site place).second
+      (pair_beside material.form.ends.now site place).second
   pub first_node : met.first < length sites.opened.now
   pub second_node : met.second < length sites.opened.now
   pub apart : met.first ≢ met.second

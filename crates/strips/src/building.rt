@@ -94,7 +94,7 @@ pub(crate) fn build_strip(
     ensures numbering { OnOk result
         (IsStripNumbering material.now.known.now sites.now numbers.new.items) }
     ensures sized { OnOk result (IsStripLaid sites.now form.new borders.new.items) }
-    ensures built { WhereRead material.now.form.now (λ m move f.
+    ensures built { WhereRead material.now.form (λ m move f.
         AreStartWeights material.now sites.now m move f → OnOk result (IsStripForm m move f
         material.now.known.now sites.now (form_in form.new) borders.new.items)) }
 {

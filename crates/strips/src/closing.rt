@@ -104,7 +104,7 @@ impl Strips {
     {
         list_weights(&mut self.weights, basis.weights, &self.opened)?;
         let material = Material {
-            form,
+            form: *form,
             start: basis.start,
             known,
         };
@@ -235,7 +235,7 @@ impl Strips {
         swap(&mut built.variables.of_sites, &mut self.room.numbers);
         list_weights(&mut self.weights, basis.weights, &self.opened)?;
         let material = Material {
-            form,
+            form: *form,
             start: basis.start,
             known: &built.variables.choices,
         };
@@ -277,7 +277,7 @@ impl Strips {
     {
         list_weights(&mut self.weights, weights, opened)?;
         let material = Material {
-            form,
+            form: *form,
             start: &built.variables.choices,
             known: &built.variables.choices,
         };
@@ -321,7 +321,7 @@ impl Strips {
             opened,
         )?;
         let material = Material {
-            form,
+            form: *form,
             start: &built.variables.choices,
             known: &built.variables.choices,
         };

@@ -37,7 +37,7 @@ pub(crate) fn cut_strip(
     requires weighed { AreWeighed sites.now }
     ensures lower { IfOk result (λ sides. length sides.lower.items ≡ length sites.now.opened.now) }
     ensures upper { IfOk result (λ sides. length sides.upper.items ≡ length sites.now.opened.now) }
-    ensures tells { WhereRead material.now.form.now (λ m move f.
+    ensures tells { WhereRead material.now.form (λ m move f.
         AreStartWeights material.now sites.now m move f →
         IfOk result (AreBounds m move f material.now.known.now sites.now.opened.now)) }
 {
@@ -73,7 +73,7 @@ pub(crate) fn write_open(
     ensures numbering { OnOk result (IsNumbering material.now.known.now numbers.new.items) }
     ensures bounded { OnOk result (IsQuadraticBounded term_limit written.new) }
     ensures few { OnOk result (vec_len written.new.weights ≤ site_limit) }
-    ensures stands { WhereRead material.now.form.now (λ m move f.
+    ensures stands { WhereRead material.now.form (λ m move f.
         weights.now ≡ map (site_weight m move f (choice_at material.now.start.now)) opened.now →
         OnOk result (StandsFor m move f (choice_at material.now.known.now) written.new
         (open_rank material.now.known.now))) }
@@ -136,7 +136,7 @@ pub(crate) fn cut_read(
 {
     read_weights(weights, form, known, from, to, opened)?;
     let material = Material {
-        form,
+        form: *form,
         start: known,
         known,
     };

@@ -18,7 +18,7 @@ pub struct Basis<'a> {
 /// by now.
 #[derive(Clone, Copy)]
 pub(crate) struct Material<'a> {
-    pub form: &'a SiteForm<'a>,
+    pub form: SiteForm<'a>,
     pub start: &'a [Choice],
     pub known: &'a [Choice],
 }

@@ -95,7 +95,7 @@ fn site_at(material: &Material, sites: &StripSites, index: usize) -> u32
     requires opened { AreStripSites material.now sites.now }
     requires index { index < length sites.now.opened.now }
     ensures value { result ≡ slice_index sites.now.opened.now index }
-    ensures site { (result < material.now.form.now.pairs.now.sites)
+    ensures site { (result < material.now.form.pairs.now.sites)
         × (open_at (view_by sites.now material.now) result ≡ true) }
 {
     sites.opened[index]
@@ -105,8 +105,8 @@ fn site_at(material: &Material, sites: &StripSites, index: usize) -> u32
 #[inline]
 fn row_start(material: &Material, site: u32) -> u32
     requires can { CanBuild material.now }
-    requires site { site ≤ material.now.form.now.pairs.now.sites }
-    ensures { result ≡ neighbours_start material.now.form.now.ends.now site }
+    requires site { site ≤ material.now.form.pairs.now.sites }
+    ensures { result ≡ neighbours_start material.now.form.ends.now site }
 {
     material.form.ends.starts[site as usize]
 }
@@ -115,11 +115,11 @@ fn row_start(material: &Material, site: u32) -> u32
 #[inline]
 fn head_beside(material: &Material, site: u32, place: u32) -> u32
     requires can { CanBuild material.now }
-    requires site { site < material.now.form.now.pairs.now.sites }
-    requires place { (neighbours_start material.now.form.now.ends.now site ≤ place)
-        × (place < neighbours_start material.now.form.now.ends.now (site + 1)) }
-    ensures head { result ≡ neighbour_at material.now.form.now.ends.now place }
-    ensures inside { result < material.now.form.now.pairs.now.sites }
+    requires site { site < material.now.form.pairs.now.sites }
+    requires place { (neighbours_start material.now.form.ends.now site ≤ place)
+        × (place < neighbours_start material.now.form.ends.now (site + 1)) }
+    ensures head { result ≡ neighbour_at material.now.form.ends.now place }
+    ensures inside { result < material.now.form.pairs.now.sites }
 {
     material.form.ends.heads[place as usize]
 }
@@ -136,11 +136,11 @@ fn is_met_at(
     inside: bool,
 ) -> bool
     requires can { CanBuild material.now }
-    requires site { (site < material.now.form.now.pairs.now.sites)
+    requires site { (site < material.now.form.pairs.now.sites)
         × (open_at (view_by sites.now material.now) site ≡ true) }
-    requires place { (neighbours_start material.now.form.now.ends.now site ≤ place)
-        × (place < neighbours_start material.now.form.now.ends.now (site + 1)) }
-    requires head { head ≡ neighbour_at material.now.form.now.ends.now place }
+    requires place { (neighbours_start material.now.form.ends.now site ≤ place)
+        × (place < neighbours_start material.now.form.ends.now (site + 1)) }
+    requires head { head ≡ neighbour_at material.now.form.ends.now place }
     requires inside { inside ≡ inside_of (choice_at material.now.known.now)
         (range_of sites.now.from sites.now.to) head }
     ensures { result ≡ is_met material.now sites.now site place }
@@ -164,19 +164,19 @@ fn counts_somewhere(beside: Beside, met: bool) -> bool
 #[inline]
 fn counted_saving(material: &Material, site: u32, place: u32, counts: bool) -> i64
     requires can { CanBuild material.now }
-    requires site { site < material.now.form.now.pairs.now.sites }
-    requires place { (neighbours_start material.now.form.now.ends.now site ≤ place)
-        × (place < neighbours_start material.now.form.now.ends.now (site + 1)) }
-    ensures value { WhereRead material.now.form.now (λ m move f. result
+    requires site { site < material.now.form.pairs.now.sites }
+    requires place { (neighbours_start material.now.form.ends.now site ≤ place)
+        × (place < neighbours_start material.now.form.ends.now (site + 1)) }
+    ensures value { WhereRead material.now.form (λ m move f. result
         ≡ pos (count_if counts
-        (surplus_between m move f (beside_at material.now.form.now.ends.now site place)))) }
+        (surplus_between m move f (beside_at material.now.form.ends.now site place)))) }
     ensures range { unsigned_abs result ≤ surplus_limit }
 {
     if !counts {
         return 0;
     }
     let pair = pair_beside(material.form.pairs, material.form.ends, site, place);
-    pair_saving(material.form, pair)
+    pair_saving(&material.form, pair)
 }
 
 /// A number where it counts, and else 0.
@@ -218,11 +218,11 @@ fn met_nodes(
     requires can { CanBuild material.now }
     requires opened { AreStripSites material.now sites.now }
     requires numbering { IsStripNumbering material.now.known.now sites.now numbers.now }
-    requires site { (site < material.now.form.now.pairs.now.sites)
+    requires site { (site < material.now.form.pairs.now.sites)
         × (open_at (view_by sites.now material.now) site ≡ true) }
-    requires place { (neighbours_start material.now.form.now.ends.now site ≤ place)
-        × (place < neighbours_start material.now.form.now.ends.now (site + 1)) }
-    requires head { head ≡ neighbour_at material.now.form.now.ends.now place }
+    requires place { (neighbours_start material.now.form.ends.now site ≤ place)
+        × (place < neighbours_start material.now.form.ends.now (site + 1)) }
+    requires head { head ≡ neighbour_at material.now.form.ends.now place }
     requires met { is_met material.now sites.now site place ≡ true }
     ensures { IsMet material.now sites.now site place result }
 {
@@ -243,7 +243,7 @@ fn count_row(
     requires can { CanBuild material.now }
     requires opened { AreStripSites material.now sites.now }
     requires numbering { IsStripNumbering material.now.known.now sites.now numbers.now }
-    requires site { (site < material.now.form.now.pairs.now.sites)
+    requires site { (site < material.now.form.pairs.now.sites)
         × (open_at (view_by sites.now material.now) site ≡ true) }
     requires counted { (ends : List ℕ) × (AreEndsCounted (length sites.now.opened.now) ends
         laying.old.nexts.items) × (length ends ≤ 33554432) }
@@ -277,9 +277,11 @@ pub(crate) fn count_rows(
     ensures { AreEndsCounted (length sites.now.opened.now) (strip_ends material.now sites.now)
         laying.new.nexts.items }
 {
+    let material = *material;
+    let sites = *sites;
     for index in 0..sites.opened.len() {
-        let site = site_at(material, sites, index);
-        count_row(material, sites, numbers, laying, site);
+        let site = site_at(&material, &sites, index);
+        count_row(&material, &sites, numbers, laying, site);
     }
 }
 
@@ -353,24 +355,24 @@ fn add_inside(
         form.old }
     requires begins { IsFirstPart (arc_ends (arcs_in form.old)
         ++ ends_met material.now sites.now site place) (strip_ends material.now sites.now) }
-    requires site { (site < material.now.form.now.pairs.now.sites)
+    requires site { (site < material.now.form.pairs.now.sites)
         × (open_at (view_by sites.now material.now) site ≡ true) }
-    requires place { (neighbours_start material.now.form.now.ends.now site ≤ place)
-        × (place < neighbours_start material.now.form.now.ends.now (site + 1)) }
-    requires head { head ≡ neighbour_at material.now.form.now.ends.now place }
+    requires place { (neighbours_start material.now.form.ends.now site ≤ place)
+        × (place < neighbours_start material.now.form.ends.now (site + 1)) }
+    requires head { head ≡ neighbour_at material.now.form.ends.now place }
     requires met { met ≡ is_met material.now sites.now site place }
     requires saving { unsigned_abs saving ≤ surplus_limit }
     ensures laid { OnOk result (IsLaidTo (length sites.now.opened.now)
         (strip_ends material.now sites.now) form.new) }
     ensures ends { OnOk result (arc_ends (arcs_in form.new) ≡ arc_ends (arcs_in form.old)
         ++ ends_met material.now sites.now site place) }
-    ensures adds { WhereRead material.now.form.now (λ m move f.
+    ensures adds { WhereRead material.now.form (λ m move f.
         cond met saving (pos 0) ≡ pos (count_if met
-        (surplus_between m move f (beside_at material.now.form.now.ends.now site place))) →
+        (surplus_between m move f (beside_at material.now.form.ends.now site place))) →
         OnOk result (AddsCost (form_in form.old) (form_in form.new)
         (λ x. count_if (counts_in material.now sites.now site place)
         (unsaved_in m move f (view_by sites.now material.now) x
-        (beside_at material.now.form.now.ends.now site place))))) }
+        (beside_at material.now.form.ends.now site place))))) }
 {
     if !met {
         return Ok(());
@@ -404,22 +406,22 @@ fn add_row(
         form.old }
     requires begins { IsFirstPart (arc_ends (arcs_in form.old)
         ++ ends_at material.now sites.now site) (strip_ends material.now sites.now) }
-    requires site { (site < material.now.form.now.pairs.now.sites)
+    requires site { (site < material.now.form.pairs.now.sites)
         × (open_at (view_by sites.now material.now) site ≡ true) }
-    ensures ones { WhereRead material.now.form.now (λ m move f. IfOk result (λ found.
+    ensures ones { WhereRead material.now.form (λ m move f. IfOk result (λ found.
         found.ones ≡ pos (border_at m move f (choice_at material.now.start.now)
         (not_ones (choice_at material.now.known.now)) site))) }
-    ensures beyond { WhereRead material.now.form.now (λ m move f. IfOk result (λ found.
+    ensures beyond { WhereRead material.now.form (λ m move f. IfOk result (λ found.
         found.beyond ≡ pos (border_of_site m move f material.now sites.now site))) }
     ensures range { IfOk result (λ found.
-        (unsigned_abs found.ones ≤ surplus_limit * degree material.now.form.now.ends.now site)
+        (unsigned_abs found.ones ≤ surplus_limit * degree material.now.form.ends.now site)
         × (unsigned_abs found.beyond
-        ≤ surplus_limit * degree material.now.form.now.ends.now site)) }
+        ≤ surplus_limit * degree material.now.form.ends.now site)) }
     ensures laid { OnOk result (IsLaidTo (length sites.now.opened.now)
         (strip_ends material.now sites.now) form.new) }
     ensures ends { OnOk result (arc_ends (arcs_in form.new) ≡ arc_ends (arcs_in form.old)
         ++ ends_at material.now sites.now site) }
-    ensures adds { WhereRead material.now.form.now (λ m move f. OnOk result
+    ensures adds { WhereRead material.now.form (λ m move f. OnOk result
         (AddsCost (form_in form.old) (form_in form.new)
         (λ x. unsaved_at m move f material.now sites.now x site))) }
 {
@@ -465,13 +467,13 @@ pub(crate) fn add_rows(
         (strip_ends material.now sites.now) form.new) }
     ensures ends { OnOk result (arc_ends (arcs_in form.new)
         ≡ strip_ends material.now sites.now) }
-    ensures weights { WhereRead material.now.form.now (λ m move f.
+    ensures weights { WhereRead material.now.form (λ m move f.
         AreStartWeights material.now sites.now m move f → OnOk result
         (list.new.items ≡ map (weight_by_now m move f material.now) sites.now.opened.now)) }
-    ensures borders { WhereRead material.now.form.now (λ m move f. OnOk result
+    ensures borders { WhereRead material.now.form (λ m move f. OnOk result
         (borders.new.items
         ≡ map (border_of_site m move f material.now sites.now) sites.now.opened.now)) }
-    ensures adds { WhereRead material.now.form.now (λ m move f. OnOk result
+    ensures adds { WhereRead material.now.form (λ m move f. OnOk result
         (AddsCost (form_in form.old) (form_in form.new) (λ x.
         sum_by (unsaved_at m move f material.now sites.now x) sites.now.opened.now))) }
 {
@@ -479,9 +481,11 @@ pub(crate) fn add_rows(
     borders.clear();
     list.reserve(sites.opened.len())?;
     borders.reserve(sites.opened.len())?;
+    let material = *material;
+    let sites = *sites;
     for index in 0..sites.opened.len() {
-        let site = site_at(material, sites, index);
-        let found = add_row(material, sites, form, numbers, site)?;
+        let site = site_at(&material, &sites, index);
+        let found = add_row(&material, &sites, form, numbers, site)?;
         list.push_reserved(sites.weights[index] - found.ones);
         borders.push_reserved(found.beyond.unsigned_abs());
     }

@@ -105,7 +105,7 @@ returns-clause-sized c =
 pub returns-clause-built : goal.returns-clause-built
 returns-clause-built c = λ m move read weighs.
     let a = c.args in
-    let f = labelling a.material.now.form.now.at.now in
+    let f = labelling a.material.now.form.at.now in
     let can = c.requires.can in
     let n = length a.sites.now.opened.now in
     let ends = strip_ends a.material.now a.sites.now in
@@ -128,7 +128,7 @@ returns-clause-built c = λ m move read weighs.
       subst S c.deref-3.ensures.value c.add_weights.ensures.size,
     ) in
     record {
-      stands = rows_stand m move f a.material.now.start.now a.material.now.known.now a.sites.now.from a.sites.now.to a.sites.now.opened.now a.material.now.form.now.pairs.now a.material.now.form.now.ends.now n (form_in first) old new list
+      stands = rows_stand m move f a.material.now.start.now a.material.now.known.now a.sites.now.from a.sites.now.to a.sites.now.opened.now a.material.now.form.pairs.now a.material.now.form.ends.now n (form_in first) old new list
           read.sites_are read.pairs_are read.instance read.allowed can.over.by_site
           (can.count ∙ sym read.sites_are) can.goes_on c.requires.opened
           none refl (rows.laid.nodes ∙ sym begun.nodes) laid

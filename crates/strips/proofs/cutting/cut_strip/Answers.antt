@@ -7,7 +7,7 @@ use Rattle.strips.proofs.cutting.cut_strip.Goals as goal
 pub returns-clause-tells : goal.returns-clause-tells
 returns-clause-tells c = λ m move read weighs.
     let a = c.args in
-    let f = labelling a.material.now.form.now.at.now in
+    let f = labelling a.material.now.form.at.now in
     let form = c.build_strip.new.form in
     let built = c.in_ok-build_strip.ensures in
     let found = c.in_ok-sides.ensures in

@@ -19,7 +19,7 @@ write_form-requires c = record { laid = (_, _, c.in_ok-build_strip.ensures.sized
 pub returns-clause-stands : goal.returns-clause-stands
 returns-clause-stands c = λ m move read starts.
     let a = c.args in
-    let f = labelling a.material.now.form.now.at.now in
+    let f = labelling a.material.now.form.at.now in
     let known = a.material.now.known.now in
     let to = length known in
     let all : length known ≤ to = omega arith in

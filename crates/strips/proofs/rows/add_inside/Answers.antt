@@ -27,10 +27,10 @@ returns-then-not-met-clause-ends c =
 pub returns-then-not-met-clause-adds : goal.returns-then-not-met-clause-adds
 returns-then-not-met-clause-adds c = λ m move read worth.
     let a = c.args in
-    let f = labelling a.material.now.form.now.at.now in
+    let f = labelling a.material.now.form.at.now in
     let v = strip_view a.material.now.known.now a.sites.now.from a.sites.now.to in
-    unmet_adds m move f (choice_at v) (open_rank v) (form_in a.form.now) (pair_beside a.material.now.form.now.ends.now a.site a.place)
-    (is_counted (open_at v) a.site (pair_beside a.material.now.form.now.ends.now a.site a.place)) (sym c.requires.met ∙ c.if-not-met.true)
+    unmet_adds m move f (choice_at v) (open_rank v) (form_in a.form.now) (pair_beside a.material.now.form.ends.now a.site a.place)
+    (is_counted (open_at v) a.site (pair_beside a.material.now.form.ends.now a.site a.place)) (sym c.requires.met ∙ c.if-not-met.true)
 
 pub met_nodes-nodes-requires-clause-met : goal.met_nodes-nodes-requires-clause-met
 met_nodes-nodes-requires-clause-met c = sym c.requires.met ∙ c.if-not-met.false
@@ -70,9 +70,9 @@ returns-clause-ends c =
 pub returns-clause-adds : goal.returns-clause-adds
 returns-clause-adds c = λ m move read worth.
     let a = c.args in
-    let f = labelling a.material.now.form.now.at.now in
+    let f = labelling a.material.now.form.at.now in
     let v = strip_view a.material.now.known.now a.sites.now.from a.sites.now.to in
-    let pair = pair_beside a.material.now.form.now.ends.now a.site a.place in
+    let pair = pair_beside a.material.now.form.ends.now a.site a.place in
     let nodes = c.met_nodes-nodes.result in
     let met = c.met_nodes-nodes.ensures in
     let all = strip_ends a.material.now a.sites.now in

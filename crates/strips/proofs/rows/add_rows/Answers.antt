@@ -57,13 +57,13 @@ overflow_sub-sites c =
     let a = c.args in
     let i = c.loop-index.index in
     let within : i < length a.sites.now.weights.now = omega (arith, c.loop-index-test.true, c.requires.weighed.count) in
-    weight_fits (weight_at a.sites.now.weights.now i) c.in_ok-found.found.ones (degree a.material.now.form.now.ends.now c.site_at-site.result) (weight_few a.sites.now.weights.now i within c.requires.weighed.size)
+    weight_fits (weight_at a.sites.now.weights.now i) c.in_ok-found.found.ones (degree a.material.now.form.ends.now c.site_at-site.result) (weight_few a.sites.now.weights.now i within c.requires.weighed.size)
     c.in_ok-found.ensures.range.0 (row_few a.material.now c.site_at-site.result c.requires.can c.site_at-site.ensures.site.0)
 
 pub loop-index-preserved : goal.loop-index-preserved
 loop-index-preserved c =
     let a = c.args in
-    let f = labelling a.material.now.form.now.at.now in
+    let f = labelling a.material.now.form.at.now in
     let v = strip_view a.material.now.known.now a.sites.now.from a.sites.now.to in
     let i = c.loop-index.index in
     let l : i < length a.sites.now.opened.now = c.loop-index-test.true in
@@ -76,15 +76,15 @@ loop-index-preserved c =
     let says = c.in_ok-found.ensures in
     let first = c.push_reserved.ensures in
     let second = c.push_reserved-in-loop-index.ensures in
-    let weight = weight_is (weight_at a.sites.now.weights.now i) found.ones (degree a.material.now.form.now.ends.now site) (weight_few a.sites.now.weights.now i within c.requires.weighed.size) says.range.0 few_ends in
-    let border = c.unsigned_abs.ensures.value ∙ ap unsigned_abs (border_passed found.beyond (degree a.material.now.form.now.ends.now site) says.range.1 few_ends) in
+    let weight = weight_is (weight_at a.sites.now.weights.now i) found.ones (degree a.material.now.form.ends.now site) (weight_few a.sites.now.weights.now i within c.requires.weighed.size) says.range.0 few_ends in
+    let border = c.unsigned_abs.ensures.value ∙ ap unsigned_abs (border_passed found.beyond (degree a.material.now.form.ends.now site) says.range.1 few_ends) in
     record {
       list_room = omega (arith, first.capacity, inv.list_room);
       borders_room = omega (arith, second.capacity, inv.borders_room);
       list_len = omega (arith, first.len, inv.list_len);
       borders_len = omega (arith, second.len, inv.borders_len);
-      size = size_more a.sites.now.weights.now c.loop-index.list.items _ a.sites.now.opened.now a.material.now.form.now.ends.now i site _ found.ones l within at first.items weight says.range.0 inv.size;
-      small = borders_more c.loop-index.borders.items _ a.sites.now.opened.now a.material.now.form.now.ends.now i site _ l at second.items (omega (arith, border, says.range.1)) inv.small;
+      size = size_more a.sites.now.weights.now c.loop-index.list.items _ a.sites.now.opened.now a.material.now.form.ends.now i site _ found.ones l within at first.items weight says.range.0 inv.size;
+      small = borders_more c.loop-index.borders.items _ a.sites.now.opened.now a.material.now.form.ends.now i site _ l at second.items (omega (arith, border, says.range.1)) inv.small;
       weights = λ m move read starts.
           let own : weight_at a.sites.now.weights.now i ≡ site_weight m move f (choice_at a.material.now.start.now) site =
           ap (λ (ws : List ℤ). weight_at ws i) starts ∙ get_or-map (site_weight m move f (choice_at a.material.now.start.now)) a.sites.now.opened.now i 0 (pos 0) l
@@ -100,7 +100,7 @@ loop-index-preserved c =
           ∙ ap (λ (p : ℕ). flat_map (ends_at a.material.now a.sites.now) (take i a.sites.now.opened.now) ++ ends_at a.material.now a.sites.now p) at
           ∙ sym (rows_more a.material.now a.sites.now a.sites.now.opened.now i l);
       adds = λ m move read.
-          let met : (ℕ → Bool) → ℕ → ℕ = λ x. met_at a.material.now.form.now.ends.now (open_at v) (unsaved_surplus m move f (choice_at v) (open_rank v) x) in
+          let met : (ℕ → Bool) → ℕ → ℕ = λ x. met_at a.material.now.form.ends.now (open_at v) (unsaved_surplus m move f (choice_at v) (open_rank v) x) in
           let here : AddsCost (form_in c.loop-index.form) (form_in c.add_row.new.form) (λ x. met x (get_or a.sites.now.opened.now i 0)) =
           subst (λ (p : ℕ). AddsCost (form_in c.loop-index.form) (form_in c.add_row.new.form) (λ x. met x p)) at (says.adds m move read) in
           site_more (form_in a.form.now) (form_in c.loop-index.form) (form_in c.add_row.new.form) met
@@ -110,22 +110,22 @@ loop-index-preserved c =
 pub returns-clause-size : goal.returns-clause-size
 returns-clause-size c =
     let a = c.args in
-    size_all a.material.now.form.now.pairs.now a.material.now.form.now.ends.now (view_by a.sites.now a.material.now) a.sites.now.weights.now c.loop-index.list.items a.sites.now.opened.now c.loop-index.index c.requires.can.over.list c.requires.can.over.by_site
+    size_all a.material.now.form.pairs.now a.material.now.form.ends.now (view_by a.sites.now a.material.now) a.sites.now.weights.now c.loop-index.list.items a.sites.now.opened.now c.loop-index.index c.requires.can.over.list c.requires.can.over.by_site
     (seen_length a.material.now a.sites.now c.requires.can) c.requires.opened c.requires.weighed.size c.loop-index-test.false c.loop-index.invariant.size
 
 pub returns-clause-small : goal.returns-clause-small
 returns-clause-small c =
     let a = c.args in
-    borders_all a.material.now.form.now.pairs.now a.material.now.form.now.ends.now (view_by a.sites.now a.material.now) c.loop-index.borders.items a.sites.now.opened.now c.loop-index.index c.requires.can.over.list c.requires.can.over.by_site
+    borders_all a.material.now.form.pairs.now a.material.now.form.ends.now (view_by a.sites.now a.material.now) c.loop-index.borders.items a.sites.now.opened.now c.loop-index.index c.requires.can.over.list c.requires.can.over.by_site
     (seen_length a.material.now a.sites.now c.requires.can) c.requires.opened c.loop-index-test.false c.loop-index.invariant.small
 
 pub returns-clause-adds : goal.returns-clause-adds
 returns-clause-adds c = λ m move read.
     let a = c.args in
-    let f = labelling a.material.now.form.now.at.now in
+    let f = labelling a.material.now.form.at.now in
     let v = strip_view a.material.now.known.now a.sites.now.from a.sites.now.to in
     site_all (form_in a.form.now) (form_in c.loop-index.form)
-    (λ (x : ℕ → Bool). met_at a.material.now.form.now.ends.now (open_at v) (unsaved_surplus m move f (choice_at v) (open_rank v) x))
+    (λ (x : ℕ → Bool). met_at a.material.now.form.ends.now (open_at v) (unsaved_surplus m move f (choice_at v) (open_rank v) x))
     a.sites.now.opened.now c.loop-index.index (omega (arith, c.loop-index-test.false)) (c.loop-index.invariant.adds m move read)
 
 pub returns-clause-laid : goal.returns-clause-laid

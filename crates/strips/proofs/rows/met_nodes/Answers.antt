@@ -18,8 +18,8 @@ pub node_of-requires-2-clause-open : goal.node_of-requires-2-clause-open
 node_of-requires-2-clause-open c =
     let a = c.args in
     let v = strip_view a.material.now.known.now a.sites.now.from a.sites.now.to in
-    let pairs = a.material.now.form.now.pairs.now in
-    let ends = a.material.now.form.now.ends.now in
+    let pairs = a.material.now.form.pairs.now in
+    let ends = a.material.now.form.ends.now in
     let apart = (beside_has (IsPair pairs.sites) pairs ends a.site a.place c.requires.can.over.list.each c.requires.can.over.by_site c.requires.site.0 c.requires.place.0 c.requires.place.1).unequal in
     true_open (choice_at v a.head) (ap (open_at v) c.requires.head ∙ (met_ends (choice_at v) ends a.site a.place c.requires.site.1 apart c.requires.met).2)
 
@@ -27,8 +27,8 @@ pub returns : goal.returns
 returns c =
     let a = c.args in
     let v = strip_view a.material.now.known.now a.sites.now.from a.sites.now.to in
-    let pairs = a.material.now.form.now.pairs.now in
-    let ends = a.material.now.form.now.ends.now in
+    let pairs = a.material.now.form.pairs.now in
+    let ends = a.material.now.form.ends.now in
     let opened = a.sites.now.opened.now in
     let apart = (beside_has (IsPair pairs.sites) pairs ends a.site a.place c.requires.can.over.list.each c.requires.can.over.by_site c.requires.site.0 c.requires.place.0 c.requires.place.1).unequal in
     let of = met_ends (choice_at v) ends a.site a.place c.requires.site.1 apart c.requires.met in
