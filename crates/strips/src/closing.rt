@@ -250,6 +250,17 @@ impl Strips {
         Ok(())
     }
 
+    /// Lists all open sites, for which all sites are passed.
+    pub fn list_open(&mut self, known: &[Choice]) -> Result<(), AllocError>
+        requires few { length known.now ≤ site_limit }
+        ensures opened { OnOk result (AreOpenSites known.now self.new.opened.items) }
+    {
+        self.opened.clear();
+        let all = known.len() as u32;
+        list_next(known, &mut self.opened, 0, 0, all, usize::MAX)?;
+        Ok(())
+    }
+
     /// The form of a move over all its open sites, which are listed, from what each site weighs by
     /// what is known, and their numbers by site. It takes time in proportion to the open sites and
     /// their neighbours, and at the first use to all sites. It refuses only where memory runs out.

@@ -277,6 +277,7 @@ pub(crate) fn count_rows(
     ensures { AreEndsCounted (length sites.now.opened.now) (strip_ends material.now sites.now)
         laying.new.nexts.items }
 {
+    // Copies of its own: what is written to the lists cannot change them, so they are read once.
     let material = *material;
     let sites = *sites;
     for index in 0..sites.opened.len() {
@@ -481,6 +482,7 @@ pub(crate) fn add_rows(
     borders.clear();
     list.reserve(sites.opened.len())?;
     borders.reserve(sites.opened.len())?;
+    // Copies of its own: what is written to the lists cannot change them, so they are read once.
     let material = *material;
     let sites = *sites;
     for index in 0..sites.opened.len() {
