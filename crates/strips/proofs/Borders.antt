@@ -1,5 +1,5 @@
 -- The borders of the sites of a strip, neighbour by neighbour and site by site.
-use Rattle.std.proofs.Common.{◌≡◌, ◌≢◌, ℕ, ◌+◌, ◌-◌, ◌*◌, ◌<◌, ◌≤◌, Bool, true, false, List, [], ◌∷◌, ◌++◌, length, get_or, map, take, sum, sum_by, All, ℤ, pos, ◌+ℤ◌, ◌-ℤ◌, unsigned_abs, w64, to_z, of_z, FitsSigned, lit<, refl, sym, ap, ◌∙◌, subst, arith}
+use Rattle.std.proofs.Common.{◌≡◌, ◌≢◌, ℕ, ◌+◌, ◌-◌, ◌*◌, ◌<◌, ◌≤◌, Bool, true, false, cond, List, [], ◌∷◌, ◌++◌, length, get_or, map, take, sum, sum_by, All, ℤ, pos, ◌+ℤ◌, ◌-ℤ◌, unsigned_abs, w64, to_z, of_z, FitsSigned, lit<, refl, sym, ap, ◌∙◌, subst, arith}
 use Rattle.std.specs.Prelude.{◌&&◌, ◌||◌, ◌==◌}
 use Rattle.std.proofs.lemmas.Int.{ints, to_z-of_z}
 use Rattle.std.proofs.lemmas.Bool.Decides.{nat_tests}
@@ -109,6 +109,30 @@ border_more m move f choice set pairs ends site place head counts old added new 
     ∙ ap (λ j. pair_border m move f choice set site (pair_beside ends site j)) (sym here) in
     total_more old added new g k (count_if counts (pair_surplus m move f (pair_beside ends site place))) is before one worth
     ∙ ap (λ j. pos (sum_below j g)) next
+
+-- what counts in one of several ways counts in each of them alone
+pub one_way : (way any : Bool) (z w : ℤ) (v : ℕ) → (way ≡ true → any ≡ true) → z ≡ pos (count_if any v) → w ≡ cond way z (pos 0) → w ≡ pos (count_if way v)
+one_way true any z w v some is at = at ∙ is ∙ ap (λ (b : Bool). pos (count_if b v)) (some refl)
+one_way false any z w v some is at = at
+
+pub way_one : (a b c : Bool) → a ≡ true → (a || b || c) ≡ true
+way_one true b c h = refl
+way_one false b c h = absurd (cc (h))
+
+pub way_two : (a b c : Bool) → b ≡ true → (a || b || c) ≡ true
+way_two true b c h = refl
+way_two false true c h = refl
+way_two false false c h = absurd (cc (h))
+
+pub way_three : (a b c : Bool) → c ≡ true → (a || b || c) ≡ true
+way_three true b c h = refl
+way_three false true c h = refl
+way_three false false c h = h
+
+pub saved_both : (both met : Bool) (z : ℤ) (v : ℕ) → both ≡ true → met ≡ true → cond met z (pos 0) ≡ pos (count_if met v) → z ≡ pos (count_if both v)
+saved_both true true z v h k is = is
+saved_both false met z v h k is = absurd (cc (h))
+saved_both true false z v h k is = absurd (cc (k))
 
 pub border_small : (old added new : ℤ) (start place : ℕ) → start ≤ place → unsigned_abs old ≤ 20000000 * (place - start) → unsigned_abs added ≤ 20000000 → new ≡ old +ℤ added
     → unsigned_abs new ≤ 20000000 * (place + 1 - start)

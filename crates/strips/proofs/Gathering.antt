@@ -29,9 +29,6 @@ use Rattle.persistency.proofs.Agreeing.{each_agreed, forced_agree}
 one_more : (size i : ℕ) → (i + 1) * size ≡ i * size + size
 one_more size i = grind (arith)
 
-pub part_within : (n size i : ℕ) → part_start n size i ≤ n
-part_within n size i = omega arith
-
 pub part_ordered : (n size i : ℕ) → part_start n size i ≤ part_start n size (i + 1)
 part_ordered n size i = (let e = one_more size i in omega (arith, e))
 

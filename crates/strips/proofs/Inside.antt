@@ -13,41 +13,7 @@ use Rattle.move_energy.specs.Choices.{is_open}
 use Rattle.move_energy.specs.Weights.{are_open}
 use Rattle.move_energy.proofs.Adding.{cost_none, met_adds}
 
-both_are : (a b : Bool) → a ≡ true → b ≡ true → (a && b) ≡ true
-both_are true b h k = k
-both_are false b h k = absurd (cc (h))
-
-first_shut : (a b : Bool) → a ≡ false → (a && b) ≡ false
-first_shut true b h = absurd (cc (h))
-first_shut false b h = refl
-
-second_shut : (a b : Bool) → b ≡ false → (a && b) ≡ false
-second_shut true b h = h
-second_shut false b h = refl
-
-open_from : (choice : ℕ → Choice) (first : Bool) (site head weight : ℕ) → is_open (choice site) ≡ true → is_open (choice head) ≡ true
-    → are_open choice (pair_from first site head weight) ≡ true
-open_from choice true site head weight a b = both_are (is_open (choice site)) (is_open (choice head)) a b
-open_from choice false site head weight a b = both_are (is_open (choice head)) (is_open (choice site)) b a
-
--- both ends are open
-pub open_beside : (choice : ℕ → Choice) (ends : Neighbours) (site place head : ℕ) (pair : Pair) → pair ≡ pair_beside ends site place → head ≡ neighbour_at ends place
-    → is_open (choice site) ≡ true → is_open (choice head) ≡ true → are_open choice pair ≡ true
-open_beside choice ends site place head pair is at a b =
-    ap (are_open choice) is
-    ∙ open_from choice (is_first ends site place) site (neighbour_at ends place) (weight_at ends place) a (ap (λ (p : ℕ). is_open (choice p)) (sym at) ∙ b)
-
-shut_from : (choice : ℕ → Choice) (first : Bool) (site head weight : ℕ) → is_open (choice head) ≡ false → are_open choice (pair_from first site head weight) ≡ false
-shut_from choice true site head weight b = second_shut (is_open (choice site)) (is_open (choice head)) b
-shut_from choice false site head weight b = first_shut (is_open (choice head)) (is_open (choice site)) b
-
--- the neighbour is not
-pub shut_beside : (choice : ℕ → Choice) (ends : Neighbours) (site place head : ℕ) → head ≡ neighbour_at ends place → is_open (choice head) ≡ false
-    → are_open choice (pair_beside ends site place) ≡ false
-shut_beside choice ends site place head at b =
-    shut_from choice (is_first ends site place) site (neighbour_at ends place) (weight_at ends place) (ap (λ (p : ℕ). is_open (choice p)) (sym at) ∙ b)
-
--- ---- at which end it is added
+-- ---- where the pair is met
 
 same_site : (a b : ℕ) → a ≡ b → (a == b) ≡ true
 same_site a b h = grind (arith, nat_tests, h)
@@ -55,25 +21,71 @@ same_site a b h = grind (arith, nat_tests, h)
 other_site : (a b : ℕ) → a ≢ b → (a == b) ≡ false
 other_site a b h = grind (arith, nat_tests, h)
 
-or_first : (a b : Bool) → a ≡ true → (a || b) ≡ true
-or_first true b h = refl
-or_first false b h = absurd (cc (h))
+met_first : (x y s z inside : Bool) → x ≡ true → s ≡ true → y ≡ inside → (inside && true) ≡ ((x && y) && (s || z))
+met_first true y true z inside h k is = ap (λ (b : Bool). b && true) (sym is)
+met_first false y s z inside h k is = absurd (cc (h))
+met_first true y false z inside h k is = absurd (cc (k))
 
-or_none : (a b : Bool) → a ≡ false → b ≡ true → (a || not b) ≡ false
-or_none true b h k = absurd (cc (h))
-or_none false true h k = refl
-or_none false false h k = absurd (cc (k))
+met_second : (x y s inside : Bool) → s ≡ false → (inside && false) ≡ ((y && x) && (s || not y))
+met_second true true false true h = refl
+met_second true true false false h = refl
+met_second false true false true h = refl
+met_second false true false false h = refl
+met_second x false s true h = refl
+met_second x false s false h = refl
+met_second x true true inside h = absurd (cc (h))
 
-first_open : (a b : Bool) → (a && b) ≡ true → a ≡ true
-first_open true b h = refl
-first_open false b h = absurd (cc (h))
+met_from : (choice : ℕ → Choice) (first : Bool) (site head weight : ℕ) (inside : Bool) → is_open (choice site) ≡ true → is_open (choice head) ≡ inside
+    → (pair_from first site head weight).first ≢ (pair_from first site head weight).second
+    → (inside && first) ≡ (are_open choice (pair_from first site head weight) && is_counted (λ p. is_open (choice p)) site (pair_from first site head weight))
+met_from choice true site head weight inside a b apart =
+    met_first (is_open (choice site)) (is_open (choice head)) (site == site) (not (is_open (choice site))) inside a (same_site site site refl) b
+met_from choice false site head weight inside a b apart =
+    met_second (is_open (choice site)) (is_open (choice head)) (head == site) inside (other_site head site apart)
 
-pub counted_first : (choice : ℕ → Choice) (site : ℕ) (pair : Pair) → pair.first ≡ site → is_counted (λ p. is_open (choice p)) site pair ≡ true
-counted_first choice site pair h = or_first (pair.first == site) (not (is_open (choice pair.first))) (same_site pair.first site h)
+-- it is where the neighbour is inside and the site is its first end
+pub met_by : (choice : ℕ → Choice) (ends : Neighbours) (site place head : ℕ) (inside : Bool) → head ≡ neighbour_at ends place → is_open (choice site) ≡ true → is_open (choice head) ≡ inside
+    → (pair_beside ends site place).first ≢ (pair_beside ends site place).second
+    → (inside && is_first ends site place) ≡ (are_open choice (pair_beside ends site place) && is_counted (λ p. is_open (choice p)) site (pair_beside ends site place))
+met_by choice ends site place head inside at a b apart =
+    met_from choice (is_first ends site place) site (neighbour_at ends place) (weight_at ends place) inside a (ap (λ (p : ℕ). is_open (choice p)) (sym at) ∙ b) apart
 
-pub uncounted_second : (choice : ℕ → Choice) (site : ℕ) (pair : Pair) → pair.first ≢ site → are_open choice pair ≡ true → is_counted (λ p. is_open (choice p)) site pair ≡ false
-uncounted_second choice site pair h both =
-    or_none (pair.first == site) (is_open (choice pair.first)) (other_site pair.first site h) (first_open (is_open (choice pair.first)) (is_open (choice pair.second)) both)
+and_second : (x y w : Bool) → ((x && y) && w) ≡ true → y ≡ true
+and_second true true w h = refl
+and_second true false w h = absurd (cc (h))
+and_second false y w h = absurd (cc (h))
+
+never : (b : Bool) → (b && false) ≡ true → false ≡ true
+never true h = h
+never false h = h
+
+ends_from : (choice : ℕ → Choice) (first : Bool) (site head weight : ℕ) → is_open (choice site) ≡ true
+    → (pair_from first site head weight).first ≢ (pair_from first site head weight).second
+    → (are_open choice (pair_from first site head weight) && is_counted (λ p. is_open (choice p)) site (pair_from first site head weight)) ≡ true
+    → ((pair_from first site head weight).first ≡ site) × ((pair_from first site head weight).second ≡ head) × (is_open (choice head) ≡ true)
+ends_from choice true site head weight a apart is =
+    (refl, refl, and_second (is_open (choice site)) (is_open (choice head)) ((site == site) || not (is_open (choice site))) is)
+ends_from choice false site head weight a apart is =
+    absurd (let e = never (is_open (choice head)) (met_from choice false site head weight (is_open (choice head)) a refl apart ∙ is) in cc (e))
+
+-- and then its ends are these, and the neighbour is open
+pub met_ends : (choice : ℕ → Choice) (ends : Neighbours) (site place : ℕ) → is_open (choice site) ≡ true
+    → (pair_beside ends site place).first ≢ (pair_beside ends site place).second
+    → (are_open choice (pair_beside ends site place) && is_counted (λ p. is_open (choice p)) site (pair_beside ends site place)) ≡ true
+    → ((pair_beside ends site place).first ≡ site) × ((pair_beside ends site place).second ≡ neighbour_at ends place) × (is_open (choice (neighbour_at ends place)) ≡ true)
+met_ends choice ends site place a apart is = ends_from choice (is_first ends site place) site (neighbour_at ends place) (weight_at ends place) a apart is
+
+both_first : (a b : Bool) → (a && b) ≡ true → a ≡ true
+both_first true b h = refl
+both_first false b h = absurd (cc (h))
+
+both_second : (a b : Bool) → (a && b) ≡ true → b ≡ true
+both_second true b h = h
+both_second false b h = absurd (cc (h))
+
+-- what is met is open at both ends, and counts
+pub met_open : (a b : Bool) → (a && b) ≡ true → (a ≡ true) × (b ≡ true)
+met_open a b h = (both_first a b h, both_second a b h)
 
 -- ---- the row of a site, neighbour by neighbour
 

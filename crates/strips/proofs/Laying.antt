@@ -1,9 +1,9 @@
 -- The weights of a strip laid on the form of what its pairs save, and what that stands for then.
-use Rattle.std.proofs.Common.{◌≡◌, ℕ, ◌+◌, ◌-◌, ◌*◌, ◌<◌, ◌≤◌, Bool, List, length, vec_len, take, set, get_or, All, map, sum_by, ℤ, pos, ◌+ℤ◌, unsigned_abs, w64, to_z, of_z, lit<, refl, sym, ap, ◌∙◌, subst, arith}
+use Rattle.std.proofs.Common.{◌≡◌, ℕ, ◌+◌, ◌<◌, ◌≤◌, Bool, List, length, vec_len, take, set, map, sum_by, ℤ, pos, ◌+ℤ◌, unsigned_abs, w64, to_z, of_z, lit<, refl, sym, ap, ◌∙◌, subst, arith}
 use Rattle.std.specs.Global.{Vec}
 use Rattle.std.proofs.lemmas.Int.{ints, to_z-of_z}
-use Rattle.std.proofs.lemmas.List.{take_more, take_all, length-take-le, length-map}
-use Rattle.std.proofs.lemmas.List.Sums.{sum_by-set, sum_by_more, sum_by-take-le, get_or-le-sum_by}
+use Rattle.std.proofs.lemmas.List.{take_more, length-take-le, length-map}
+use Rattle.std.proofs.lemmas.List.Sums.{sum_by-set, sum_by_more, get_or-le-sum_by}
 use Rattle.sums.proofs.IntegerSumLemmas.{within_fits, abs-add}
 use Rattle.sums.specs.IntegerSums.{int_counted}
 use Rattle.label_field.specs.PairLists.{PairList}
@@ -11,17 +11,16 @@ use Rattle.label_energies.specs.declared.change.Move.{Move}
 use Rattle.label_energies.specs.Energies.{Instance, IsInstance}
 use Rattle.label_energies.specs.Moves.{IsAllowed}
 use Rattle.pseudo_bool.specs.Energies.{entry}
-use Rattle.flow_network.specs.Cut.{IsArc}
 use Rattle.flow_network.specs.declared.arc.Arc.{Arc}
 use Rattle.compile_cut.specs.declared.quadratic.Quadratic.{Quadratic}
-use Rattle.compile_cut.specs.Quadratics.{IsQuadraticBounded, IsConstant}
-use Rattle.compile_cut.specs.Weights.{weights_value, weights_size, arcs_value, arcs_size, IsAbove}
-use Rattle.compile_cut.proofs.TermLemmas.{bounded-weaker, constant_value, constant_nodes}
+use Rattle.compile_cut.specs.Quadratics.{IsConstant}
+use Rattle.compile_cut.specs.Weights.{weights_value, weights_size, arcs_value}
+use Rattle.compile_cut.proofs.TermLemmas.{constant_value, constant_nodes}
 use Rattle.compile_cut.proofs.WeightLemmas.{weights_value-add, weights_value-push}
 use Rattle.move_energy.specs.declared.by_site.Neighbours.{Neighbours}
 use Rattle.move_energy.specs.declared.choice.Choice.{Choice}
 use Rattle.move_energy.specs.BySite.{AreBySite, met_at}
-use Rattle.move_energy.specs.Built.{AddsCost, IsLonger}
+use Rattle.move_energy.specs.Built.{AddsCost}
 use Rattle.move_energy.specs.Choices.{choice_at, open_at, open_rank, AreOpenSites, StandsFor}
 use Rattle.move_energy.specs.Weights.{IsOfWeights, unsaved_surplus, open_weights}
 use Rattle.move_energy.proofs.Opened.{opened_within}
@@ -61,31 +60,6 @@ size_set first ws list i l k before =
     let next = sum_by_more unsigned_abs list i (pos 0) k in
     omega (arith, changed, next, abs-add (entry ws i) (entry list i), before)
 
-pub value_all : (first ws list : List ℤ) (i : ℕ) (x : ℕ → Bool) → length list ≤ i → weights_value ws x ≡ weights_value first x +ℤ weights_value (take i list) x
-    → weights_value ws x ≡ weights_value first x +ℤ weights_value list x
-value_all first ws list i x past is = is ∙ ap (λ (ys : List ℤ). weights_value first x +ℤ weights_value ys x) (take_all i list past)
-
-pub size_all_of : (first ws list : List ℤ) (i : ℕ) → weights_size ws ≤ weights_size first + weights_size (take i list) → weights_size ws ≤ weights_size first + weights_size list
-size_all_of first ws list i is = omega (arith, is, sum_by-take-le unsigned_abs list i)
-
--- ---- room for the rows
-
-pub rows_room : (met : ℕ → ℕ) (opened : List ℕ) (i most : ℕ) (old now : Quadratic) → i < length opened → sum_by met opened ≤ most → most ≤ 4194304
-    → IsQuadraticBounded 0 old → IsLonger (sum_by met (take i opened)) old now
-    → (met (get_or opened i 0) ≤ 8388608) × IsQuadraticBounded (8388608 - met (get_or opened i 0)) now
-rows_room met opened i most old now l few limit bounded longer =
-    let more = sum_by_more met opened i 0 l in
-    let within = sum_by-take-le met opened (i + 1) in (
-      omega (arith, more, within, few, limit),
-      bounded-weaker _ (8388608 - met (get_or opened i 0)) now (omega (arith, more, within, few, limit)) (longer.bounded 0 bounded),
-    )
-
-pub rows_bounded : (met : ℕ → ℕ) (opened : List ℕ) (i most : ℕ) (old now : Quadratic) → sum_by met opened ≤ most → most ≤ 4194304
-    → IsQuadraticBounded 0 old → IsLonger (sum_by met (take i opened)) old now → IsQuadraticBounded 4194304 now
-rows_bounded met opened i most old now few limit bounded longer =
-    let within = sum_by-take-le met opened i in
-    bounded-weaker _ 4194304 now (omega (arith, within, few, limit)) (longer.bounded 0 bounded)
-
 -- ---- the form with the weights laid on it
 
 -- the same form with other weights
@@ -94,19 +68,6 @@ IsLaid list old new =
     (new.constant ≡ old.constant) × (new.arcs ≡ old.arcs) × (vec_len new.weights ≡ vec_len old.weights)
     × ((x : ℕ → Bool) → weights_value new.weights.items x ≡ weights_value old.weights.items x +ℤ weights_value list x)
     × (weights_size new.weights.items ≤ weights_size old.weights.items + weights_size list)
-
-pub laid_bounded : (list : List ℤ) (old new : Quadratic) → weights_size list ≤ 500000000000000 → IsQuadraticBounded 4194304 old → IsLaid list old new → IsQuadraticBounded 8388608 new
-laid_bounded list old new small bounded laid =
-    let P : Vec Arc → Type 0 = λ arcs. All (IsArc (vec_len new.weights)) arcs.items in
-    let Q : ℕ → Type 0 = λ n. All (IsArc n) old.arcs.items in
-    let R : Vec Arc → Type 0 = λ arcs. All IsAbove arcs.items in
-    let S : Vec Arc → Type 0 = λ arcs. weights_size new.weights.items + arcs_size arcs.items ≤ 56000000000 * 8388608 in
-    record {
-      constant = omega (arith, ap unsigned_abs laid.0, bounded.constant);
-      size = subst S (sym laid.1) (omega (arith, laid.4, bounded.size, small));
-      arcs = subst P (sym laid.1) (subst Q (sym laid.2) bounded.arcs);
-      above = subst R (sym laid.1) bounded.above;
-    }
 
 -- the form of the weights alone
 abbrev alone : Quadratic → Vec ℤ → Quadratic

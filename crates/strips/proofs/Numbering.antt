@@ -1,19 +1,19 @@
 -- The numbers of the open sites of a strip, at places counted from its first site.
 use Rattle.std.proofs.Common.{◌≡◌, ◌≢◌, ℕ, ◌+◌, ◌-◌, ◌<◌, ◌≤◌, true, List, All, length, get_or, sym, ap, ◌∙◌, inl, inr, arith}
-use Rattle.std.specs.Prelude.{slice_set}
+use Rattle.std.specs.Prelude.{slice_index, slice_set}
 use Rattle.std.proofs.lemmas.Bool.{cases_lt}
 use Rattle.std.proofs.lemmas.List.{get_or-set_same, get_or-set_other}
 use Rattle.std.proofs.lemmas.List.Elements.{All-from_get_or}
 use Rattle.move_energy.specs.declared.choice.Choice.{Choice}
 use Rattle.move_energy.specs.declared.choice.Choice.TheVariants.{Open}
-use Rattle.move_energy.specs.Choices.{choice_at, open_rank, AreOpenSites}
+use Rattle.move_energy.specs.Choices.{choice_at, open_rank, AreOpenSites, IsNumbering}
 use Rattle.move_energy.proofs.Numbers.{rank_below}
 use Rattle.move_energy.proofs.Opened.{opened_has, opened_place, opened_count, open_true}
 use Rattle.persistency.specs.Borders.{range_of}
 use Rattle.strips.specs.declared.material.StripSites.{StripSites}
 use Rattle.strips.specs.Building.{IsStripNumbering}
 use Rattle.strips.specs.Views.{strip_view}
-use Rattle.strips.proofs.Views.{above_range, below_range, open_inside}
+use Rattle.strips.proofs.Views.{above_range, below_range, open_inside, whole_is, whole_rank}
 use Rattle.strips.proofs.Bounding.{inside_length}
 
 -- ---- the sites of a range
@@ -50,9 +50,6 @@ listed_to known from to opened listed =
 abbrev pub AreFirstNumbered : List Choice → ℕ → ℕ → List ℕ → ℕ → Type 0
 AreFirstNumbered known from to numbers i = (p : ℕ) → choice_at (strip_view known from to) p ≡ Open → open_rank (strip_view known from to) p < i
     → get_or numbers (p - from) 0 ≡ open_rank (strip_view known from to) p
-
-pub numbered_none : (known : List Choice) (from to : ℕ) (numbers : List ℕ) → AreFirstNumbered known from to numbers 0
-numbered_none known from to numbers p is less = absurd (omega (arith, less))
 
 pub numbered_more : (known : List Choice) (from to : ℕ) (opened old new : List ℕ) (i site place : ℕ) → AreOpenSites (strip_view known from to) opened
     → i < length opened → site ≡ get_or opened i 0 → place ≡ site - from → to - from ≤ length old → new ≡ slice_set old place i
@@ -94,3 +91,13 @@ pub place_inside : (known : List Choice) (sites : StripSites) (numbers : List �
     → choice_at (strip_view known sites.from sites.to) p ≡ Open → p - sites.from < length numbers
 place_inside known sites numbers p numbered is =
     omega (arith, numbered.count, seen_from known sites.from sites.to p is, seen_to known sites.from sites.to p is)
+
+-- ---- the numbers of all open sites
+
+pub numbers_whole : (known : List Choice) (to : ℕ) (numbers : List ℕ) → length known ≤ to → length numbers ≡ length known
+    → ((p : ℕ) → choice_at (strip_view known 0 to) p ≡ Open → slice_index numbers (p - 0) ≡ open_rank (strip_view known 0 to) p) → IsNumbering known numbers
+numbers_whole known to numbers all count each = record {
+  count = count;
+  each = λ p l opened.
+      ap (slice_index numbers) (let e : p ≡ p - 0 = omega arith in e) ∙ each p (ap (λ (choice : ℕ → Choice). choice p) (whole_is known to all) ∙ opened) ∙ ap (λ (rank : ℕ → ℕ). rank p) (whole_rank known to all);
+}

@@ -13,18 +13,18 @@ use Rattle.strips.proofs.Views.{view_length}
 use Rattle.strips.proofs.Borders.{degrees_few}
 use Rattle.strips.proofs.Meeting.{rows_few}
 
-pub seen_length : (material : Material) (sites : StripSites) → CanBuild material → length (view_by sites material) ≡ material.pairs.now.sites
+pub seen_length : (material : Material) (sites : StripSites) → CanBuild material → length (view_by sites material) ≡ material.form.pairs.now.sites
 seen_length material sites can = view_length material.known.now sites.from sites.to ∙ can.count
 
-pub row_few : (material : Material) (site : ℕ) → CanBuild material → site < material.pairs.now.sites → degree material.ends.now site ≤ 8388608
-row_few material site can inside = omega (arith, degree_most material.pairs.now material.ends.now site can.by_site inside, can.pairs_are.count)
+pub row_few : (material : Material) (site : ℕ) → CanBuild material → site < material.form.pairs.now.sites → degree material.form.ends.now site ≤ 8388608
+row_few material site can inside = omega (arith, degree_most material.form.pairs.now material.form.ends.now site can.over.by_site inside, can.over.list.count)
 
 pub sites_few : (material : Material) (sites : StripSites) → CanBuild material → AreStripSites material sites → length sites.opened.now ≤ 1048576
-sites_few material sites can listed = omega (arith, opened_few (view_by sites material) sites.opened.now listed, seen_length material sites can, can.pairs_are.sites)
+sites_few material sites can listed = omega (arith, opened_few (view_by sites material) sites.opened.now listed, seen_length material sites can, can.over.list.sites)
 
-degrees : (material : Material) (sites : StripSites) → CanBuild material → AreStripSites material sites → sum_by (degree material.ends.now) sites.opened.now ≤ 8388608
+degrees : (material : Material) (sites : StripSites) → CanBuild material → AreStripSites material sites → sum_by (degree material.form.ends.now) sites.opened.now ≤ 8388608
 degrees material sites can listed =
-    omega (arith, degrees_few material.pairs.now material.ends.now (view_by sites material) sites.opened.now can.by_site (seen_length material sites can) listed, can.pairs_are.count)
+    omega (arith, degrees_few material.form.pairs.now material.form.ends.now (view_by sites material) sites.opened.now can.over.by_site (seen_length material sites can) listed, can.over.list.count)
 
 pub strip_ends_few : (material : Material) (sites : StripSites) → CanBuild material → AreStripSites material sites → length (strip_ends material sites) ≤ 16777216
 strip_ends_few material sites can listed = omega (arith, rows_few material sites sites.opened.now, degrees material sites can listed)
@@ -33,4 +33,4 @@ strip_ends_few material sites can listed = omega (arith, rows_few material sites
 pub first_ends_few : (material : Material) (sites : StripSites) (i : ℕ) → CanBuild material → AreStripSites material sites
     → length (flat_map (ends_at material sites) (take i sites.opened.now)) ≤ 16777216
 first_ends_few material sites i can listed =
-    omega (arith, rows_few material sites (take i sites.opened.now), sum_by-take-le (degree material.ends.now) sites.opened.now i, degrees material sites can listed)
+    omega (arith, rows_few material sites (take i sites.opened.now), sum_by-take-le (degree material.form.ends.now) sites.opened.now i, degrees material sites can listed)

@@ -1,5 +1,5 @@
 -- What a cut of all open sites shows, where all other sites are fixed.
-use Rattle.std.proofs.Common.{◌≡◌, ◌≢◌, ◌⊎◌, ◌<◌, ◌≤◌, ℕ, ℤ, List, Bool, true, false, cond, length, refl, sym, ap, ◌∙◌, inl, inr, subst, arith}
+use Rattle.std.proofs.Common.{◌≡◌, ◌≢◌, ◌<◌, ◌≤◌, ℕ, ℤ, List, Bool, true, false, cond, length, refl, sym, ap, ◌∙◌, inl, inr, subst, arith}
 use Rattle.std.specs.Prelude.{slice_index, ◌≤ℤ◌}
 use Rattle.std.specs.List.{Contains}
 use Rattle.std.proofs.lemmas.List.Elements.{Contains-get_or}
@@ -15,12 +15,11 @@ use Rattle.move_energy.specs.Choices.{choice_at, choice_of, bit_of, is_open, ope
 use Rattle.move_energy.proofs.Numbers.{rank_below}
 use Rattle.move_energy.proofs.Opened.{opened_place, opened_count, cases_open}
 use Rattle.site_bounds.specs.Decisions.{IsSmallestLeast}
-use Rattle.move_prices.specs.Assignments.{IsOver}
 use Rattle.move_prices.specs.MoveValues.{move_value}
 use Rattle.move_prices.proofs.Rising.{move_falls, move_over}
-use Rattle.persistency.specs.Fixing.{with_choices, fixed_value, AreLeastZeros}
+use Rattle.persistency.specs.Fixing.{fixed_value, AreLeastZeros}
 use Rattle.persistency.specs.Agreeing.{or_else}
-use Rattle.persistency.specs.Strips.{Strip, others_at, lower_value}
+use Rattle.persistency.specs.Strips.{others_at, lower_value}
 use Rattle.persistency.proofs.Fixing.{fixed_same, ones_bound}
 use Rattle.strips.specs.Looking.{IsStageLeast}
 use Rattle.strips.specs.Sides.{AreBounds}

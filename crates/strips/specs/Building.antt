@@ -1,62 +1,23 @@
--- What a strip is built from: what its sites and pairs are, what is known of them, and a closure
--- that answers what the two ends of a pair save together.
-use Rattle.std.specs.Prelude.{◌≡◌, ℕ, ◌<◌, ◌≤◌, ◌-◌, Bool, List, map, length, slice_index}
-use Rattle.std.specs.Prelude.{ℤ, unsigned_abs}
+-- What a strip is built from: the form of its move, and what is known of its sites.
+use Rattle.std.specs.Prelude.{◌≡◌, ℕ, ℤ, ◌<◌, ◌≤◌, ◌-◌, Bool, List, map, length, slice_index}
 use Rattle.label_field.specs.declared.pair.Pair.{Pair}
-use Rattle.label_field.specs.PairLists.{IsPair, IsPairList, PairList}
 use Rattle.label_energies.specs.declared.change.Move.{Move}
-use Rattle.label_energies.specs.Energies.{Instance, IsInstance}
-use Rattle.label_energies.specs.Moves.{IsAllowed}
+use Rattle.label_energies.specs.Energies.{Instance}
 use Rattle.compile_cut.specs.declared.quadratic.Quadratic.{Quadratic}
 use Rattle.compile_cut.specs.Weights.{weights_size}
-use Rattle.move_energy.specs.declared.by_site.Neighbours.{Neighbours}
 use Rattle.move_energy.specs.declared.choice.Choice.{Choice}
 use Rattle.move_energy.specs.declared.choice.Choice.TheVariants.{Open}
-use Rattle.move_energy.specs.BySite.{AreBySite, is_counted, met_at, pair_beside}
+use Rattle.move_energy.specs.BySite.{is_counted, met_at, pair_beside}
 use Rattle.move_energy.specs.Choices.{choice_at, open_at, open_rank, AreOpenSites}
 use Rattle.move_energy.specs.Choices.{StandsFor}
-use Rattle.move_energy.specs.Limits.{surplus_limit, weights_limit}
-use Rattle.move_energy.specs.Weights.{surplus_of, pair_table, unsaved_surplus}
+use Rattle.move_energy.specs.Limits.{weights_limit}
+use Rattle.move_energy.specs.Weights.{unsaved_surplus}
 use Rattle.site_bounds.specs.Parts.{site_weight}
+use Rattle.site_forms.specs.Numbers.{IsOverPairs}
 use Rattle.persistency.specs.Borders.{border_at, range_of}
 use Rattle.strips.specs.declared.material.Material.{Material}
 use Rattle.strips.specs.declared.material.StripSites.{StripSites}
 use Rattle.strips.specs.Views.{KeepsChosen, strip_view, weight_now}
-
--- the closure takes each pair that the neighbours tell
-abbrev pub TakesPairs : (Pair → Type 0) → PairList → Neighbours → Type 0
-TakesPairs takes pairs ends = (site place : ℕ) → IsPair pairs.sites (pair_beside ends site place)
-    → takes (pair_beside ends site place)
-
--- its answers are in their range
-abbrev pub GivesSmall : (Pair → ℤ → Type 0) → Type 0
-GivesSmall gives = (pair : Pair) (z : ℤ) → gives pair z → unsigned_abs z ≤ surplus_limit
-
--- its answers are the surpluses of this move
-abbrev pub GivesSurpluses : (Pair → ℤ → Type 0) → Instance → Move → (ℕ → ℕ) → Type 0
-GivesSurpluses gives m move f =
-    (pair : Pair) (z : ℤ) → gives pair z → z ≡ surplus_of (pair_table m move f pair)
-
--- the move is allowed, over these sites and pairs
-pub record IsMoveOver (pairs : PairList) (m : Instance) (move : Move) (f : ℕ → ℕ) : Type 0 where
-  pub sites_are : m.sites ≡ pairs.sites
-  pub pairs_are : m.pairs ≡ pairs.list
-  pub instance : IsInstance m
-  pub allowed : IsAllowed m move f
-
--- what is asked of a closure that answers surpluses: it takes each pair that the neighbours tell,
--- and its answers are in their range
-pub record CanAsk (takes : Pair → Type 0) (gives : Pair → ℤ → Type 0) (material : Material)
-    : Type 0 where
-  pub takes_pairs : TakesPairs takes material.pairs.now material.ends.now
-  pub gives_small : GivesSmall gives
-
--- this holds of each move over the pairs of which the closure answers the surpluses
-abbrev pub WhereSaved : (Pair → ℤ → Type 0) → Material → (Instance → Move → (ℕ → ℕ) → Type 0)
-    → Type 0
-WhereSaved gives material P = (m : Instance) (move : Move) (f : ℕ → ℕ)
-    → GivesSurpluses gives m move f
-    → IsMoveOver material.pairs.now m move f → P m move f
 
 -- the listed weights are those of the strip's open sites, by what was known at the start
 abbrev pub AreStartWeights : Material → StripSites → Instance → Move → (ℕ → ℕ) → Type 0
@@ -68,12 +29,12 @@ pub record AreWeighed (sites : StripSites) : Type 0 where
   pub count : length sites.weights.now ≡ length sites.opened.now
   pub size : weights_size sites.weights.now ≤ weights_limit
 
--- the lists are of these sites and pairs, and what was chosen at the start stays
+-- the form is of its pairs, something is known of each of its sites, and what was chosen at the
+-- start stays
 pub record CanBuild (material : Material) : Type 0 where
-  pub pairs_are : IsPairList material.pairs.now
-  pub by_site : AreBySite material.pairs.now material.ends.now
-  pub starts : length material.start.now ≡ material.pairs.now.sites
-  pub count : length material.known.now ≡ material.pairs.now.sites
+  pub over : IsOverPairs material.form
+  pub starts : length material.start.now ≡ material.form.pairs.now.sites
+  pub count : length material.known.now ≡ material.form.pairs.now.sites
   pub goes_on : KeepsChosen material.start.now material.known.now
 
 -- what a strip sees: what is known, and each open site outside it at 0
@@ -105,12 +66,8 @@ pub record IsStripForm (m : Instance) (move : Move) (f : ℕ → ℕ) (known : L
 -- the neighbour at this place is one of two ends in the strip, and its pair counts at this site
 abbrev pub counts_in : Material → StripSites → ℕ → ℕ → Bool
 counts_in material sites site place =
-    is_counted (open_at (view_by sites material)) site (pair_beside material.ends.now site place)
-
--- how many pairs count at a site: those of two sites of the strip, each at its first end
-abbrev pub met_inside : Material → StripSites → ℕ → ℕ
-met_inside material sites site =
-    met_at material.ends.now (open_at (view_by sites material)) (λ pair. 1) site
+    is_counted (open_at (view_by sites material)) site
+    (pair_beside material.form.ends.now site place)
 
 -- what a pair does not save of its surplus, where these sites are open in a list of choices
 abbrev pub unsaved_in : Instance → Move → (ℕ → ℕ) → List Choice → (ℕ → Bool) → Pair → ℕ
@@ -118,7 +75,8 @@ unsaved_in m move f view x = unsaved_surplus m move f (choice_at view) (open_ran
 
 -- what the pairs that count at a site do not save
 abbrev pub unsaved_at : Instance → Move → (ℕ → ℕ) → Material → StripSites → (ℕ → Bool) → ℕ → ℕ
-unsaved_at m move f material sites x = met_at material.ends.now (open_at (view_by sites material))
+unsaved_at m move f material sites x =
+    met_at material.form.ends.now (open_at (view_by sites material))
     (unsaved_in m move f (view_by sites material) x)
 
 -- the border of a site of the strip: what its pairs to open sites outside it come to

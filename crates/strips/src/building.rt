@@ -1,6 +1,6 @@
 //! The form of a strip and its border.
 ghost use Rattle.std.specs.Prelude.{◌≡◌, ◌<◌, ◌≤◌, ◌+◌, ◌+ℤ◌, ℕ, Bool, List, All, pos, length};
-ghost use Rattle.std.specs.Prelude.{vec_len, OnOk, replicate, []};
+ghost use Rattle.std.specs.Prelude.{vec_len, OnOk, replicate, [], ◌-◌};
 ghost use Rattle.label_field.specs.Limits.{site_limit};
 ghost use Rattle.compile_cut.specs.Limits.{form_size};
 ghost use Rattle.sink_distances.specs.Laying.{AreEndsCounted};
@@ -8,7 +8,8 @@ ghost use Rattle.strips.specs.RowForms.{form_in};
 ghost use Rattle.compile_cut.specs.Weights.{weights_size, weights_value};
 ghost use Rattle.move_energy.specs.Choices.{AreOpenSites};
 ghost use Rattle.move_energy.specs.declared.choice.Choice.{Choice as AnyChoice};
-ghost use Rattle.strips.specs.Building.{CanAsk, CanBuild, WhereSaved, AreStartWeights};
+ghost use Rattle.site_forms.specs.Numbers.{WhereRead};
+ghost use Rattle.strips.specs.Building.{CanBuild, AreStartWeights};
 ghost use Rattle.strips.specs.Building.{AreWeighed, IsStripNumbering};
 ghost use Rattle.strips.specs.Building.{AreStripSites, IsStripForm};
 ghost use Rattle.strips.specs.Strips.{IsStripLaid};
@@ -16,17 +17,18 @@ ghost use Rattle.strips.specs.Views.{strip_view};
 
 use crate::material::{Material, RowForm, StripSites};
 use crate::rows::{add_rows, count_rows};
-use label_field::Pair;
 use std::alloc::AllocError;
 
 /// Numbers the listed sites of a strip in their order, at places that are counted from its first
 /// site. What stands at other places means nothing. It takes time in proportion to the listed
-/// sites, and at the first use to all sites of the strip.
+/// sites, and at the first use to all sites of the strip: a list that is long enough stays so long.
 fn number_sites(numbers: &mut Vec<u32>, sites: &StripSites) -> Result<(), AllocError>
     requires few { length sites.now.opened.now ≤ site_limit }
     requires from { All (λ site. sites.now.from ≤ site) sites.now.opened.now }
     requires to { All (λ site. site < sites.now.to) sites.now.opened.now }
-    ensures { OnOk result ((known : List AnyChoice) →
+    ensures kept { sites.now.to - sites.now.from ≤ length numbers.old.items →
+        OnOk result (length numbers.new.items ≡ length numbers.old.items) }
+    ensures each { OnOk result ((known : List AnyChoice) →
         AreOpenSites (strip_view known sites.now.from sites.now.to) sites.now.opened.now →
         IsStripNumbering known sites.now numbers.new.items) }
 {
@@ -68,7 +70,7 @@ fn add_weights(weights: &mut Vec<i64>, list: &[i64])
 }
 
 /// The form of a strip that is a range of sites, and the border of each of its open sites, which
-/// are listed.
+/// are listed and get numbers.
 ///
 /// The form stands for the move with the open sites outside the strip at 0. With those at 1 each
 /// weight is less by the border of its site.
@@ -76,8 +78,7 @@ fn add_weights(weights: &mut Vec<i64>, list: &[i64])
 /// A pair is asked for its surplus where both sites are in the strip, and where the other site was
 /// open at the start and is at 1 by now or open outside the strip. The lists keep their memory from
 /// strip to strip.
-pub(crate) fn build_strip<S: Fn(Pair) -> i64>(
-    savings: &S,
+pub(crate) fn build_strip(
     material: &Material,
     sites: &StripSites,
     numbers: &mut Vec<u32>,
@@ -85,12 +86,15 @@ pub(crate) fn build_strip<S: Fn(Pair) -> i64>(
     list: &mut Vec<i64>,
     borders: &mut Vec<u64>,
 ) -> Result<(), AllocError>
-    requires ask { CanAsk (S.pre savings.now) (S.post savings.now) material.now }
     requires can { CanBuild material.now }
     requires opened { AreStripSites material.now sites.now }
     requires weighed { AreWeighed sites.now }
+    ensures kept { sites.now.to - sites.now.from ≤ length numbers.old.items →
+        OnOk result (length numbers.new.items ≡ length numbers.old.items) }
+    ensures numbering { OnOk result
+        (IsStripNumbering material.now.known.now sites.now numbers.new.items) }
     ensures sized { OnOk result (IsStripLaid sites.now form.new borders.new.items) }
-    ensures built { WhereSaved (S.post savings.now) material.now (λ m move f.
+    ensures built { WhereRead material.now.form (λ m move f.
         AreStartWeights material.now sites.now m move f → OnOk result (IsStripForm m move f
         material.now.known.now sites.now (form_in form.new) borders.new.items)) }
 {
@@ -98,7 +102,7 @@ pub(crate) fn build_strip<S: Fn(Pair) -> i64>(
     begin_form(form, sites.opened.len())?;
     count_rows(material, sites, numbers, &mut form.laying);
     form.laying.open()?;
-    add_rows(savings, material, sites, form, numbers, list, borders)?;
+    add_rows(material, sites, form, numbers, list, borders)?;
     add_weights(&mut form.weights, list);
     Ok(())
 }

@@ -1,20 +1,17 @@
 //! Strip after strip: each is built with what is known by then, and what its two sides tell is
 //! known from then on.
-ghost use Rattle.std.specs.Prelude.{◌≡◌, ◌<◌, ◌≤◌, [], ℕ, All, List, length, vec_len, unsigned_abs};
-ghost use Rattle.std.specs.Prelude.{OnOk, IfOk};
+ghost use Rattle.std.specs.Prelude.{◌≡◌, ◌<◌, ◌≤◌, [], ℕ, All, List, length, vec_len, OnOk, IfOk};
 ghost use Rattle.label_field.specs.Limits.{site_limit};
-ghost use Rattle.label_energies.specs.declared.change.Move.{Move as AnyMove};
-ghost use Rattle.label_energies.specs.Energies.{Instance, IsInstance};
+ghost use Rattle.label_energies.specs.Energies.{IsInstance};
 ghost use Rattle.pseudo_bool.specs.Limits.{term_limit};
 ghost use Rattle.compile_cut.specs.Quadratics.{IsQuadraticBounded};
-ghost use Rattle.cost_store.specs.Posed.{WhereMeant};
+ghost use Rattle.compile_cut.specs.Weights.{weights_size};
 ghost use Rattle.move_energy.specs.Choices.{choice_at, choice_of, value_of, open_count};
-ghost use Rattle.move_energy.specs.Choices.{AreOpenSites};
+ghost use Rattle.move_energy.specs.Choices.{AreOpenSites, IsNumbering};
 ghost use Rattle.move_energy.specs.declared.choice.Choice.{Choice as AnyChoice};
-ghost use Rattle.move_energy.specs.Limits.{surplus_limit};
+ghost use Rattle.move_energy.specs.Limits.{weights_limit};
 ghost use Rattle.move_energy.specs.Problems.{Stands};
-ghost use Rattle.move_energy.specs.Weights.{surplus_of, pair_table};
-ghost use Rattle.move_prices.specs.Finding.{WhereFound};
+ghost use Rattle.move_energy.specs.Weights.{AreWeights};
 ghost use Rattle.move_prices.specs.MoveValues.{move_value};
 ghost use Rattle.site_forms.specs.Numbers.{IsOverPairs, WhereRead};
 ghost use Rattle.persistency.specs.Agreeing.{Agree};
@@ -25,14 +22,14 @@ ghost use Rattle.strips.specs.Parts.{EndsWithStrip};
 ghost use Rattle.strips.specs.Sides.{IsAsTold};
 ghost use Rattle.strips.specs.Views.{IsView, KeepsChosen, strip_view};
 
-use crate::cutting::{build_asked, cut_asked, cut_read, list_weights};
-use crate::material::{Basis, Room, StripSites};
+use crate::cutting::{cut_read, cut_strip, list_weights, write_open};
+use crate::material::{Basis, Material, Room, StripSites};
 use crate::opening::list_next;
-use crate::sides::write_form;
+use crate::parting::read_weights;
 use crate::telling::tell_strip;
 use move_energy::{Choice, MoveEnergy};
 use plain_cut::BothSides;
-use site_bounds::{MoveToFind, SiteForm};
+use site_bounds::SiteForm;
 use std::alloc::{AllocError, Global};
 use std::mem::swap;
 
@@ -87,36 +84,41 @@ impl Strips {
         Ok(())
     }
 
-    /// Closes in a strip by the costs of the move: the listed open sites before a site. It lists
-    /// those that are left.
-    fn close_asked<F: Fn(u32, u32) -> i64 + Sync, V: Fn(u32, u32) -> i64 + Sync>(
+    /// Closes in a strip from the weights at the start: the listed open sites before a site. It
+    /// lists those that are left.
+    fn close_weighed(
         &mut self,
-        step: &MoveToFind<F, V>,
+        form: &SiteForm,
         basis: &Basis,
         known: &mut Vec<Choice>,
         to: u32,
     ) -> Result<(), AllocError>
-        requires can { CanClose F.Fn V.Fn step.now basis.now known.old.items }
+        requires can { CanClose form.now basis.now known.old.items }
         requires opened { AreOpenSites (strip_view known.old.items 0 to) self.old.opened.items }
-        ensures can { OnOk result (CanClose F.Fn V.Fn step.now basis.now known.new.items) }
+        ensures can { OnOk result (CanClose form.now basis.now known.new.items) }
         ensures opened { OnOk result
             (AreOpenSites (strip_view known.new.items 0 to) self.new.opened.items) }
-        ensures agree { WhereFound F.Fn V.Fn step.now (λ m move f.
+        ensures agree { WhereRead form.now (λ m move f.
             Agree m.sites (move_value m move f) (choice_at known.old.items) →
             OnOk result (Agree m.sites (move_value m move f) (choice_at known.new.items))) }
     {
         list_weights(&mut self.weights, basis.weights, &self.opened)?;
+        let material = Material {
+            form: *form,
+            start: basis.start,
+            known,
+        };
         let sites = StripSites {
             from: 0,
             to,
             opened: &self.opened,
             weights: &self.weights,
         };
-        let sides = cut_asked(step, basis, known, &sites, &mut self.room)?;
+        let sides = cut_strip(&material, &sites, &mut self.room)?;
         self.tell(known, &sides)
     }
 
-    /// Closes in a strip by numbers alone: the listed open sites from one on, before another. It
+    /// Closes in a strip by what is known: the listed open sites from one on, before another. It
     /// lists those that are left.
     pub(crate) fn close_read(
         &mut self,
@@ -195,26 +197,26 @@ impl Strips {
     /// Closes in all strips but the last, so many sites each and what the strip before left open.
     /// It leaves the choices that are known then, and the form of the last strip, whose open sites
     /// are listed: its least assignment is what is left to be found.
-    pub fn close_in<F: Fn(u32, u32) -> i64 + Sync, V: Fn(u32, u32) -> i64 + Sync>(
+    pub fn close_in(
         &mut self,
-        step: &MoveToFind<F, V>,
+        form: &SiteForm,
         basis: &Basis,
         built: &mut MoveEnergy,
         size: usize,
     ) -> Result<(), AllocError>
-        requires begins { IsBasisOf F.Fn V.Fn step.now basis.now }
+        requires begins { IsBasisOf form.now basis.now }
         requires some { 0 < size }
         ensures count { OnOk result
-            (length built.new.variables.choices.items ≡ length step.now.at.now) }
+            (length built.new.variables.choices.items ≡ length form.now.at.now) }
         ensures more { OnOk result (IsView basis.now.start.now
-            built.new.variables.choices.items (length step.now.at.now)) }
+            built.new.variables.choices.items (length form.now.at.now)) }
         ensures opened { OnOk result
             (AreOpenSites built.new.variables.choices.items self.new.opened.items) }
         ensures bounded { OnOk result (IsQuadraticBounded term_limit built.new.form) }
         ensures few { OnOk result (vec_len built.new.form.weights ≤ site_limit) }
-        ensures stands { WhereMeant F.Fn V.Fn step.now.problem.now
-            (λ m. OnOk result (Stands m step.now.change step.now.at.now built.new)) }
-        ensures agree { WhereFound F.Fn V.Fn step.now (λ m move f.
+        ensures stands { WhereRead form.now
+            (λ m move f. OnOk result (Stands m move form.now.at.now built.new)) }
+        ensures agree { WhereRead form.now (λ m move f.
             Agree m.sites (move_value m move f) (choice_at basis.now.start.now) →
             OnOk result (Agree m.sites (move_value m move f)
             (choice_at built.new.variables.choices.items))) }
@@ -226,26 +228,122 @@ impl Strips {
         let all = basis.start.len() as u32;
         let mut to = list_next(&built.variables.choices, &mut self.opened, 0, 0, all, size)?;
         'strips: while to < all {
-            self.close_asked(step, basis, &mut built.variables.choices, to)?;
+            self.close_weighed(form, basis, &mut built.variables.choices, to)?;
             let more = size.max(self.opened.len());
             to = list_next(&built.variables.choices, &mut self.opened, 0, to, all, more)?;
         }
-        list_weights(&mut self.weights, basis.weights, &self.opened)?;
-        let sites = StripSites {
-            from: 0,
-            to,
-            opened: &self.opened,
-            weights: &self.weights,
-        };
-        build_asked(
-            step,
-            basis,
-            &built.variables.choices,
-            &sites,
-            &mut self.room,
-        )?;
-        write_form(&self.room.form, &mut built.form)?;
         swap(&mut built.variables.of_sites, &mut self.room.numbers);
+        list_weights(&mut self.weights, basis.weights, &self.opened)?;
+        let material = Material {
+            form: *form,
+            start: basis.start,
+            known: &built.variables.choices,
+        };
+        write_open(
+            &material,
+            &self.opened,
+            &self.weights,
+            &mut self.room,
+            &mut built.variables.of_sites,
+            &mut built.form,
+        )?;
+        Ok(())
+    }
+
+    /// Lists all open sites, for which all sites are passed.
+    pub fn list_open(&mut self, known: &[Choice]) -> Result<(), AllocError>
+        requires few { length known.now ≤ site_limit }
+        ensures opened { OnOk result (AreOpenSites known.now self.new.opened.items) }
+    {
+        self.opened.clear();
+        let all = known.len() as u32;
+        list_next(known, &mut self.opened, 0, 0, all, usize::MAX)?;
+        Ok(())
+    }
+
+    /// The form of a move over all its open sites, which are listed, from what each site weighs by
+    /// what is known, and their numbers by site. It takes time in proportion to the open sites and
+    /// their neighbours, and at the first use to all sites. It refuses only where memory runs out.
+    pub fn build_open(
+        &mut self,
+        form: &SiteForm,
+        weights: &[i64],
+        opened: &[u32],
+        built: &mut MoveEnergy,
+    ) -> Result<(), AllocError>
+        requires over { IsOverPairs form.now }
+        requires count { length built.old.variables.choices.items ≡ length form.now.at.now }
+        requires opened { AreOpenSites built.old.variables.choices.items opened.now }
+        requires weighed { length weights.now ≡ length form.now.at.now }
+        requires size { weights_size weights.now ≤ weights_limit }
+        requires weights { WhereRead form.now (λ m move f.
+            AreWeights m move f (choice_at built.old.variables.choices.items) weights.now) }
+        ensures kept { built.new.variables.choices.items ≡ built.old.variables.choices.items }
+        ensures numbering { OnOk result (IsNumbering built.new.variables.choices.items
+            built.new.variables.of_sites.items) }
+        ensures bounded { OnOk result (IsQuadraticBounded term_limit built.new.form) }
+        ensures few { OnOk result (vec_len built.new.form.weights ≤ site_limit) }
+        ensures stands { WhereRead form.now
+            (λ m move f. OnOk result (Stands m move form.now.at.now built.new)) }
+    {
+        list_weights(&mut self.weights, weights, opened)?;
+        let material = Material {
+            form: *form,
+            start: &built.variables.choices,
+            known: &built.variables.choices,
+        };
+        write_open(
+            &material,
+            opened,
+            &self.weights,
+            &mut self.room,
+            &mut built.variables.of_sites,
+            &mut built.form,
+        )?;
+        Ok(())
+    }
+
+    /// The same, where it is not known what the sites weigh: that is read of each open site and its
+    /// neighbours.
+    pub fn build_read(
+        &mut self,
+        form: &SiteForm,
+        opened: &[u32],
+        built: &mut MoveEnergy,
+    ) -> Result<(), AllocError>
+        requires over { IsOverPairs form.now }
+        requires count { length built.old.variables.choices.items ≡ length form.now.at.now }
+        requires opened { AreOpenSites built.old.variables.choices.items opened.now }
+        ensures kept { built.new.variables.choices.items ≡ built.old.variables.choices.items }
+        ensures numbering { OnOk result (IsNumbering built.new.variables.choices.items
+            built.new.variables.of_sites.items) }
+        ensures bounded { OnOk result (IsQuadraticBounded term_limit built.new.form) }
+        ensures few { OnOk result (vec_len built.new.form.weights ≤ site_limit) }
+        ensures stands { WhereRead form.now
+            (λ m move f. OnOk result (Stands m move form.now.at.now built.new)) }
+    {
+        let to = form.at.len() as u32;
+        read_weights(
+            &mut self.weights,
+            form,
+            &built.variables.choices,
+            0,
+            to,
+            opened,
+        )?;
+        let material = Material {
+            form: *form,
+            start: &built.variables.choices,
+            known: &built.variables.choices,
+        };
+        write_open(
+            &material,
+            opened,
+            &self.weights,
+            &mut self.room,
+            &mut built.variables.of_sites,
+            &mut built.form,
+        )?;
         Ok(())
     }
 }

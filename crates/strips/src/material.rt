@@ -1,10 +1,9 @@
 //! What strips are built from: values that are lent, so that steps pass them on as one.
-ghost use Rattle.std.specs.Prelude.{◌≡◌};
 
-use label_field::Pairs;
-use move_energy::{Choice, Neighbours};
+use move_energy::Choice;
 use plain_cut::Workspace;
 use sink_distances::Laying;
+use site_bounds::SiteForm;
 use std::alloc::Global;
 
 /// What a move's strips begin with: what was known when all sites were decided, and the weights of
@@ -15,12 +14,11 @@ pub struct Basis<'a> {
     pub weights: &'a [i64],
 }
 
-/// What a strip is built from: the pairs and by site the neighbours, what was known at the start,
-/// and what is known by now.
+/// What a strip is built from: the form of its move, what was known at the start, and what is known
+/// by now.
 #[derive(Clone, Copy)]
 pub(crate) struct Material<'a> {
-    pub pairs: &'a Pairs,
-    pub ends: &'a Neighbours,
+    pub form: SiteForm<'a>,
     pub start: &'a [Choice],
     pub known: &'a [Choice],
 }
@@ -72,11 +70,11 @@ impl Room {
         }
     }
 
-    /// The rows of the next strip stand in what those of the last one stood in.
-    pub(crate) fn stand_again(&mut self, alloc: Global)
-        ensures starts { self.new.form.laying.nexts ≡ self.old.space.rows.starts }
-        ensures cells { self.new.form.laying.cells ≡ self.old.space.rows.cells }
-    {
+    /// The rows of the next strip stand in what those of the last one stood in, where that was cut.
+    pub(crate) fn stand_again(&mut self, alloc: Global) {
+        if self.form.laying.cells.capacity() > 0 {
+            return;
+        }
         let rows = self.space.take_rows(alloc);
         self.form.laying.nexts = rows.starts;
         self.form.laying.cells = rows.cells;

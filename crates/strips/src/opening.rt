@@ -25,6 +25,7 @@ pub(crate) fn list_next(
     ensures inside { IfOk result (λ to. to ≤ end) }
     ensures later { IfOk result (λ to. from ≤ to) }
     ensures further { IfOk result (λ to. from < end → from < to) }
+    ensures whole { IfOk result (λ to. end ≤ size → to ≡ end) }
     ensures opened { IfOk result (λ to.
         AreOpenSites (strip_view known.now first to) opened.new.items) }
 {

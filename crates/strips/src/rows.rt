@@ -2,8 +2,8 @@
 //! are found in one pass over the neighbours of each site.
 ghost use Rattle.std.specs.Prelude.{◌≡◌, ◌<◌, ◌≤◌, ◌+◌, ◌*◌, ◌-◌, ◌-ℤ◌, ◌<ℤ◌, ◌∷◌, [], ◌&&◌};
 ghost use Rattle.std.specs.Prelude.{true, not, pos, map, length, vec_len, sum, sum_by, All};
-ghost use Rattle.std.specs.Prelude.{unsigned_abs, IfOk, OnOk, MatchOption, false, ◌++◌, ℕ, List};
-ghost use Rattle.std.specs.Prelude.{◌≢◌};
+ghost use Rattle.std.specs.Prelude.{unsigned_abs, IfOk, OnOk, cond, ◌++◌, ℕ, List};
+ghost use Rattle.std.specs.Prelude.{◌≢◌, ◌||◌};
 ghost use Rattle.std.specs.Prelude.{slice_index, slice_set};
 ghost use Rattle.sums.specs.Sums.{count_if};
 ghost use Rattle.label_field.specs.Limits.{pair_limit};
@@ -16,13 +16,13 @@ ghost use Rattle.move_energy.specs.BySite.{degree, neighbour_at, neighbours_star
 ghost use Rattle.move_energy.specs.BySite.{pair_beside as beside_at};
 ghost use Rattle.move_energy.specs.Built.{AddsCost, IsLonger};
 ghost use Rattle.move_energy.specs.Choices.{choice_at, open_at, open_rank};
-ghost use Rattle.move_energy.specs.Weights.{are_open};
 ghost use Rattle.move_energy.specs.declared.choice.Choice.TheVariants.{Open};
 ghost use Rattle.move_energy.specs.Limits.{surplus_limit, weights_limit};
 ghost use Rattle.move_energy.specs.Weights.{pair_surplus as surplus_between};
 ghost use Rattle.persistency.specs.Borders.{border_at, is_beyond as beyond_of, not_ones, range_of};
 ghost use Rattle.persistency.specs.Borders.{is_inside as inside_of};
-ghost use Rattle.strips.specs.Building.{CanAsk, CanBuild, WhereSaved, AreStripSites, view_by};
+ghost use Rattle.site_forms.specs.Numbers.{WhereRead};
+ghost use Rattle.strips.specs.Building.{CanBuild, AreStripSites, view_by};
 ghost use Rattle.strips.specs.Building.{AreStartWeights, AreWeighed};
 ghost use Rattle.strips.specs.Building.{IsStripNumbering};
 ghost use Rattle.sink_distances.specs.Laying.{AreEndsCounted};
@@ -30,59 +30,61 @@ ghost use Rattle.sink_distances.specs.Rows.{arc_ends};
 ghost use Rattle.compile_cut.specs.Weights.{source_part};
 ghost use Rattle.pseudo_bool.specs.Energies.{entry};
 ghost use Rattle.strips.specs.RowForms.{arcs_in, form_in, IsFirstPart, IsLaidTo};
-ghost use Rattle.strips.specs.Meeting.{is_met, ends_at, ends_met, strip_ends, IsPairInside, IsMet};
-ghost use Rattle.strips.specs.Building.{counts_in, met_inside, unsaved_in, unsaved_at};
+ghost use Rattle.strips.specs.Meeting.{is_met, ends_at, ends_met, strip_ends, IsMet};
+ghost use Rattle.strips.specs.Building.{counts_in, unsaved_in, unsaved_at};
 ghost use Rattle.strips.specs.Building.{border_of_site, weight_by_now};
 ghost use Rattle.strips.specs.Limits.{borders_limit};
 
 use crate::material::{Material, RowForm, StripSites};
 use compile_cut::Quadratic;
 use label_field::Pair;
-use move_energy::{Choice, pair_beside};
+use move_energy::{Choice, is_first, pair_beside};
 use sink_distances::Laying;
+use site_bounds::pair_saving;
 use std::alloc::AllocError;
 
-/// Whether a site is an open one of the strip.
-#[inline]
-fn is_inside(known: &[Choice], from: u32, to: u32, site: u32) -> bool
-    requires { site < length known.now }
-    ensures { result ≡ inside_of (choice_at known.now) (range_of from to) site }
-{
-    known[site as usize].is_open() && (site >= from && site < to)
-}
-
-/// Whether the pair to a neighbour counts in one of the two borders of a site of the strip.
+/// What a neighbour is to a site of the strip: at most one of these.
 #[derive(Clone, Copy)]
-struct Counts {
-    /// The neighbour was open at the start and is at 1 by now.
+struct Beside {
+    /// It was open at the start and is at 1 by now.
     one: bool,
     /// It is open and lies outside the strip.
     beyond: bool,
+    /// It is open and lies in the strip.
+    inside: bool,
 }
 
-/// In which border the pair to a neighbour counts. It is looked at once.
+/// What a neighbour is to a site of the strip. It is looked at once.
 #[inline]
-fn counts_of(material: &Material, sites: &StripSites, head: u32) -> Counts
+fn look_at(material: &Material, sites: &StripSites, head: u32) -> Beside
     requires start { head < length material.now.start.now }
     requires known { head < length material.now.known.now }
     ensures one { result.one ≡ beyond_of (choice_at material.now.start.now)
         (not_ones (choice_at material.now.known.now)) head }
     ensures beyond { result.beyond ≡ beyond_of (choice_at material.now.known.now)
         (range_of sites.now.from sites.now.to) head }
+    ensures inside { result.inside ≡ inside_of (choice_at material.now.known.now)
+        (range_of sites.now.from sites.now.to) head }
 {
     match material.known[head as usize] {
-        Choice::Zero => Counts {
+        Choice::Zero => Beside {
             one: false,
             beyond: false,
+            inside: false,
         },
-        Choice::One => Counts {
+        Choice::One => Beside {
             one: material.start[head as usize].is_open(),
             beyond: false,
+            inside: false,
         },
-        Choice::Open => Counts {
-            one: false,
-            beyond: !(head >= sites.from && head < sites.to),
-        },
+        Choice::Open => {
+            let inside = head >= sites.from && head < sites.to;
+            Beside {
+                one: false,
+                beyond: !inside,
+                inside,
+            }
+        }
     }
 }
 
@@ -93,7 +95,7 @@ fn site_at(material: &Material, sites: &StripSites, index: usize) -> u32
     requires opened { AreStripSites material.now sites.now }
     requires index { index < length sites.now.opened.now }
     ensures value { result ≡ slice_index sites.now.opened.now index }
-    ensures site { (result < material.now.pairs.now.sites)
+    ensures site { (result < material.now.form.pairs.now.sites)
         × (open_at (view_by sites.now material.now) result ≡ true) }
 {
     sites.opened[index]
@@ -103,69 +105,87 @@ fn site_at(material: &Material, sites: &StripSites, index: usize) -> u32
 #[inline]
 fn row_start(material: &Material, site: u32) -> u32
     requires can { CanBuild material.now }
-    requires site { site ≤ material.now.pairs.now.sites }
-    ensures { result ≡ neighbours_start material.now.ends.now site }
+    requires site { site ≤ material.now.form.pairs.now.sites }
+    ensures { result ≡ neighbours_start material.now.form.ends.now site }
 {
-    material.ends.starts[site as usize]
+    material.form.ends.starts[site as usize]
 }
 
 /// The neighbour of a site at a place.
 #[inline]
 fn head_beside(material: &Material, site: u32, place: u32) -> u32
     requires can { CanBuild material.now }
-    requires site { site < material.now.pairs.now.sites }
-    requires place { (neighbours_start material.now.ends.now site ≤ place)
-        × (place < neighbours_start material.now.ends.now (site + 1)) }
-    ensures head { result ≡ neighbour_at material.now.ends.now place }
-    ensures inside { result < material.now.pairs.now.sites }
+    requires site { site < material.now.form.pairs.now.sites }
+    requires place { (neighbours_start material.now.form.ends.now site ≤ place)
+        × (place < neighbours_start material.now.form.ends.now (site + 1)) }
+    ensures head { result ≡ neighbour_at material.now.form.ends.now place }
+    ensures inside { result < material.now.form.pairs.now.sites }
 {
-    material.ends.heads[place as usize]
+    material.form.ends.heads[place as usize]
 }
 
-/// The surplus of the pair of a site and a neighbour where it counts. Where it does not, 0, and it
-/// is not asked for.
+/// Whether the pair of a site of the strip and a neighbour is met there: the neighbour is inside,
+/// and the site is the first of the two.
 #[inline]
-fn counted_surplus<S: Fn(Pair) -> i64>(
-    savings: &S,
+fn is_met_at(
     material: &Material,
+    sites: &StripSites,
     site: u32,
     place: u32,
-    counts: bool,
-) -> i64
-    requires ask { CanAsk (S.pre savings.now) (S.post savings.now) material.now }
+    head: u32,
+    inside: bool,
+) -> bool
     requires can { CanBuild material.now }
-    requires site { site < material.now.pairs.now.sites }
-    requires place { (neighbours_start material.now.ends.now site ≤ place)
-        × (place < neighbours_start material.now.ends.now (site + 1)) }
-    ensures value { WhereSaved (S.post savings.now) material.now (λ m move f. result
+    requires site { (site < material.now.form.pairs.now.sites)
+        × (open_at (view_by sites.now material.now) site ≡ true) }
+    requires place { (neighbours_start material.now.form.ends.now site ≤ place)
+        × (place < neighbours_start material.now.form.ends.now (site + 1)) }
+    requires head { head ≡ neighbour_at material.now.form.ends.now place }
+    requires inside { inside ≡ inside_of (choice_at material.now.known.now)
+        (range_of sites.now.from sites.now.to) head }
+    ensures { result ≡ is_met material.now sites.now site place }
+{
+    if !inside {
+        return false;
+    }
+    is_first(material.form.ends, site, place as usize, head)
+}
+
+/// Whether the pair to a neighbour counts in any of the three ways.
+#[inline]
+fn counts_somewhere(beside: Beside, met: bool) -> bool
+    ensures { result ≡ (beside.one || beside.beyond || met) }
+{
+    beside.one || beside.beyond || met
+}
+
+/// What the pair of a site and a neighbour saves where it counts. Where it does not, 0, and nothing
+/// is read of it.
+#[inline]
+fn counted_saving(material: &Material, site: u32, place: u32, counts: bool) -> i64
+    requires can { CanBuild material.now }
+    requires site { site < material.now.form.pairs.now.sites }
+    requires place { (neighbours_start material.now.form.ends.now site ≤ place)
+        × (place < neighbours_start material.now.form.ends.now (site + 1)) }
+    ensures value { WhereRead material.now.form (λ m move f. result
         ≡ pos (count_if counts
-        (surplus_between m move f (beside_at material.now.ends.now site place)))) }
+        (surplus_between m move f (beside_at material.now.form.ends.now site place)))) }
     ensures range { unsigned_abs result ≤ surplus_limit }
 {
     if !counts {
         return 0;
     }
-    let pair = pair_beside(material.pairs, material.ends, site, place);
-    savings(pair)
+    let pair = pair_beside(material.form.pairs, material.form.ends, site, place);
+    pair_saving(&material.form, pair)
 }
 
-/// The pair of a site of the strip and a neighbour, where that is in the strip as well.
+/// A number where it counts, and else 0.
 #[inline]
-fn pair_inside(material: &Material, sites: &StripSites, site: u32, place: u32) -> Option<Pair>
-    requires can { CanBuild material.now }
-    requires site { (site < material.now.pairs.now.sites)
-        × (open_at (view_by sites.now material.now) site ≡ true) }
-    requires place { (neighbours_start material.now.ends.now site ≤ place)
-        × (place < neighbours_start material.now.ends.now (site + 1)) }
-    ensures { MatchOption result (are_open (choice_at (view_by sites.now material.now))
-        (beside_at material.now.ends.now site place) ≡ false)
-        (λ pair. IsPairInside material.now sites.now site place pair) }
+fn where_counted(counts: bool, number: i64) -> i64
+    ensures value { result ≡ cond counts number (pos 0) }
+    ensures range { unsigned_abs result ≤ unsigned_abs number }
 {
-    let head = head_beside(material, site, place);
-    if !is_inside(material.known, sites.from, sites.to, head) {
-        return None;
-    }
-    Some(pair_beside(material.pairs, material.ends, site, place))
+    if counts { number } else { 0 }
 }
 
 /// The node of an open site of the strip. `numbers` has the node of each site of the strip.
@@ -178,48 +198,37 @@ fn node_of(material: &Material, sites: &StripSites, numbers: &[u32], site: u32) 
     numbers[(site - sites.from) as usize]
 }
 
-/// A pair of the strip that is met at its first site, and the nodes of its two sites.
+/// The nodes of a pair of the strip.
 #[derive(Clone, Copy)]
 struct Met {
-    pair: Pair,
     first: u32,
     second: u32,
 }
 
-/// The pair of a site and a neighbour, where both are in the strip and the site is its first one.
-/// `numbers` has the node of each site of the strip.
+/// The nodes of a site and a neighbour whose pair is met there.
 #[inline]
-fn met_beside(
+fn met_nodes(
     material: &Material,
     sites: &StripSites,
     numbers: &[u32],
     site: u32,
     place: u32,
-) -> Option<Met>
+    head: u32,
+) -> Met
     requires can { CanBuild material.now }
     requires opened { AreStripSites material.now sites.now }
     requires numbering { IsStripNumbering material.now.known.now sites.now numbers.now }
-    requires site { (site < material.now.pairs.now.sites)
+    requires site { (site < material.now.form.pairs.now.sites)
         × (open_at (view_by sites.now material.now) site ≡ true) }
-    requires place { (neighbours_start material.now.ends.now site ≤ place)
-        × (place < neighbours_start material.now.ends.now (site + 1)) }
-    ensures { MatchOption result (is_met material.now sites.now site place ≡ false)
-        (λ met. IsMet material.now sites.now site place met) }
+    requires place { (neighbours_start material.now.form.ends.now site ≤ place)
+        × (place < neighbours_start material.now.form.ends.now (site + 1)) }
+    requires head { head ≡ neighbour_at material.now.form.ends.now place }
+    requires met { is_met material.now sites.now site place ≡ true }
+    ensures { IsMet material.now sites.now site place result }
 {
-    match pair_inside(material, sites, site, place) {
-        None => None,
-        Some(pair) => {
-            if pair.first != site {
-                return None;
-            }
-            let first = node_of(material, sites, numbers, pair.first);
-            let second = node_of(material, sites, numbers, pair.second);
-            Some(Met {
-                pair,
-                first,
-                second,
-            })
-        }
+    Met {
+        first: node_of(material, sites, numbers, site),
+        second: node_of(material, sites, numbers, head),
     }
 }
 
@@ -234,7 +243,7 @@ fn count_row(
     requires can { CanBuild material.now }
     requires opened { AreStripSites material.now sites.now }
     requires numbering { IsStripNumbering material.now.known.now sites.now numbers.now }
-    requires site { (site < material.now.pairs.now.sites)
+    requires site { (site < material.now.form.pairs.now.sites)
         × (open_at (view_by sites.now material.now) site ≡ true) }
     requires counted { (ends : List ℕ) × (AreEndsCounted (length sites.now.opened.now) ends
         laying.old.nexts.items) × (length ends ≤ 33554432) }
@@ -244,8 +253,12 @@ fn count_row(
         laying.new.nexts.items }
 {
     for place in row_start(material, site)..row_start(material, site + 1) {
-        if let Some(met) = met_beside(material, sites, numbers, site, place) {
-            laying.count(met.first, met.second);
+        let head = head_beside(material, site, place);
+        let beside = look_at(material, sites, head);
+        let met = is_met_at(material, sites, site, place, head, beside.inside);
+        if met {
+            let nodes = met_nodes(material, sites, numbers, site, place, head);
+            laying.count(nodes.first, nodes.second);
         }
     }
 }
@@ -264,9 +277,12 @@ pub(crate) fn count_rows(
     ensures { AreEndsCounted (length sites.now.opened.now) (strip_ends material.now sites.now)
         laying.new.nexts.items }
 {
+    // Copies of its own: what is written to the lists cannot change them, so they are read once.
+    let material = *material;
+    let sites = *sites;
     for index in 0..sites.opened.len() {
-        let site = site_at(material, sites, index);
-        count_row(material, sites, numbers, laying, site);
+        let site = site_at(&material, &sites, index);
+        count_row(&material, &sites, numbers, laying, site);
     }
 }
 
@@ -320,19 +336,19 @@ fn put_saving(form: &mut RowForm, first: u32, second: u32, surplus: i64) -> Resu
     Ok(())
 }
 
-/// Puts what the pair of a site and a neighbour saves where both are in the strip and at 1. It is
-/// put at its first end, and nothing at its second one.
+/// Puts what the pair of a site and a neighbour saves, where it is met there.
 #[inline]
-fn add_inside<S: Fn(Pair) -> i64>(
-    savings: &S,
+fn add_inside(
     material: &Material,
     sites: &StripSites,
     form: &mut RowForm,
     numbers: &[u32],
     site: u32,
     place: u32,
+    head: u32,
+    met: bool,
+    saving: i64,
 ) -> Result<(), AllocError>
-    requires ask { CanAsk (S.pre savings.now) (S.post savings.now) material.now }
     requires can { CanBuild material.now }
     requires opened { AreStripSites material.now sites.now }
     requires numbering { IsStripNumbering material.now.known.now sites.now numbers.now }
@@ -340,27 +356,30 @@ fn add_inside<S: Fn(Pair) -> i64>(
         form.old }
     requires begins { IsFirstPart (arc_ends (arcs_in form.old)
         ++ ends_met material.now sites.now site place) (strip_ends material.now sites.now) }
-    requires site { (site < material.now.pairs.now.sites)
+    requires site { (site < material.now.form.pairs.now.sites)
         × (open_at (view_by sites.now material.now) site ≡ true) }
-    requires place { (neighbours_start material.now.ends.now site ≤ place)
-        × (place < neighbours_start material.now.ends.now (site + 1)) }
+    requires place { (neighbours_start material.now.form.ends.now site ≤ place)
+        × (place < neighbours_start material.now.form.ends.now (site + 1)) }
+    requires head { head ≡ neighbour_at material.now.form.ends.now place }
+    requires met { met ≡ is_met material.now sites.now site place }
+    requires saving { unsigned_abs saving ≤ surplus_limit }
     ensures laid { OnOk result (IsLaidTo (length sites.now.opened.now)
         (strip_ends material.now sites.now) form.new) }
     ensures ends { OnOk result (arc_ends (arcs_in form.new) ≡ arc_ends (arcs_in form.old)
         ++ ends_met material.now sites.now site place) }
-    ensures adds { WhereSaved (S.post savings.now) material.now (λ m move f.
+    ensures adds { WhereRead material.now.form (λ m move f.
+        cond met saving (pos 0) ≡ pos (count_if met
+        (surplus_between m move f (beside_at material.now.form.ends.now site place))) →
         OnOk result (AddsCost (form_in form.old) (form_in form.new)
         (λ x. count_if (counts_in material.now sites.now site place)
         (unsaved_in m move f (view_by sites.now material.now) x
-        (beside_at material.now.ends.now site place))))) }
+        (beside_at material.now.form.ends.now site place))))) }
 {
-    match met_beside(material, sites, numbers, site, place) {
-        None => Ok(()),
-        Some(met) => {
-            let surplus = savings(met.pair);
-            put_saving(form, met.first, met.second, surplus)
-        }
+    if !met {
+        return Ok(());
     }
+    let nodes = met_nodes(material, sites, numbers, site, place, head);
+    put_saving(form, nodes.first, nodes.second, saving)
 }
 
 /// What the pairs of a site come to that lead to sites outside the strip.
@@ -374,15 +393,13 @@ struct SiteBorders {
 
 /// The row of a site, in one pass over its neighbours: its borders, and in the form what its pairs
 /// to other sites of the strip save.
-fn add_row<S: Fn(Pair) -> i64>(
-    savings: &S,
+fn add_row(
     material: &Material,
     sites: &StripSites,
     form: &mut RowForm,
     numbers: &[u32],
     site: u32,
 ) -> Result<SiteBorders, AllocError>
-    requires ask { CanAsk (S.pre savings.now) (S.post savings.now) material.now }
     requires can { CanBuild material.now }
     requires opened { AreStripSites material.now sites.now }
     requires numbering { IsStripNumbering material.now.known.now sites.now numbers.now }
@@ -390,21 +407,22 @@ fn add_row<S: Fn(Pair) -> i64>(
         form.old }
     requires begins { IsFirstPart (arc_ends (arcs_in form.old)
         ++ ends_at material.now sites.now site) (strip_ends material.now sites.now) }
-    requires site { (site < material.now.pairs.now.sites)
+    requires site { (site < material.now.form.pairs.now.sites)
         × (open_at (view_by sites.now material.now) site ≡ true) }
-    ensures ones { WhereSaved (S.post savings.now) material.now (λ m move f. IfOk result (λ found.
+    ensures ones { WhereRead material.now.form (λ m move f. IfOk result (λ found.
         found.ones ≡ pos (border_at m move f (choice_at material.now.start.now)
         (not_ones (choice_at material.now.known.now)) site))) }
-    ensures beyond { WhereSaved (S.post savings.now) material.now (λ m move f. IfOk result (λ found.
+    ensures beyond { WhereRead material.now.form (λ m move f. IfOk result (λ found.
         found.beyond ≡ pos (border_of_site m move f material.now sites.now site))) }
     ensures range { IfOk result (λ found.
-        (unsigned_abs found.ones ≤ surplus_limit * degree material.now.ends.now site)
-        × (unsigned_abs found.beyond ≤ surplus_limit * degree material.now.ends.now site)) }
+        (unsigned_abs found.ones ≤ surplus_limit * degree material.now.form.ends.now site)
+        × (unsigned_abs found.beyond
+        ≤ surplus_limit * degree material.now.form.ends.now site)) }
     ensures laid { OnOk result (IsLaidTo (length sites.now.opened.now)
         (strip_ends material.now sites.now) form.new) }
     ensures ends { OnOk result (arc_ends (arcs_in form.new) ≡ arc_ends (arcs_in form.old)
         ++ ends_at material.now sites.now site) }
-    ensures adds { WhereSaved (S.post savings.now) material.now (λ m move f. OnOk result
+    ensures adds { WhereRead material.now.form (λ m move f. OnOk result
         (AddsCost (form_in form.old) (form_in form.new)
         (λ x. unsaved_at m move f material.now sites.now x site))) }
 {
@@ -412,18 +430,22 @@ fn add_row<S: Fn(Pair) -> i64>(
     let mut beyond = 0i64;
     for place in row_start(material, site)..row_start(material, site + 1) {
         let head = head_beside(material, site, place);
-        let counts = counts_of(material, sites, head);
-        ones += counted_surplus(savings, material, site, place, counts.one);
-        beyond += counted_surplus(savings, material, site, place, counts.beyond);
-        add_inside(savings, material, sites, form, numbers, site, place)?;
+        let beside = look_at(material, sites, head);
+        let met = is_met_at(material, sites, site, place, head, beside.inside);
+        let counts = counts_somewhere(beside, met);
+        let saving = counted_saving(material, site, place, counts);
+        ones += where_counted(beside.one, saving);
+        beyond += where_counted(beside.beyond, saving);
+        add_inside(
+            material, sites, form, numbers, site, place, head, met, saving,
+        )?;
     }
     Ok(SiteBorders { ones, beyond })
 }
 
 /// The rows of all listed sites: the weights of the sites by now and their borders in lists, and in
 /// the form what pairs of two of them save.
-pub(crate) fn add_rows<S: Fn(Pair) -> i64>(
-    savings: &S,
+pub(crate) fn add_rows(
     material: &Material,
     sites: &StripSites,
     form: &mut RowForm,
@@ -431,7 +453,6 @@ pub(crate) fn add_rows<S: Fn(Pair) -> i64>(
     list: &mut Vec<i64>,
     borders: &mut Vec<u64>,
 ) -> Result<(), AllocError>
-    requires ask { CanAsk (S.pre savings.now) (S.post savings.now) material.now }
     requires can { CanBuild material.now }
     requires opened { AreStripSites material.now sites.now }
     requires weighed { AreWeighed sites.now }
@@ -447,13 +468,13 @@ pub(crate) fn add_rows<S: Fn(Pair) -> i64>(
         (strip_ends material.now sites.now) form.new) }
     ensures ends { OnOk result (arc_ends (arcs_in form.new)
         ≡ strip_ends material.now sites.now) }
-    ensures weights { WhereSaved (S.post savings.now) material.now (λ m move f.
+    ensures weights { WhereRead material.now.form (λ m move f.
         AreStartWeights material.now sites.now m move f → OnOk result
         (list.new.items ≡ map (weight_by_now m move f material.now) sites.now.opened.now)) }
-    ensures borders { WhereSaved (S.post savings.now) material.now (λ m move f. OnOk result
+    ensures borders { WhereRead material.now.form (λ m move f. OnOk result
         (borders.new.items
         ≡ map (border_of_site m move f material.now sites.now) sites.now.opened.now)) }
-    ensures adds { WhereSaved (S.post savings.now) material.now (λ m move f. OnOk result
+    ensures adds { WhereRead material.now.form (λ m move f. OnOk result
         (AddsCost (form_in form.old) (form_in form.new) (λ x.
         sum_by (unsaved_at m move f material.now sites.now x) sites.now.opened.now))) }
 {
@@ -461,9 +482,12 @@ pub(crate) fn add_rows<S: Fn(Pair) -> i64>(
     borders.clear();
     list.reserve(sites.opened.len())?;
     borders.reserve(sites.opened.len())?;
+    // Copies of its own: what is written to the lists cannot change them, so they are read once.
+    let material = *material;
+    let sites = *sites;
     for index in 0..sites.opened.len() {
-        let site = site_at(material, sites, index);
-        let found = add_row(savings, material, sites, form, numbers, site)?;
+        let site = site_at(&material, &sites, index);
+        let found = add_row(&material, &sites, form, numbers, site)?;
         list.push_reserved(sites.weights[index] - found.ones);
         borders.push_reserved(found.beyond.unsigned_abs());
     }

@@ -3,6 +3,7 @@ use Rattle.compile_cut.specs.Weights.{weights_value, weights_size}
 use Rattle.std.specs.Prelude.{slice_index}
 use Rattle.std.proofs.lemmas.List.{get_or-map}
 use Rattle.persistency.specs.Borders.{border_at, range_of}
+use Rattle.label_energies.specs.Energies.{labelling}
 use Rattle.move_energy.specs.Choices.{choice_at}
 use Rattle.strips.specs.Building.{IsStripNumbering}
 use Rattle.strips.proofs.Sizes.{sites_few, strip_ends_few}
@@ -17,31 +18,34 @@ use Rattle.strips.proofs.RowForms.{begun_laid, begun_ends, begun_constant, laid_
 use Rattle.strips.proofs.building.build_strip.Goals as goal
 
 pub number_sites-requires-clause-few : goal.number_sites-requires-clause-few
-number_sites-requires-clause-few g c =
+number_sites-requires-clause-few c =
     sites_few c.args.material.now c.args.sites.now c.requires.can c.requires.opened
 
 pub number_sites-requires-clause-from : goal.number_sites-requires-clause-from
-number_sites-requires-clause-from g c =
+number_sites-requires-clause-from c =
     let a = c.args in
     listed_from a.material.now.known.now a.sites.now.from a.sites.now.to a.sites.now.opened.now c.requires.opened
 
 pub number_sites-requires-clause-to : goal.number_sites-requires-clause-to
-number_sites-requires-clause-to g c =
+number_sites-requires-clause-to c =
     let a = c.args in
     listed_to a.material.now.known.now a.sites.now.from a.sites.now.to a.sites.now.opened.now c.requires.opened
 
 pub begin_form-requires : goal.begin_form-requires
-begin_form-requires g c =
+begin_form-requires c =
     sites_few c.args.material.now c.args.sites.now c.requires.can c.requires.opened
 
 pub count_rows-requires-clause-numbering : goal.count_rows-requires-clause-numbering
-count_rows-requires-clause-numbering g c =
+count_rows-requires-clause-numbering c =
     let a = c.args in
     let N : List ℕ → Type 0 = λ ns. IsStripNumbering a.material.now.known.now a.sites.now ns in
-    subst N (sym c.deref.ensures.value) (c.in_ok-number_sites.ensures a.material.now.known.now c.requires.opened)
+    subst N (sym c.deref.ensures.value) (c.in_ok-number_sites.ensures.each a.material.now.known.now c.requires.opened)
+
+pub returns-clause-numbering : goal.returns-clause-numbering
+returns-clause-numbering c = c.in_ok-number_sites.ensures.each c.args.material.now.known.now c.requires.opened
 
 pub open-requires-clause-small : goal.open-requires-clause-small
-open-requires-clause-small g c =
+open-requires-clause-small c =
     let a = c.args in
     let counted = c.count_rows.ensures in
     omega (
@@ -52,7 +56,7 @@ open-requires-clause-small g c =
     )
 
 pub add_rows-requires-clause-laid : goal.add_rows-requires-clause-laid
-add_rows-requires-clause-laid g c =
+add_rows-requires-clause-laid c =
     let a = c.args in
     let n = length a.sites.now.opened.now in
     let ends = strip_ends a.material.now a.sites.now in
@@ -60,7 +64,7 @@ add_rows-requires-clause-laid g c =
     begun_laid n ends form c.in_ok-begin_form.ensures.weights (c.in_ok-open.ensures n ends c.count_rows.ensures)
 
 pub add_rows-requires-clause-none : goal.add_rows-requires-clause-none
-add_rows-requires-clause-none g c =
+add_rows-requires-clause-none c =
     let a = c.args in
     let n = length a.sites.now.opened.now in
     let ends = strip_ends a.material.now a.sites.now in
@@ -68,7 +72,7 @@ add_rows-requires-clause-none g c =
     begun_ends n ends form (c.in_ok-open.ensures n ends c.count_rows.ensures)
 
 pub add_weights-requires-clause-room : goal.add_weights-requires-clause-room
-add_weights-requires-clause-room g c =
+add_weights-requires-clause-room c =
     let a = c.args in
     let rows = c.in_ok-add_rows.ensures in
     omega (
@@ -81,7 +85,7 @@ add_weights-requires-clause-room g c =
     )
 
 pub returns-clause-sized : goal.returns-clause-sized
-returns-clause-sized g c =
+returns-clause-sized c =
     let a = c.args in
     let rows = c.in_ok-add_rows.ensures in
     let old = c.add_rows.new.form in
@@ -99,8 +103,9 @@ returns-clause-sized g c =
     }
 
 pub returns-clause-built : goal.returns-clause-built
-returns-clause-built g c = λ m move f gives over weighs.
+returns-clause-built c = λ m move read weighs.
     let a = c.args in
+    let f = labelling a.material.now.form.at.now in
     let can = c.requires.can in
     let n = length a.sites.now.opened.now in
     let ends = strip_ends a.material.now a.sites.now in
@@ -123,13 +128,13 @@ returns-clause-built g c = λ m move f gives over weighs.
       subst S c.deref-3.ensures.value c.add_weights.ensures.size,
     ) in
     record {
-      stands = rows_stand m move f a.material.now.start.now a.material.now.known.now a.sites.now.from a.sites.now.to a.sites.now.opened.now a.material.now.pairs.now a.material.now.ends.now n (form_in first) old new list
-          over.sites_are over.pairs_are over.instance over.allowed can.by_site
-          (can.count ∙ sym over.sites_are) can.goes_on c.requires.opened
+      stands = rows_stand m move f a.material.now.start.now a.material.now.known.now a.sites.now.from a.sites.now.to a.sites.now.opened.now a.material.now.form.pairs.now a.material.now.form.ends.now n (form_in first) old new list
+          read.sites_are read.pairs_are read.instance read.allowed can.over.by_site
+          (can.count ∙ sym read.sites_are) can.goes_on c.requires.opened
           none refl (rows.laid.nodes ∙ sym begun.nodes) laid
-          (rows.weights m move f gives over weighs)
-          (rows.adds m move f gives over);
+          (rows.weights m move read weighs)
+          (rows.adds m move read);
       each = λ k l.
-          ap (λ (xs : List ℕ). slice_index xs k) (rows.borders m move f gives over)
+          ap (λ (xs : List ℕ). slice_index xs k) (rows.borders m move read)
           ∙ get_or-map (border_at m move f (choice_at a.material.now.known.now) (range_of a.sites.now.from a.sites.now.to)) a.sites.now.opened.now k 0 0 l;
     }

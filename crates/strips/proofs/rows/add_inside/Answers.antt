@@ -1,43 +1,47 @@
-use Rattle.std.proofs.Common.{◌≡◌, ◌∙◌, ◌++◌, ℕ, List, length, ap, sym, subst}
+use Rattle.std.proofs.Common.{◌∙◌, ◌++◌, ℕ, List, length, ap, sym, subst}
 use Rattle.std.proofs.lemmas.List.{append-nil}
 use Rattle.std.proofs.lemmas.Result.{on_ok_weaker}
-use Rattle.sums.specs.Sums.{count_if}
-use Rattle.label_field.specs.declared.pair.Pair.{Pair}
+use Rattle.label_energies.specs.Energies.{labelling}
 use Rattle.compile_cut.specs.Weights.{source_part}
 use Rattle.move_energy.specs.BySite.{is_counted, pair_beside}
-use Rattle.move_energy.specs.Built.{AddsCost}
 use Rattle.move_energy.specs.Choices.{choice_at, open_at, open_rank}
-use Rattle.move_energy.specs.Weights.{are_open, unsaved_surplus}
+use Rattle.move_energy.specs.Weights.{are_open, pair_surplus, unsaved_surplus}
 use Rattle.move_energy.proofs.Adding.{counted_adds}
-use Rattle.move_energy.proofs.Weighed.{surplus_counted, surplus_adds, surplus_passed}
+use Rattle.move_energy.proofs.Weighed.{surplus_adds, surplus_passed}
 use Rattle.sink_distances.specs.Rows.{arc_ends}
 use Rattle.strips.specs.Meeting.{strip_ends}
 use Rattle.strips.specs.RowForms.{arcs_in, form_in, IsFirstPart}
 use Rattle.strips.specs.Views.{strip_view}
 use Rattle.strips.proofs.Sizes.{strip_ends_few}
-use Rattle.strips.proofs.Borders.{regular_beside}
+use Rattle.strips.proofs.Borders.{saved_both}
+use Rattle.strips.proofs.Inside.{met_open}
 use Rattle.strips.proofs.Meeting.{ends_none, ends_some, unmet_adds, part_counted}
 use Rattle.strips.proofs.rows.add_inside.Goals as goal
 
-pub savings-surplus-requires : goal.savings-surplus-requires
-savings-surplus-requires g c =
-    let met = c.in-Some.ensures in
-    rw met.pair (c.requires.ask.takes_pairs c.args.site c.args.place met.valid)
-
-pub returns-in-None-clause-ends : goal.returns-in-None-clause-ends
-returns-in-None-clause-ends g c =
+pub returns-then-not-met-clause-ends : goal.returns-then-not-met-clause-ends
+returns-then-not-met-clause-ends c =
     let a = c.args in
-    let met = arc_ends (arcs_in a.form.now) in
-    sym (append-nil met) ∙ ap (λ (xs : List ℕ). met ++ xs) (sym (ends_none a.material.now a.sites.now a.site a.place c.in-None.ensures))
+    let first = arc_ends (arcs_in a.form.now) in
+    sym (append-nil first) ∙ ap (λ (xs : List ℕ). first ++ xs) (sym (ends_none a.material.now a.sites.now a.site a.place (sym c.requires.met ∙ c.if-not-met.true)))
+
+pub returns-then-not-met-clause-adds : goal.returns-then-not-met-clause-adds
+returns-then-not-met-clause-adds c = λ m move read worth.
+    let a = c.args in
+    let f = labelling a.material.now.form.at.now in
+    let v = strip_view a.material.now.known.now a.sites.now.from a.sites.now.to in
+    unmet_adds m move f (choice_at v) (open_rank v) (form_in a.form.now) (pair_beside a.material.now.form.ends.now a.site a.place)
+    (is_counted (open_at v) a.site (pair_beside a.material.now.form.ends.now a.site a.place)) (sym c.requires.met ∙ c.if-not-met.true)
+
+pub met_nodes-nodes-requires-clause-met : goal.met_nodes-nodes-requires-clause-met
+met_nodes-nodes-requires-clause-met c = sym c.requires.met ∙ c.if-not-met.false
 
 pub put_saving-requires-clause-laid : goal.put_saving-requires-clause-laid
-put_saving-requires-clause-laid g c =
+put_saving-requires-clause-laid c =
     let a = c.args in
-    let met = c.in-Some.ensures in
-    let opened = a.sites.now.opened.now in
+    let met = c.met_nodes-nodes.ensures in
     let all = strip_ends a.material.now a.sites.now in
-    let some = ends_some a.material.now a.sites.now a.site a.place c.in-Some.met met in (
-      length opened,
+    let some = ends_some a.material.now a.sites.now a.site a.place c.met_nodes-nodes.result met in (
+      length a.sites.now.opened.now,
       all,
       c.requires.laid,
       subst (λ (xs : List ℕ). IsFirstPart (arc_ends (arcs_in a.form.now) ++ xs) all) some c.requires.begins,
@@ -46,48 +50,37 @@ put_saving-requires-clause-laid g c =
       strip_ends_few a.material.now a.sites.now c.requires.can c.requires.opened,
     )
 
-pub returns-in-None-clause-adds : goal.returns-in-None-clause-adds
-returns-in-None-clause-adds g c = λ m move f gives over.
-    let a = c.args in
-    let v = strip_view a.material.now.known.now a.sites.now.from a.sites.now.to in
-    unmet_adds m move f (choice_at v) (open_rank v) (form_in a.form.now) (pair_beside a.material.now.ends.now a.site a.place)
-    (is_counted (open_at v) a.site (pair_beside a.material.now.ends.now a.site a.place)) c.in-None.ensures
-
-pub returns-in-Some-clause-laid : goal.returns-in-Some-clause-laid
-returns-in-Some-clause-laid g c =
+pub returns-clause-laid : goal.returns-clause-laid
+returns-clause-laid c =
     let a = c.args in
     let all = strip_ends a.material.now a.sites.now in
-    let some = ends_some a.material.now a.sites.now a.site a.place c.in-Some.met c.in-Some.ensures in
+    let some = ends_some a.material.now a.sites.now a.site a.place c.met_nodes-nodes.result c.met_nodes-nodes.ensures in
     on_ok_weaker c.put_saving.result (λ laid. laid (length a.sites.now.opened.now) all c.requires.laid
     (subst (λ (xs : List ℕ). IsFirstPart (arc_ends (arcs_in a.form.now) ++ xs) all) some c.requires.begins)) c.put_saving.ensures.laid
 
-pub returns-in-Some-clause-ends : goal.returns-in-Some-clause-ends
-returns-in-Some-clause-ends g c =
+pub returns-clause-ends : goal.returns-clause-ends
+returns-clause-ends c =
     let a = c.args in
     let all = strip_ends a.material.now a.sites.now in
-    let some = ends_some a.material.now a.sites.now a.site a.place c.in-Some.met c.in-Some.ensures in
+    let some = ends_some a.material.now a.sites.now a.site a.place c.met_nodes-nodes.result c.met_nodes-nodes.ensures in
     on_ok_weaker c.put_saving.result (λ ends. ends (length a.sites.now.opened.now) all c.requires.laid
     (subst (λ (xs : List ℕ). IsFirstPart (arc_ends (arcs_in a.form.now) ++ xs) all) some c.requires.begins)
     ∙ ap (λ (xs : List ℕ). arc_ends (arcs_in a.form.now) ++ xs) (sym some)) c.put_saving.ensures.ends
 
-pub returns-in-Some-clause-adds : goal.returns-in-Some-clause-adds
-returns-in-Some-clause-adds g c = λ m move f gives over.
+pub returns-clause-adds : goal.returns-clause-adds
+returns-clause-adds c = λ m move read worth.
     let a = c.args in
+    let f = labelling a.material.now.form.at.now in
     let v = strip_view a.material.now.known.now a.sites.now.from a.sites.now.to in
+    let pair = pair_beside a.material.now.form.ends.now a.site a.place in
+    let nodes = c.met_nodes-nodes.result in
+    let met = c.met_nodes-nodes.ensures in
     let all = strip_ends a.material.now a.sites.now in
-    let met = c.in-Some.ensures in
-    let pair = c.in-Some.met.pair in
-    let inside = c.requires.site.0 in
-    let small = c.requires.ask.gives_small _ _ c.savings-surplus.ensures in
-    let some = ends_some a.material.now a.sites.now a.site a.place c.in-Some.met met in
+    let some = ends_some a.material.now a.sites.now a.site a.place nodes met in
     let begins = subst (λ (xs : List ℕ). IsFirstPart (arc_ends (arcs_in a.form.now) ++ xs) all) some c.requires.begins in
-    let regular = regular_beside m move f a.material.now.pairs.now a.material.now.ends.now a.site a.place pair c.requires.can.by_site inside c.requires.place.0 c.requires.place.1 over.pairs_are met.pair over.allowed in
-    let worth = surplus_counted m move f pair (are_open (choice_at v) pair) c.savings-surplus.result met.both regular (gives _ _ c.savings-surplus.ensures) in
-    let P : Pair → Type 0 = λ p. AddsCost (form_in a.form.now) (form_in c.put_saving.new.form) (λ x. count_if (is_counted (open_at v) a.site p) (unsaved_surplus m move f (choice_at v) (open_rank v) x p)) in
-    let counts : is_counted (open_at v) a.site pair ≡ _ = ap (is_counted (open_at v) a.site) met.pair ∙ met.counts in
-    let size = ap source_part (surplus_passed c.savings-surplus.result small) ∙ part_counted c.savings-surplus.result _ worth in
+    let both = met_open (are_open (choice_at v) pair) (is_counted (open_at v) a.site pair) met.is_so in
+    let saves = saved_both (are_open (choice_at v) pair) a.met a.saving (pair_surplus m move f pair) both.0 c.if-not-met.false worth in
     on_ok_weaker c.put_saving.result (λ adds.
-    subst P met.pair
-    (counted_adds (form_in a.form.now) (form_in c.put_saving.new.form) (λ x. unsaved_surplus m move f (choice_at v) (open_rank v) x pair) (is_counted (open_at v) a.site pair) counts
-    (surplus_adds m move f (choice_at v) (open_rank v) (form_in a.form.now) (form_in c.put_saving.new.form) pair _ _ _ c.savings-surplus.result
-    met.first met.second met.both worth size (adds (length a.sites.now.opened.now) all c.requires.laid begins)))) c.put_saving.ensures.adds
+    counted_adds (form_in a.form.now) (form_in c.put_saving.new.form) (λ x. unsaved_surplus m move f (choice_at v) (open_rank v) x pair) (is_counted (open_at v) a.site pair) both.1
+    (surplus_adds m move f (choice_at v) (open_rank v) (form_in a.form.now) (form_in c.put_saving.new.form) pair nodes.first nodes.second _ a.saving
+    met.first met.second both.0 saves (ap source_part (surplus_passed a.saving c.requires.saving) ∙ part_counted a.saving _ saves) (adds (length a.sites.now.opened.now) all c.requires.laid begins))) c.put_saving.ensures.adds

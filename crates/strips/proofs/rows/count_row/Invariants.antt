@@ -6,4 +6,4 @@ use Rattle.strips.proofs.rows.count_row.Given as goal
 
 abbrev pub invariant-loop-place : goal.invariant-loop-place
 invariant-loop-place l = (ends : List ℕ) → AreEndsCounted (length l.sites.opened.now) ends l.fn.laying.nexts.items
-    → AreEndsCounted (length l.sites.opened.now) (ends ++ ends_below l.material l.sites l.site (l.place - neighbours_start l.material.ends.now l.site)) l.laying.nexts.items
+    → AreEndsCounted (length l.sites.opened.now) (ends ++ ends_below l.material l.sites l.site (l.place - neighbours_start l.material.form.ends.now l.site)) l.laying.nexts.items
