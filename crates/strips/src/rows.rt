@@ -1,20 +1,15 @@
 //! The rows of a strip: what its sites weigh by now, what pairs within it save, and its border. All
 //! are found in one pass over the neighbours of each site.
-ghost use Rattle.std.specs.Prelude.{◌≡◌, ◌<◌, ◌≤◌, ◌+◌, ◌*◌, ◌-◌, ◌-ℤ◌, ◌<ℤ◌, ◌∷◌, [], ◌&&◌};
-ghost use Rattle.std.specs.Prelude.{true, not, pos, map, length, vec_len, sum, sum_by, All};
+ghost use Rattle.std.specs.Prelude.{◌≡◌, ◌<◌, ◌≤◌, ◌+◌, ◌*◌, ◌-◌, ◌-ℤ◌, ◌∷◌, [], ◌&&◌};
+ghost use Rattle.std.specs.Prelude.{true, not, pos, map, length, sum, sum_by, All};
 ghost use Rattle.std.specs.Prelude.{unsigned_abs, IfOk, OnOk, cond, ◌++◌, ℕ, List};
 ghost use Rattle.std.specs.Prelude.{◌≢◌, ◌||◌};
 ghost use Rattle.std.specs.Prelude.{slice_index, slice_set};
 ghost use Rattle.sums.specs.Sums.{count_if};
-ghost use Rattle.label_field.specs.Limits.{pair_limit};
-ghost use Rattle.pseudo_bool.specs.Energies.{IsValue};
-ghost use Rattle.pseudo_bool.specs.Limits.{term_limit};
-ghost use Rattle.regular.specs.Regularity.{IsRegularTable};
-ghost use Rattle.compile_cut.specs.Quadratics.{IsQuadraticBounded};
 ghost use Rattle.compile_cut.specs.Weights.{weights_size};
 ghost use Rattle.move_energy.specs.BySite.{degree, neighbour_at, neighbours_start};
 ghost use Rattle.move_energy.specs.BySite.{pair_beside as beside_at};
-ghost use Rattle.move_energy.specs.Built.{AddsCost, IsLonger};
+ghost use Rattle.move_energy.specs.Built.{AddsCost};
 ghost use Rattle.move_energy.specs.Choices.{choice_at, open_at, open_rank};
 ghost use Rattle.move_energy.specs.declared.choice.Choice.TheVariants.{Open};
 ghost use Rattle.move_energy.specs.Limits.{surplus_limit, weights_limit};
@@ -36,8 +31,6 @@ ghost use Rattle.strips.specs.Building.{border_of_site, weight_by_now};
 ghost use Rattle.strips.specs.Limits.{borders_limit};
 
 use crate::material::{Material, RowForm, StripSites};
-use compile_cut::Quadratic;
-use label_field::Pair;
 use move_energy::{Choice, is_first, pair_beside};
 use sink_distances::Laying;
 use site_bounds::pair_saving;

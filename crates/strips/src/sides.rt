@@ -1,7 +1,6 @@
 //! The two cuts of a strip's form.
-ghost use Rattle.std.specs.Prelude.{◌≡◌, ◌+◌, ◌≤◌, IfOk, OnOk, Bool, List, ℕ, length, sum};
+ghost use Rattle.std.specs.Prelude.{◌≡◌, ◌≤◌, IfOk, OnOk, Bool, List, ℕ, length, sum};
 ghost use Rattle.std.specs.Prelude.{vec_len};
-ghost use Rattle.label_field.specs.Limits.{site_limit, label_limit};
 ghost use Rattle.pseudo_bool.specs.Energies.{assignment};
 ghost use Rattle.pseudo_bool.specs.Limits.{term_limit};
 ghost use Rattle.compile_cut.specs.declared.quadratic.Quadratic.{Quadratic as Form};
