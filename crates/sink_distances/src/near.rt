@@ -1,5 +1,5 @@
 //! A search that ends early.
-ghost use Rattle.std.specs.Prelude.{◌≡◌, ◌≢◌, ◌+◌, ◌<◌, ◌≤◌, ◌^◌, ℕ, IsTrue, length, max, min};
+ghost use Rattle.std.specs.Prelude.{◌≡◌, ◌≢◌, ◌+◌, ◌<◌, ◌≤◌, ◌^◌, ℕ, length, max, min};
 ghost use Rattle.std.specs.Prelude.{slice_index};
 ghost use Rattle.flow_network.specs.Cut.{nodes, IsNet};
 ghost use Rattle.flow_network.specs.Preflow.{flow_by, sink_flows, AreRooms};
@@ -11,7 +11,7 @@ ghost use Rattle.sink_distances.specs.Laws.{AreLow};
 ghost use Rattle.sink_distances.specs.Rows.{carried_flow, IsRows};
 ghost use Rattle.sink_distances.specs.Search.{AreDistancesUpTo};
 
-use crate::search::{mark_behind, mark_starts};
+use crate::search::{mark_behind, tally_starts};
 use crate::{Outline, Rows};
 
 /// How far a search went.
@@ -34,29 +34,6 @@ pub struct Aim<'a> {
     pub times: u64,
 }
 
-/// When a search ends early: once the nodes that were found have more than enough excess. A whole
-/// search does not.
-#[derive(Clone, Copy)]
-struct Stop<'a> {
-    excess: &'a [u64],
-    enough: u64,
-    whole: bool,
-}
-
-/// So many times what the rooms of the nodes are together whose label is not 0, or the greatest
-/// number there is.
-fn room_times(labels: &[u32], rooms: &[u64], times: u64) -> u64
-    requires { length labels.now ≡ length rooms.now }
-{
-    let mut room = 0u64;
-    'nodes: for v in 0..rooms.len() {
-        if labels[v] > 0 {
-            room = room.saturating_add(rooms[v]);
-        }
-    }
-    room.saturating_mul(times)
-}
-
 /// Begins a search: a node of label 0 keeps it, and the others have none.
 fn clear(labels: &[u32], found: &mut [u32], none: u32)
     requires { length found.old ≡ length labels.now }
@@ -70,33 +47,21 @@ fn clear(labels: &[u32], found: &mut [u32], none: u32)
     }
 }
 
-/// An amount and what the nodes at these places of the order have, or the greatest number there is.
-/// What is no node is passed over.
-fn with_excess(seen: u64, excess: &[u64], order: &[u32]) -> u64 {
-    let mut sum = seen;
-    'found: for place in 0..order.len() {
-        let v = order[place] as usize;
-        if v < excess.len() {
-            sum = sum.saturating_add(excess[v]);
-        }
-    }
-    sum
-}
-
-/// Searches from the sink backwards, and passes over the nodes of label 0. It ends at the level by
-/// which the nodes that were found have more than enough excess: that level is the last that was
-/// found, and one above it the limit.
+/// Searches from the sink backwards, and passes over the nodes of label 0. Where it is no full one,
+/// it ends at the level by which the nodes that were found have more excess than the aim says: that
+/// level is the last that was found, and one above it the limit.
 fn search_near(
     net: &Outline,
     rows: &Rows,
     rooms: &[u64],
+    aim: &Aim<'_>,
     labels: &[u32],
-    stop: &Stop<'_>,
     found: &mut [u32],
     order: &mut [u32],
 ) -> Extent
     requires rows { IsRows net.now rows.now }
     requires rooms { AreRooms net.now rooms.now }
+    requires excess_len { length aim.now.excess.now ≡ nodes net.now }
     requires labels_len { length labels.now ≡ nodes net.now }
     requires unreached { AreZerosUnreached net.now
         (flow_by (carried_flow rows.now) (sink_flows net.now rooms.now)) labels.now }
@@ -107,31 +72,29 @@ fn search_near(
         (flow_by (carried_flow rows.now) (sink_flows net.now rooms.now))
         result.limit labels.now found.new }
     ensures count { result.count ≤ length order.new }
-    ensures whole { IsTrue stop.now.whole → result.limit ≡ top net.now }
+    ensures whole { aim.now.times + 1 ≡ 2 ^ 64 → result.limit ≡ top net.now }
 {
     clear(labels, found, net.top_label());
-    let mut count = mark_starts(net, rooms, found, order);
-    let mut seen = with_excess(0, stop.excess, &order[..count]);
+    let mut tally = tally_starts(net, rooms, aim.excess, found, order);
+    let enough = tally.room.saturating_mul(aim.times);
     let mut level = 1;
     let mut next = 0;
-    'levels: while next < count {
+    'levels: while next < tally.count {
         let w = order[next] as usize;
         let label = found[w];
-        if label > level && seen > stop.enough && !stop.whole {
+        if label > level && tally.excess > enough && aim.times < u64::MAX {
             return Extent {
                 limit: label + 1,
-                count,
+                count: tally.count,
             };
         }
         level = label;
-        let first = count;
-        count = mark_behind(net, rows, found, order, count, w);
-        seen = with_excess(seen, stop.excess, &order[first..count]);
+        tally = mark_behind(net, rows, aim.excess, found, order, tally, w);
         next += 1;
     }
     Extent {
         limit: net.top_label(),
-        count,
+        count: tally.count,
     }
 }
 
@@ -166,6 +129,7 @@ pub fn raise_labels(
 ) -> Extent
     requires rows { IsRows net.now rows.now }
     requires rooms { AreRooms net.now rooms.now }
+    requires excess_len { length aim.now.excess.now ≡ nodes net.now }
     requires labels { IsLabelling net.now
         (flow_by (carried_flow rows.now) (sink_flows net.now rooms.now)) labels.old }
     requires low { AreLow net.now labels.old }
@@ -190,13 +154,7 @@ pub fn raise_labels(
     ensures whole { aim.now.times + 1 ≡ 2 ^ 64 → result.limit ≡ top net.now }
 {
     let _nodes = net.nodes();
-    let enough = room_times(labels, rooms, aim.times);
-    let stop = Stop {
-        excess: aim.excess,
-        enough,
-        whole: aim.times == u64::MAX,
-    };
-    let extent = search_near(net, rows, rooms, labels, &stop, found, order);
+    let extent = search_near(net, rows, rooms, aim, labels, found, order);
     raise_to(labels, found, extent.limit);
     extent
 }

@@ -1,15 +1,16 @@
 //! Breadth-first searches from the sink backwards.
-ghost use Rattle.std.specs.Prelude.{◌≡◌, ◌+◌, ◌<◌, ◌≤◌, ℕ, length, slice_index};
+ghost use Rattle.std.specs.Prelude.{◌≡◌, ◌+◌, ◌<◌, ◌≤◌, ◌^◌, ℕ, length, slice_index};
 ghost use Rattle.flow_network.specs.Cut.{nodes, IsNet};
 ghost use Rattle.flow_network.specs.Preflow.{arc_at, flow_by, sink_flows, AreRooms};
+ghost use Rattle.flow_network.specs.Progress.{top_label};
 ghost use Rattle.sink_distances.specs.Adjacency.{IsAdjacency};
 ghost use Rattle.sink_distances.specs.Distances.{AreDistances};
-ghost use Rattle.sink_distances.specs.Rows.{carried_flow, head_at, opposite_at, residual_at};
-ghost use Rattle.sink_distances.specs.Rows.{IsRows};
+ghost use Rattle.sink_distances.specs.Laid.{opposite_in, standing_at, standing_opposite};
+ghost use Rattle.sink_distances.specs.Rows.{carried_flow, IsRows};
 ghost use Rattle.sink_distances.specs.Search.{found_of, AreStartsButZeros, AreUnlabelledOrZero};
 ghost use Rattle.sink_distances.specs.Search.{IsBefore, IsNextLabel, Grows};
 
-use crate::{Adjacency, Outline, Rows};
+use crate::{Adjacency, Cell, Outline, Rows};
 use flow_network::Graph;
 
 /// A net, its arcs by node, and what each arc carries.
@@ -18,6 +19,33 @@ struct Carried<'a> {
     net: &'a Graph,
     adjacency: &'a Adjacency,
     arc_flow: &'a [u64],
+}
+
+/// What a search has found. Amounts are summed modulo 2^64, which those of a net do not reach.
+#[derive(Clone, Copy)]
+pub(crate) struct Tally {
+    /// How many nodes were found.
+    pub(crate) count: usize,
+    /// What they have got and not passed on.
+    pub(crate) excess: u64,
+    /// What they can still give the sink.
+    pub(crate) room: u64,
+}
+
+/// Labels a node that has no label, and puts it last in the order. Answers how many nodes stand
+/// there.
+#[inline]
+fn put(labels: &mut [u32], order: &mut [u32], count: usize, v: u32, label: u32) -> usize
+    requires node { v < length labels.old }
+    requires none { slice_index labels.old v ≡ top_label (length labels.old) }
+    requires ready { IsNextLabel label (found_of labels.old order.old count) }
+    ensures grows { Grows label (λ u. u ≡ v)
+        (found_of labels.old order.old count) (found_of labels.new order.new result) }
+    ensures marked { slice_index labels.new v ≤ label }
+{
+    labels[v as usize] = label;
+    order[count] = v;
+    count + 1
 }
 
 /// Labels the node where it has no label, and puts it last in the order: the step of a search by
@@ -36,19 +64,12 @@ pub fn mark(labels: &mut [u32], order: &mut [u32], count: usize, v: u32, label: 
     if labels[v as usize] as usize != labels.len() + 2 {
         return count;
     }
-    labels[v as usize] = label;
-    order[count] = v;
-    count + 1
+    put(labels, order, count, v, label)
 }
 
 /// Labels the nodes that can give the sink more, but for those of label 0: these count as the sink
 /// itself, and the search passes them over.
-pub(crate) fn mark_starts(
-    net: &Outline,
-    rooms: &[u64],
-    labels: &mut [u32],
-    order: &mut [u32],
-) -> usize
+fn mark_starts(net: &Outline, rooms: &[u64], labels: &mut [u32], order: &mut [u32]) -> usize
     requires len { length labels.old ≡ nodes net.now }
     requires order_len { length order.old ≡ nodes net.now }
     requires rooms_len { length rooms.now ≡ nodes net.now }
@@ -256,35 +277,97 @@ pub fn write_distances(
     }
 }
 
+/// Labels the node, where it can give the sink more and has no label.
+#[inline]
+fn mark_start(
+    rooms: &[u64],
+    excess: &[u64],
+    labels: &mut [u32],
+    order: &mut [u32],
+    tally: Tally,
+    v: usize,
+) -> Tally
+    requires node { v < length labels.old }
+    requires small { v < 2 ^ 32 }
+    requires rooms_len { length rooms.now ≡ length labels.old }
+    requires excess_len { length excess.now ≡ length labels.old }
+    requires ready { IsNextLabel 1 (found_of labels.old order.old tally.count) }
+    ensures grows { Grows 1 (λ u. (u ≡ v) × (0 < slice_index rooms.now v))
+        (found_of labels.old order.old tally.count) (found_of labels.new order.new result.count) }
+    ensures marked { 0 < slice_index rooms.now v → slice_index labels.new v ≤ 1 }
+{
+    if rooms[v] == 0 || labels[v] as usize != labels.len() + 2 {
+        return tally;
+    }
+    Tally {
+        count: put(labels, order, tally.count, v as u32, 1),
+        excess: tally.excess.wrapping_add(excess[v]),
+        room: tally.room.wrapping_add(rooms[v]),
+    }
+}
+
+/// Labels the nodes that can give the sink more, as `mark_starts` does, and sums what they have.
+pub(crate) fn tally_starts(
+    net: &Outline,
+    rooms: &[u64],
+    excess: &[u64],
+    labels: &mut [u32],
+    order: &mut [u32],
+) -> Tally
+    requires len { length labels.old ≡ nodes net.now }
+    requires order_len { length order.old ≡ nodes net.now }
+    requires rooms_len { length rooms.now ≡ nodes net.now }
+    requires excess_len { length excess.now ≡ nodes net.now }
+    requires labels { AreUnlabelledOrZero net.now labels.old }
+    ensures limits { IsNet net.now }
+    ensures starts { AreStartsButZeros net.now rooms.now labels.old (nodes net.now)
+        (found_of labels.new order.new result.count) }
+{
+    let mut tally = Tally {
+        count: 0,
+        excess: 0,
+        room: 0,
+    };
+    'nodes: for v in 0..net.nodes() {
+        tally = mark_start(rooms, excess, labels, order, tally, v);
+    }
+    tally
+}
+
 /// Labels the node to which the direction at a place leads, where what its way back can carry is
 /// not used up. A node that has a label is passed over before the way back is looked up.
 #[inline]
 fn mark_back(
-    rows: &Rows,
+    cells: &[Cell],
+    excess: &[u64],
     labels: &mut [u32],
     order: &mut [u32],
-    count: usize,
+    tally: Tally,
     p: usize,
     label: u32,
-) -> usize
-    requires place { p < length rows.now.cells.items }
-    requires opposite { opposite_at rows.now p < length rows.now.cells.items }
-    requires head { head_at rows.now p < length labels.old }
-    requires ready { IsNextLabel label (found_of labels.old order.old count) }
-    ensures grows { Grows label
-        (λ v. (v ≡ head_at rows.now p) × (0 < residual_at rows.now (opposite_at rows.now p)))
-        (found_of labels.old order.old count) (found_of labels.new order.new result) }
-    ensures marked { 0 < residual_at rows.now (opposite_at rows.now p) →
-        slice_index labels.new (head_at rows.now p) ≤ label }
+) -> Tally
+    requires place { p < length cells.now }
+    requires opposite { opposite_in cells.now p < length cells.now }
+    requires head { (standing_at cells.now p).head < length labels.old }
+    requires excess_len { length excess.now ≡ length labels.old }
+    requires ready { IsNextLabel label (found_of labels.old order.old tally.count) }
+    ensures grows { Grows label (λ v. (v ≡ (standing_at cells.now p).head)
+        × (0 < (standing_opposite cells.now p).residual))
+        (found_of labels.old order.old tally.count) (found_of labels.new order.new result.count) }
+    ensures marked { 0 < (standing_opposite cells.now p).residual →
+        slice_index labels.new (standing_at cells.now p).head ≤ label }
 {
-    let head = rows.cell(p).head;
-    if labels[head as usize] as usize != labels.len() + 2 {
-        return count;
+    let head = cells[p].head;
+    if labels[head as usize] as usize != labels.len() + 2
+        || cells[cells[p].opposite as usize].residual == 0
+    {
+        return tally;
     }
-    if rows.back(p) == 0 {
-        return count;
+    Tally {
+        count: put(labels, order, tally.count, head, label),
+        excess: tally.excess.wrapping_add(excess[head as usize]),
+        room: tally.room,
     }
-    mark(labels, order, count, head, label)
 }
 
 /// Labels the nodes that have a residual direction to the node: those to which its row leads, where
@@ -292,49 +375,54 @@ fn mark_back(
 fn mark_row(
     net: &Outline,
     rows: &Rows,
+    excess: &[u64],
     labels: &mut [u32],
     order: &mut [u32],
-    mut count: usize,
+    mut tally: Tally,
     w: usize,
     label: u32,
-) -> usize
+) -> Tally
     requires limits { IsNet net.now }
     requires rows { IsRows net.now rows.now }
     requires len { length labels.old ≡ nodes net.now }
+    requires excess_len { length excess.now ≡ nodes net.now }
     requires node { w < nodes net.now }
-    requires ready { IsNextLabel label (found_of labels.old order.old count) }
+    requires ready { IsNextLabel label (found_of labels.old order.old tally.count) }
     ensures grows { Grows label (IsBefore net.now (carried_flow rows.now) w)
-        (found_of labels.old order.old count) (found_of labels.new order.new result) }
+        (found_of labels.old order.old tally.count) (found_of labels.new order.new result.count) }
     ensures marked { (v : ℕ) → IsBefore net.now (carried_flow rows.now) w v
         → slice_index labels.new v ≤ label }
 {
+    let cells = rows.cells.as_slice();
     'row: for p in rows.starts[w]..rows.starts[w + 1] {
-        count = mark_back(rows, labels, order, count, p as usize, label);
+        tally = mark_back(cells, excess, labels, order, tally, p as usize, label);
     }
-    count
+    tally
 }
 
 /// Labels the nodes that have a residual direction to the node, one above its label.
 pub(crate) fn mark_behind(
     net: &Outline,
     rows: &Rows,
+    excess: &[u64],
     labels: &mut [u32],
     order: &mut [u32],
-    count: usize,
+    tally: Tally,
     w: usize,
-) -> usize
+) -> Tally
     requires limits { IsNet net.now }
     requires rows { IsRows net.now rows.now }
     requires len { length labels.old ≡ nodes net.now }
+    requires excess_len { length excess.now ≡ nodes net.now }
     requires node { w < nodes net.now }
     requires ready { IsNextLabel (slice_index labels.old w + 1)
-        (found_of labels.old order.old count) }
+        (found_of labels.old order.old tally.count) }
     ensures grows { Grows (slice_index labels.old w + 1)
         (IsBefore net.now (carried_flow rows.now) w)
-        (found_of labels.old order.old count) (found_of labels.new order.new result) }
+        (found_of labels.old order.old tally.count) (found_of labels.new order.new result.count) }
     ensures marked { (v : ℕ) → IsBefore net.now (carried_flow rows.now) w v →
         slice_index labels.new v ≤ slice_index labels.old w + 1 }
 {
     let label = labels[w] + 1;
-    mark_row(net, rows, labels, order, count, w, label)
+    mark_row(net, rows, excess, labels, order, tally, w, label)
 }

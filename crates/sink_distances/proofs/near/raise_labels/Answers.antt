@@ -1,5 +1,4 @@
 use Rattle.std.proofs.Common.{arith, ◌∙◌}
-use Rattle.std.proofs.lemmas.Bool.{eq-eqb}
 use Rattle.flow_network.specs.Preflow.{Flow, flow_by, sink_flows}
 use Rattle.sink_distances.specs.Rows.{carried_flow}
 use Rattle.sink_distances.proofs.Nearing.{raised_labelling, raised_zeros, raised_low, raised_near, raised_exact, AreRaisedTo}
@@ -27,5 +26,5 @@ returns c =
       count = c.search_near-extent.ensures.count;
       near = raised_near net flow limit found old new c.requires.labels near made told;
       full = raised_exact net flow limit found old new c.requires.labels c.requires.low near len told;
-      whole = λ most. c.search_near-extent.ensures.whole (eq-eqb c.args.aim.now.times 18446744073709551615 (omega (arith, most)));
+      whole = c.search_near-extent.ensures.whole;
     }

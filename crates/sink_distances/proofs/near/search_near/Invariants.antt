@@ -6,7 +6,7 @@ use Rattle.sink_distances.proofs.Nearing.{IsSearchedBeside}
 use Rattle.sink_distances.proofs.near.search_near.Given as goal
 
 abbrev pub invariant-levels : goal.invariant-levels
-invariant-levels l = IsSearchedBeside l.net (flow_by (carried_flow l.rows) (sink_flows l.net l.rooms)) l.labels l.next (found_of l.found l.order l.count)
+invariant-levels l = IsSearchedBeside l.net (flow_by (carried_flow l.rows) (sink_flows l.net l.rooms)) l.labels l.next (found_of l.found l.order l.tally.count)
 
 abbrev pub decreases-levels : goal.decreases-levels
 decreases-levels l = length l.initial.found - l.next

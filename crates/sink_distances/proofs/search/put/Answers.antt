@@ -1,6 +1,6 @@
 use Rattle.sink_distances.specs.Search.{found_of}
 use Rattle.sink_distances.proofs.Order.{grows_mark}
-use Rattle.sink_distances.proofs.search.mark.Goals as goal
+use Rattle.sink_distances.proofs.search.put.Goals as goal
 
 pub returns-clause-grows : goal.returns-clause-grows
 returns-clause-grows c =
@@ -8,6 +8,6 @@ returns-clause-grows c =
       order = c.requires.ready.order;
       below = c.requires.ready.below;
       node = c.requires.node;
-      none = c.if-labels-v.false;
+      none = c.requires.none;
       fits = c.requires.ready.next;
     })
