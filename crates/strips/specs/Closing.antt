@@ -1,24 +1,20 @@
 -- What is asked of a move that is closed in strip by strip.
 use Rattle.std.specs.Prelude.{◌≡◌, ◌≤◌, List, length}
 use Rattle.compile_cut.specs.Weights.{weights_size}
-use Rattle.move_energy.specs.Choices.{choice_at}
 use Rattle.move_energy.specs.declared.choice.Choice.{Choice}
 use Rattle.move_energy.specs.Limits.{weights_limit}
-use Rattle.move_energy.specs.Weights.{AreWeights}
 use Rattle.site_forms.specs.declared.numbers.SiteForm.{SiteForm}
-use Rattle.site_forms.specs.Numbers.{IsOverPairs, WhereRead}
+use Rattle.site_forms.specs.Numbers.{IsOverPairs}
 use Rattle.strips.specs.declared.material.Basis.{Basis}
 use Rattle.strips.specs.Views.{KeepsChosen}
 
--- the form is of its pairs, something is known of each of its sites at the start, and the weights
--- are those of the sites that are open then
+-- the form is of its pairs, something is known of each of its sites at the start, and each has a
+-- weight
 pub record IsBasisOf (form : SiteForm) (basis : Basis) : Type 0 where
   pub over : IsOverPairs form
   pub starts : length basis.start.now ≡ length form.at.now
   pub weighed : length basis.weights.now ≡ length form.at.now
   pub size : weights_size basis.weights.now ≤ weights_limit
-  pub weights : WhereRead form (λ m move f.
-      AreWeights m move f (choice_at basis.start.now) basis.weights.now)
 
 -- and this is known of its sites by now: what was chosen at the start stays
 pub record CanClose (form : SiteForm) (basis : Basis) (known : List Choice) : Type 0 where

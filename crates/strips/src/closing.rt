@@ -99,6 +99,7 @@ impl Strips {
         ensures opened { OnOk result
             (AreOpenSites (strip_view known.new.items 0 to) self.new.opened.items) }
         ensures agree { WhereRead form.now (λ m move f.
+            AreWeights m move f (choice_at basis.now.start.now) basis.now.weights.now →
             Agree m.sites (move_value m move f) (choice_at known.old.items) →
             OnOk result (Agree m.sites (move_value m move f) (choice_at known.new.items))) }
     {
@@ -214,9 +215,11 @@ impl Strips {
             (AreOpenSites built.new.variables.choices.items self.new.opened.items) }
         ensures bounded { OnOk result (IsQuadraticBounded term_limit built.new.form) }
         ensures few { OnOk result (vec_len built.new.form.weights ≤ site_limit) }
-        ensures stands { WhereRead form.now
-            (λ m move f. OnOk result (Stands m move form.now.at.now built.new)) }
+        ensures stands { WhereRead form.now (λ m move f.
+            AreWeights m move f (choice_at basis.now.start.now) basis.now.weights.now →
+            OnOk result (Stands m move form.now.at.now built.new)) }
         ensures agree { WhereRead form.now (λ m move f.
+            AreWeights m move f (choice_at basis.now.start.now) basis.now.weights.now →
             Agree m.sites (move_value m move f) (choice_at basis.now.start.now) →
             OnOk result (Agree m.sites (move_value m move f)
             (choice_at built.new.variables.choices.items))) }
@@ -276,15 +279,14 @@ impl Strips {
         requires opened { AreOpenSites built.old.variables.choices.items opened.now }
         requires weighed { length weights.now ≡ length form.now.at.now }
         requires size { weights_size weights.now ≤ weights_limit }
-        requires weights { WhereRead form.now (λ m move f.
-            AreWeights m move f (choice_at built.old.variables.choices.items) weights.now) }
         ensures kept { built.new.variables.choices.items ≡ built.old.variables.choices.items }
         ensures numbering { OnOk result (IsNumbering built.new.variables.choices.items
             built.new.variables.of_sites.items) }
         ensures bounded { OnOk result (IsQuadraticBounded term_limit built.new.form) }
         ensures few { OnOk result (vec_len built.new.form.weights ≤ site_limit) }
-        ensures stands { WhereRead form.now
-            (λ m move f. OnOk result (Stands m move form.now.at.now built.new)) }
+        ensures stands { WhereRead form.now (λ m move f.
+            AreWeights m move f (choice_at built.old.variables.choices.items) weights.now →
+            OnOk result (Stands m move form.now.at.now built.new)) }
     {
         list_weights(&mut self.weights, weights, opened)?;
         let material = Material {

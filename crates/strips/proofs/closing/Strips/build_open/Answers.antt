@@ -43,13 +43,13 @@ returns-clause-numbering c =
     subst K c.deref-2.ensures.value c.in_ok-write_open.ensures.numbering
 
 pub returns-clause-stands : goal.returns-clause-stands
-returns-clause-stands c = λ m move read.
+returns-clause-stands c = λ m move read are.
     let a = c.args in
     let f = labelling a.form.now.at.now in
     let known = a.built.now.variables.choices.items in
     let K : List Choice → Type 0 = λ ks. StandsFor m move f (choice_at ks) c.write_open.new.written (open_rank ks) in
     let starts = starts_listed m move f known known 0 (length known) a.opened.now a.weights.now c.deref-3.result.now
     (c.requires.count ∙ c.requires.over.sites ∙ sym read.sites_are) (c.deref-3.ensures.value ∙ c.in_ok-list_weights.ensures)
-    (whole_listed known a.opened.now (length known) (omega arith) c.requires.opened) (λ p l shuts. refl) (c.requires.weights m move read) in
+    (whole_listed known a.opened.now (length known) (omega arith) c.requires.opened) (λ p l shuts. refl) are in
     subst K c.deref-2.ensures.value
     (c.in_ok-write_open.ensures.stands m move read (starts ∙ ap (λ (ks : List Choice). map (site_weight m move f (choice_at ks)) a.opened.now) (sym c.deref.ensures.value)))

@@ -30,7 +30,7 @@ strips-init c =
         goes_on = λ p l shuts. ap (λ (xs : List Choice). choice_at xs p) same;
       };
       opened = subst O c.deref.ensures.value c.in_ok-to.ensures.opened;
-      agree = λ m move read agree.
+      agree = λ m move read are agree.
           let A : List Choice → Type 0 = λ known. Agree m.sites (move_value m move (labelling c.args.form.now.at.now)) (choice_at known) in
           subst A (sym same) agree;
     }
@@ -44,7 +44,7 @@ strips-preserved c =
       inside = next.inside;
       can = closed.can;
       opened = subst O c.deref-in-strips.ensures.value next.opened;
-      agree = λ m move read agree. closed.agree m move read (c.strips.invariant.agree m move read agree);
+      agree = λ m move read are agree. closed.agree m move read are (c.strips.invariant.agree m move read are agree);
     }
 
 pub returns-clause-opened : goal.returns-clause-opened
@@ -70,7 +70,7 @@ write_open-requires-clause-opened c =
     subst K (sym c.deref-3.ensures.value) (subst O (sym c.deref-4.ensures.value) (whole_listed known c.strips.to c.strips.self.opened.items all c.strips.invariant.opened))
 
 pub returns-clause-stands : goal.returns-clause-stands
-returns-clause-stands c = λ m move read.
+returns-clause-stands c = λ m move read are.
     let a = c.args in
     let f = labelling a.form.now.at.now in
     let known = c.strips.built.variables.choices.items in
@@ -79,7 +79,7 @@ returns-clause-stands c = λ m move read.
     let O : List ℕ → Type 0 = λ xs. AreOpenSites (strip_view known 0 c.strips.to) xs in
     let listed = c.deref-5.ensures.value ∙ c.in_ok-list_weights.ensures ∙ ap (map (weight_at a.basis.now.weights.now)) (c.deref-2.ensures.value ∙ sym c.deref-4.ensures.value) in
     let starts = starts_listed m move f a.basis.now.start.now known 0 c.strips.to c.deref-4.result.now a.basis.now.weights.now c.deref-5.result.now
-    (can.count ∙ can.begins.over.sites ∙ sym read.sites_are) listed (subst O (sym c.deref-4.ensures.value) c.strips.invariant.opened) can.goes_on (can.begins.weights m move read) in
+    (can.count ∙ can.begins.over.sites ∙ sym read.sites_are) listed (subst O (sym c.deref-4.ensures.value) c.strips.invariant.opened) can.goes_on are in
     subst K c.deref-3.ensures.value (c.in_ok-write_open.ensures.stands m move read starts)
 
 pub write_open-requires-clause-count : goal.write_open-requires-clause-count

@@ -1,5 +1,6 @@
 use Rattle.std.proofs.Common.{◌≤◌, ◌-◌}
 use Rattle.move_energy.specs.Choices.{choice_at, AreOpenSites}
+use Rattle.move_energy.specs.Weights.{AreWeights}
 use Rattle.move_prices.specs.MoveValues.{move_value}
 use Rattle.site_forms.specs.Numbers.{WhereRead}
 use Rattle.persistency.specs.Agreeing.{Agree}
@@ -12,7 +13,7 @@ invariant-strips l = record {
   inside : l.to ≤ l.all;
   can : CanClose l.form l.basis l.built.variables.choices.items;
   opened : AreOpenSites (strip_view l.built.variables.choices.items 0 l.to) l.self.opened.items;
-  agree : WhereRead l.form (λ m move f. Agree m.sites (move_value m move f) (choice_at l.basis.start.now)
+  agree : WhereRead l.form (λ m move f. AreWeights m move f (choice_at l.basis.start.now) l.basis.weights.now → Agree m.sites (move_value m move f) (choice_at l.basis.start.now)
       → Agree m.sites (move_value m move f) (choice_at l.built.variables.choices.items));
 }
 

@@ -41,7 +41,7 @@ tell-requires-clause-sites c =
     opened_within (strip_view a.known.now.items 0 a.to) a.self.now.opened.items (length a.known.now.items) c.requires.opened (view_length a.known.now.items 0 a.to)
 
 pub returns-clause-agree : goal.returns-clause-agree
-returns-clause-agree c = λ m move read agree.
+returns-clause-agree c = λ m move read are agree.
     let a = c.args in
     let can = c.requires.can in
     let f = labelling a.form.now.at.now in
@@ -51,7 +51,7 @@ returns-clause-agree c = λ m move read agree.
     let size : length a.known.now.items ≡ m.sites = can.count ∙ can.begins.over.sites ∙ sym read.sites_are in
     let listed = c.deref-4.ensures.value ∙ c.in_ok-list_weights.ensures ∙ ap (map (weight_at a.basis.now.weights.now)) (c.deref.ensures.value ∙ sym c.deref-3.ensures.value) in
     let starts = starts_listed m move f a.basis.now.start.now a.known.now.items 0 a.to c.deref-3.result.now a.basis.now.weights.now c.deref-4.result.now
-    size listed (subst O (sym c.deref-3.ensures.value) c.requires.opened) can.goes_on (can.begins.weights m move read) in
+    size listed (subst O (sym c.deref-3.ensures.value) c.requires.opened) can.goes_on are in
     on_ok c.tell.result _ (told_right m move f a.known.now.items c.tell.new.known.items a.self.now.opened.items c.in_ok-sides.sides read.instance read.allowed size c.tell.ensures.told
     (subst B c.deref-3.ensures.value (subst K c.deref-2.ensures.value (c.in_ok-sides.ensures.tells m move read starts))) agree)
 
