@@ -61,6 +61,7 @@ pub fn open_in<F: Fn(u32, u32) -> i64 + Sync, V: Fn(u32, u32) -> i64 + Sync>(
     requires fits { FitsProblem problem.now labelling.now }
     requires change { IsMoveOf problem.now.data_cost.labels change }
 {
+    labelling.keeps();
     let mut deciding = Deciding::new(alloc, &problem.pairs)?;
     let decided = deciding.decide(problem, labelling.as_slice(), change);
     if decided.is_err() {

@@ -23,8 +23,8 @@ pub use Rattle.moves.specs.Stages.{KeepsFreshSites}
 pub use Rattle.moves.specs.Courses.{LeadsBest, labels_changed}
 pub use Rattle.moves.specs.UnderWay.{IsRunFrom, IsSomeRun, IsStepOf, TellsStep, IsAhead, ended_of}
 pub use Rattle.moves.specs.UnderWay.{cycles_of, left_of}
-pub use Rattle.one_move.specs.Building.{IsGroupedFor, KeepsDecided, site_values, TellsChange}
-pub use Rattle.one_move.specs.Building.{HasTaken}
+pub use Rattle.one_move.specs.Building.{IsOfProblem, KeepsDecided, site_values, TellsChange}
+pub use Rattle.one_move.specs.Building.{HasTaken, IsReadyMove}
 pub use Rattle.one_move.specs.Moved.{IsMade, IsCutRefusal, IsMoveRefusal, IsMoved}
 pub use Rattle.near_changes.specs.Changes.{made_of, changed_after, AreStamped}
 pub use Rattle.near_changes.specs.Fresh.{WasExpanded}

@@ -19,7 +19,7 @@ use Rattle.near_changes.specs.Fresh.{WasExpanded, AreFresh}
 use Rattle.near_changes.specs.Looking.{is_marked}
 use Rattle.one_move.specs.declared.error.MoveError.{MoveError}
 use Rattle.one_move.specs.declared.workspace.Workspace.{Workspace}
-use Rattle.one_move.specs.Building.{IsGroupedFor}
+use Rattle.one_move.specs.Building.{IsOfProblem}
 use Rattle.one_move.specs.Moved.{IsMoved}
 
 -- a stage can be cut: its choices are of the sites, its open sites and its fresh sites are listed,
@@ -34,7 +34,6 @@ pub record IsStageReady (pairs : PairList) (space : Workspace) : Type 0 where
 
 -- the fresh sites stay as they are, and so do the pairs by their sites
 pub record KeepsFreshSites (old new : Workspace) : Type 0 where
-  pub grouped : new.grouped ≡ old.grouped
   pub ends : new.deciding.ends ≡ old.deciding.ends
   pub fresh : new.stage.fresh ≡ old.stage.fresh
   pub listed : new.stage.fresh_sites ≡ old.stage.fresh_sites
@@ -77,11 +76,11 @@ abbrev pub AreStampsOf : {F V : Type 0} → Closure F → Closure V → Problem 
 AreStampsOf {F} {V} f v problem field changes =
     WhereMeant f v problem (λ m. AreStamped m (labelling field.at) changes)
 
--- a run is under way: its labels are of a posed problem, the pairs are by their sites once they
--- were grouped, and what is remembered is true of the labels
+-- a run is under way: its labels and its workspace are of a posed problem, and what is remembered
+-- is true of the labels
 pub record IsUnderWay {F V : Type 0} (f : Closure F) (v : Closure V) (problem : Problem F V)
     (field : LabelField) (space : Workspace) (changes : Changes) : Type 0 where
   pub posed : IsPosed f v problem
   pub fits : FitsProblem problem field
-  pub by_site : IsGroupedFor problem.pairs space
+  pub of_problem : IsOfProblem f v problem space
   pub stamped : AreStampsOf f v problem field changes

@@ -3,9 +3,9 @@ ghost use Rattle.std.specs.Prelude.{◌≡◌, ◌↔◌, ◌<◌, ℕ, Bool, tr
 ghost use Rattle.std.specs.Prelude.{IfErr, IfSome, IsTrue, None};
 ghost use Rattle.std.specs.List.{All, Contains};
 ghost use Rattle.moves.specs.Prelude.{Expand, labelling as labelling_of, costs_of as costs_in};
-ghost use Rattle.moves.specs.Prelude.{AreFree, IsPosed, WhereMeant, IsAsked, AreOfOneSize, made_of};
+ghost use Rattle.moves.specs.Prelude.{AreFree, WhereMeant, AreOfOneSize, made_of, IsReadyMove};
 ghost use Rattle.moves.specs.Prelude.{changed_after, WasExpanded, is_marked, AreTaking};
-ghost use Rattle.moves.specs.Prelude.{IsGroupedFor, IsMade, IsCutRefusal, IsMoveRefusal};
+ghost use Rattle.moves.specs.Prelude.{IsOfProblem, IsMade, IsCutRefusal, IsMoveRefusal};
 ghost use Rattle.moves.specs.Prelude.{IsStageReady, AreStageZeros, AreStageFresh, IsTakenLeast};
 ghost use Rattle.moves.specs.Prelude.{HasTaken, IsLater, IsUnderWay, TellsChange};
 
@@ -76,11 +76,9 @@ fn begin_stages<F: Fn(u32, u32) -> i64 + Sync, V: Fn(u32, u32) -> i64 + Sync, H:
     how: &H,
 ) -> Result<(), AllocError>
     requires ready { H.ready how.now }
-    requires asked { IsAsked problem.now at.now (Expand alpha) }
-    requires posed { IsPosed F.Fn V.Fn problem.now }
+    requires asked { IsReadyMove F.Fn V.Fn problem.now at.now (Expand alpha) space.old }
     requires stamps { length changes.now.stamps.items ≡ length at.now }
-    requires by_site { IsGroupedFor problem.now.pairs space.old }
-    ensures by_site { IsGroupedFor problem.now.pairs space.new }
+    ensures of_problem { IsOfProblem F.Fn V.Fn problem.now space.new }
     ensures stage { OnOk result (IsStageReady problem.now.pairs space.new) }
     ensures fresh { WhereMeant F.Fn V.Fn problem.now
         (λ m. OnOk result (AreStageFresh m alpha at.now changes.now space.new)) }
@@ -88,7 +86,7 @@ fn begin_stages<F: Fn(u32, u32) -> i64 + Sync, V: Fn(u32, u32) -> i64 + Sync, H:
         (λ m. OnOk result (AreStageZeros m alpha at.now space.new)) }
 {
     let alloc = *changes.stamps.allocator();
-    space.group(alloc, &problem.pairs)?;
+    space.group(alloc, problem)?;
     space.stage.mark_fresh(
         &problem.pairs,
         &space.deciding.ends,
@@ -119,12 +117,10 @@ fn look<F: Fn(u32, u32) -> i64 + Sync, V: Fn(u32, u32) -> i64 + Sync, H: How>(
     how: &H,
 ) -> Result<bool, MoveError>
     requires ready { H.ready how.now }
-    requires asked { IsAsked problem.now at.now (Expand alpha) }
-    requires posed { IsPosed F.Fn V.Fn problem.now }
+    requires asked { IsReadyMove F.Fn V.Fn problem.now at.now (Expand alpha) space.old }
     requires metric { IsTrue problem.now.smooth_cost.by_metric }
     requires stamps { length changes.now.stamps.items ≡ length at.now }
-    requires by_site { IsGroupedFor problem.now.pairs space.old }
-    ensures by_site { IsGroupedFor problem.now.pairs space.new }
+    ensures of_problem { IsOfProblem F.Fn V.Fn problem.now space.new }
     ensures least { WhereMeant F.Fn V.Fn problem.now (λ m. IfOk result (λ closed. IsTrue closed →
         WasExpanded m alpha (changed_after changes.now alpha) (labelling_of at.now) →
         IsTakenLeast m alpha at.now space.new)) }
@@ -183,7 +179,7 @@ pub(crate) fn make_later<F: Fn(u32, u32) -> i64 + Sync, V: Fn(u32, u32) -> i64 +
 ) -> Result<Option<bool>, MoveError>
     requires ready { H.ready how.now }
     requires under_way { IsUnderWay F.Fn V.Fn problem.now labelling.old space.old changes.now }
-    ensures by_site { IsGroupedFor problem.now.pairs space.new }
+    ensures of_problem { IsOfProblem F.Fn V.Fn problem.now space.new }
     ensures sizes { AreOfOneSize labelling.old labelling.new }
     ensures moved { WhereMeant F.Fn V.Fn problem.now
         (λ m. IsLater m alpha labelling.old.at labelling.new.at result) }
@@ -201,6 +197,7 @@ pub(crate) fn make_later<F: Fn(u32, u32) -> i64 + Sync, V: Fn(u32, u32) -> i64 +
     if !how.decides_first() || !can_look(problem, labelling, alpha, changes) {
         return Ok(None);
     }
+    labelling.keeps();
     if !look(problem, space, labelling.as_slice(), alpha, changes, how)? {
         return Ok(None);
     }

@@ -4,8 +4,8 @@ ghost use Rattle.std.specs.Prelude.{◌≡◌, ◌*◌, ◌<◌, ◌≤◌, All,
 ghost use Rattle.label_field.specs.Limits.{site_limit};
 ghost use Rattle.move_energy.specs.BySite.{AreBySite};
 ghost use Rattle.move_energy.specs.Choices.{AreOpenSites};
-ghost use Rattle.moves.specs.Prelude.{Expand, IsPosed, WhereMeant, IsAsked, AreStageZeros};
-ghost use Rattle.moves.specs.Prelude.{KeepsFreshSites};
+ghost use Rattle.moves.specs.Prelude.{Expand, WhereMeant, AreStageZeros, KeepsFreshSites};
+ghost use Rattle.moves.specs.Prelude.{IsOfProblem, IsReadyMove};
 
 use crate::How;
 use cost_store::Problem;
@@ -45,11 +45,11 @@ fn open_by_parts<F: Fn(u32, u32) -> i64 + Sync, V: Fn(u32, u32) -> i64 + Sync, H
     parts: usize,
 ) -> Result<bool, AllocError>
     requires ready { H.ready how.now }
-    requires asked { IsAsked problem.now at.now (Expand alpha) }
-    requires posed { IsPosed F.Fn V.Fn problem.now }
+    requires asked { IsReadyMove F.Fn V.Fn problem.now at.now (Expand alpha) space.old }
     requires by_site { AreBySite problem.now.pairs space.old.deciding.ends }
     requires inside { All (λ p. p < problem.now.pairs.sites) space.old.stage.fresh_sites.items }
     requires parts { (0 < parts) × (parts ≤ length at.now) }
+    ensures of_problem { IsOfProblem F.Fn V.Fn problem.now space.new }
     ensures same { KeepsFreshSites space.old space.new }
     ensures count { IfOk result (λ done. IsTrue done →
         length space.new.built.variables.choices.items ≡ length at.now) }
@@ -60,8 +60,8 @@ fn open_by_parts<F: Fn(u32, u32) -> i64 + Sync, V: Fn(u32, u32) -> i64 + Sync, H
 {
     problem.pairs.keeps();
     match space.deciding.open(problem, at, Move::Expand(alpha)) {
-        Ok(true) => {}
-        Ok(false) | Err(_) => return Ok(false),
+        Ok(()) => {}
+        Err(_) => return Ok(false),
     }
     let choices = &mut space.built.variables.choices;
     choose_first(choices, at, alpha)?;
@@ -99,10 +99,10 @@ pub(crate) fn open_apart<F: Fn(u32, u32) -> i64 + Sync, V: Fn(u32, u32) -> i64 +
     how: &H,
 ) -> Result<bool, AllocError>
     requires ready { H.ready how.now }
-    requires asked { IsAsked problem.now at.now (Expand alpha) }
-    requires posed { IsPosed F.Fn V.Fn problem.now }
+    requires asked { IsReadyMove F.Fn V.Fn problem.now at.now (Expand alpha) space.old }
     requires by_site { AreBySite problem.now.pairs space.old.deciding.ends }
     requires inside { All (λ p. p < problem.now.pairs.sites) space.old.stage.fresh_sites.items }
+    ensures of_problem { IsOfProblem F.Fn V.Fn problem.now space.new }
     ensures same { KeepsFreshSites space.old space.new }
     ensures count { IfOk result (λ done. IsTrue done →
         length space.new.built.variables.choices.items ≡ length at.now) }

@@ -3,3 +3,5 @@ pub mod Rising
 pub mod Answers
 pub mod Relabelled
 pub mod Changes
+pub mod OfProblem
+pub mod Forms

@@ -10,7 +10,7 @@ use Rattle.label_energies.specs.declared.change.Move.TheVariants.{Expand}
 use Rattle.label_energies.specs.Energies.{Instance, labelling, energy, plain_energy}
 use Rattle.label_energies.specs.Moves.{IsAllowed, label_after, labelling_made}
 use Rattle.pseudo_bool.specs.Energies.{assignment}
-use Rattle.label_field.specs.Limits.{site_limit}
+use Rattle.label_field.specs.Limits.{site_limit, label_limit}
 use Rattle.pseudo_bool.specs.Limits.{term_limit}
 use Rattle.compile_cut.specs.Quadratics.{quadratic_value, IsQuadraticBounded}
 use Rattle.compile_cut.specs.Weights.{weights_size}
@@ -29,7 +29,7 @@ use Rattle.move_energy.specs.BySite.{AreBySite, IsListing, met_at}
 use Rattle.site_bounds.specs.Listed.{AreListed, changes}
 use Rattle.site_bounds.specs.Decisions.{IsSmallestLeast}
 use Rattle.move_prices.specs.MoveValues.{move_value}
-use Rattle.move_prices.specs.Rising.{IsRiseTable, IsTableOf}
+use Rattle.site_forms.specs.Lists.{AreFormLists, IsReadOf, KnowsCosts}
 use Rattle.one_move.specs.declared.workspace.Workspace.{Workspace}
 
 -- the fewest nodes of a later net that a way with parts cuts: one thread cuts a smaller one in less
@@ -37,9 +37,12 @@ use Rattle.one_move.specs.declared.workspace.Workspace.{Workspace}
 abbrev pub later_nodes : ℕ
 later_nodes = 2 ^ 16
 
--- the pairs by their sites, once they were grouped
-abbrev pub IsGroupedFor : PairList → Workspace → Type 0
-IsGroupedFor pairs space = IsTrue space.grouped → AreBySite pairs space.deciding.ends
+-- the workspace is of the problem: the pairs are by their sites, once they were grouped, and the
+-- smooth costs that were asked are the problem's
+abbrev pub IsOfProblem : {F V : Type 0} → Closure F → Closure V → Problem F V → Workspace → Type 0
+IsOfProblem {F} {V} f v problem space =
+    (IsTrue space.grouped → AreBySite problem.pairs space.deciding.ends)
+    × KnowsCosts f v problem space.deciding.numbers
 
 -- the lists of the workspace are those of the move from f, and its pairs are by their sites
 pub record HasListsOfMove (pairs : PairList) (move : Move) (f : List ℕ)
@@ -80,25 +83,27 @@ KnowsWeights m move f space =
     AreWeights m move (labelling f) (choice_at space.built.variables.choices.items)
     space.deciding.bounds.greatest.items
 
--- the move is asked of a posed problem, and the pairs are by their sites, once they were grouped
+-- the move is asked of a posed problem with few labels, of which the workspace is
 pub record IsReadyMove {F V : Type 0} (f : Closure F) (v : Closure V) (problem : Problem F V)
     (at : List ℕ) (move : Move) (space : Workspace) : Type 0 where
   pub posed : IsPosed f v problem
   pub asked : IsAsked problem at move
-  pub by_site : IsGroupedFor problem.pairs space
+  pub few : problem.data_cost.labels ≤ label_limit
+  pub of_problem : IsOfProblem f v problem space
 
 -- the sites of the move are decided: the workspace has a choice for each, the lists of those that
--- are open, their weights, and the table of the move's rises
+-- are open, their weights, and the lists of the move's numbers
 pub record IsWeighedMove {F V : Type 0} (f : Closure F) (v : Closure V) (problem : Problem F V)
     (at : List ℕ) (move : Move) (space : Workspace) : Type 0 where
   pub posed : IsPosed f v problem
   pub asked : IsAsked problem at move
+  pub of_problem : IsOfProblem f v problem space
   pub count : length space.built.variables.choices.items ≡ length at
   pub near : HasListsOfMove problem.pairs move at space
   pub sized : AreWeightsSized (length at) space
   pub weights : WhereMeant f v problem (λ m. KnowsWeights m move at space)
-  pub labels : IsRiseTable problem.data_cost.labels space.deciding.table
-  pub rises : WhereMeant f v problem (λ m. IsTableOf m move space.deciding.table)
+  pub lists : AreFormLists at space.deciding.numbers
+  pub read : WhereMeant f v problem (λ m. IsReadOf m move at space.deciding.numbers)
 
 -- the form of the workspace stands for what is open of the move, and is of a size that can be cut
 pub record IsOpenForm {F V : Type 0} (f : Closure F) (v : Closure V) (problem : Problem F V)

@@ -3,7 +3,7 @@ ghost use Rattle.std.specs.Prelude.{◌≡◌, ◌+◌, ◌<◌, ◌≤◌, leng
 ghost use Rattle.one_move.specs.Prelude.{labelling, IsAllowed, site_limit, label_limit};
 ghost use Rattle.one_move.specs.Prelude.{IsPosed};
 ghost use Rattle.one_move.specs.Prelude.{WhereMeant, IsAsked, choice_at, IsPrepareRefusal};
-ghost use Rattle.one_move.specs.Prelude.{IsDecidedMove, move_value, Agree, IsGroupedFor};
+ghost use Rattle.one_move.specs.Prelude.{IsDecidedMove, move_value, Agree, IsOfProblem};
 ghost use Rattle.one_move.specs.Prelude.{HasListsOfMove, IsNearWhereListed, IsRestWhereListed};
 ghost use Rattle.one_move.specs.Prelude.{IsReadyMove, IsWeighedMove, IsOpenForm, KeepsChoices};
 ghost use Rattle.one_move.specs.Prelude.{KeepsDecided, IsReadyToCut, IsBuiltMove};
@@ -18,7 +18,6 @@ use cut_ways::How;
 use label_cost_terms::add_label_costs;
 use label_energies::Move;
 use move_energy::{BuildError, OpenSites};
-use site_bounds::MoveToFind;
 use std::alloc::{AllocError, Global};
 use std::mem::swap;
 use strips::{Basis, close_parts};
@@ -32,13 +31,13 @@ fn decide<F: Fn(u32, u32) -> i64 + Sync, V: Fn(u32, u32) -> i64 + Sync>(
     change: Move,
 ) -> Result<(), BuildError>
     requires asked { IsReadyMove F.Fn V.Fn problem.now at.now change space.old }
-    ensures by_site { IsGroupedFor problem.now.pairs space.new }
+    ensures of_problem { IsOfProblem F.Fn V.Fn problem.now space.new }
     ensures weighed { OnOk result
         (IsWeighedMove F.Fn V.Fn problem.now at.now change space.new) }
     ensures decided { WhereMeant F.Fn V.Fn problem.now (λ m. IsDecidedMove m change at.now
         space.new.built.variables.choices.items result) }
 {
-    space.group(alloc, &problem.pairs)?;
+    space.group(alloc, problem)?;
     space.deciding.decide(problem, at, change)?;
     swap(
         &mut space.deciding.bounds.choices,
@@ -85,7 +84,7 @@ fn build_all<F: Fn(u32, u32) -> i64 + Sync, V: Fn(u32, u32) -> i64 + Sync>(
     requires weighed { IsWeighedMove F.Fn V.Fn problem.now at.now change space.old }
     requires far { space.old.deciding.lists.listed ≡ false }
     requires allowed { IsAllowedFrom F.Fn V.Fn problem.now at.now change }
-    ensures by_site { IsGroupedFor problem.now.pairs space.new }
+    ensures of_problem { IsOfProblem F.Fn V.Fn problem.now space.new }
     ensures far { space.new.deciding.lists.listed ≡ false }
     ensures kept { KeepsChoices space.old space.new }
     ensures form { OnOk result (IsOpenForm F.Fn V.Fn problem.now at.now change space.new) }
@@ -107,7 +106,7 @@ fn build_open<F: Fn(u32, u32) -> i64 + Sync, V: Fn(u32, u32) -> i64 + Sync>(
 ) -> Result<(), AllocError>
     requires weighed { IsWeighedMove F.Fn V.Fn problem.now at.now change space.old }
     requires allowed { IsAllowedFrom F.Fn V.Fn problem.now at.now change }
-    ensures by_site { IsGroupedFor problem.now.pairs space.new }
+    ensures of_problem { IsOfProblem F.Fn V.Fn problem.now space.new }
     ensures near { IsNearWhereListed problem.now.pairs change at.now space.new }
     ensures kept { KeepsChoices space.old space.new }
     ensures form { OnOk result (IsOpenForm F.Fn V.Fn problem.now at.now change space.new) }
@@ -131,7 +130,7 @@ fn build_strips<F: Fn(u32, u32) -> i64 + Sync, V: Fn(u32, u32) -> i64 + Sync>(
     requires some { 0 < size }
     requires weighed { IsWeighedMove F.Fn V.Fn problem.now at.now change space.old }
     requires allowed { IsAllowedFrom F.Fn V.Fn problem.now at.now change }
-    ensures by_site { IsGroupedFor problem.now.pairs space.new }
+    ensures of_problem { IsOfProblem F.Fn V.Fn problem.now space.new }
     ensures near { OnOk result (IsRestWhereListed problem.now.pairs change at.now space.new) }
     ensures choices { OnOk result (length space.new.built.variables.choices.items ≡ length at.now) }
     ensures form { OnOk result (IsOpenForm F.Fn V.Fn problem.now at.now change space.new) }
@@ -145,20 +144,17 @@ fn build_strips<F: Fn(u32, u32) -> i64 + Sync, V: Fn(u32, u32) -> i64 + Sync>(
         &mut space.deciding.bounds.choices,
         &mut space.built.variables.choices,
     );
-    let step = MoveToFind {
-        problem,
-        ends: &space.deciding.ends,
-        table: &space.deciding.table,
-        at,
-        change,
-    };
+    let form = space
+        .deciding
+        .numbers
+        .form(&problem.pairs, &space.deciding.ends, at);
     let basis = Basis {
         start: &space.deciding.bounds.choices,
         weights: &space.deciding.bounds.greatest,
     };
     space
         .strips
-        .close_in(&step, &basis, &mut space.built, size)?;
+        .close_in(&form, &basis, &mut space.built, size)?;
     if space.deciding.lists.listed {
         swap(&mut space.deciding.lists.opened, &mut space.strips.opened);
     }
@@ -176,10 +172,8 @@ fn close_apart<F: Fn(u32, u32) -> i64 + Sync, V: Fn(u32, u32) -> i64 + Sync, H: 
     how: &H,
 ) -> Result<bool, BuildError>
     requires ready { H.ready how.now }
-    requires asked { IsAsked problem.now at.now change }
-    requires posed { IsPosed F.Fn V.Fn problem.now }
-    requires by_site { IsGroupedFor problem.now.pairs space.old }
-    ensures by_site { IsGroupedFor problem.now.pairs space.new }
+    requires asked { IsReadyMove F.Fn V.Fn problem.now at.now change space.old }
+    ensures of_problem { IsOfProblem F.Fn V.Fn problem.now space.new }
     ensures near { IfOk result (λ done. IsTrue done →
         HasListsOfMove problem.now.pairs change at.now space.new) }
     ensures choices { IfOk result (λ done. IsTrue done →
@@ -195,10 +189,8 @@ fn close_apart<F: Fn(u32, u32) -> i64 + Sync, V: Fn(u32, u32) -> i64 + Sync, H: 
     if parts < 2 {
         return Ok(false);
     }
-    space.group(alloc, &problem.pairs)?;
-    if !space.deciding.open(problem, at, change)? {
-        return Ok(false);
-    }
+    space.group(alloc, problem)?;
+    space.deciding.open(problem, at, change)?;
     swap(
         &mut space.deciding.bounds.choices,
         &mut space.built.variables.choices,
@@ -327,8 +319,7 @@ fn build_costed<F: Fn(u32, u32) -> i64 + Sync, V: Fn(u32, u32) -> i64 + Sync>(
 ) -> Result<(), BuildError>
     requires asked { IsReadyMove F.Fn V.Fn problem.now at.now (Expand alpha) space.old }
     requires label_costs { AreCosts problem.now.data_cost.labels costs.now }
-    requires few { problem.now.data_cost.labels ≤ label_limit }
-    ensures by_site { IsGroupedFor problem.now.pairs space.new }
+    ensures of_problem { IsOfProblem F.Fn V.Fn problem.now space.new }
     ensures left { OnOk result (IsReadyToCut problem.now.pairs at.now (Expand alpha)
         (site_limit + label_limit) space.new) }
     ensures built { WhereMeant F.Fn V.Fn problem.now (λ m. AreCostsOf m costs.now →
@@ -361,9 +352,8 @@ pub(crate) fn build_move<F: Fn(u32, u32) -> i64 + Sync, V: Fn(u32, u32) -> i64 +
 ) -> Result<(), BuildError>
     requires ready { H.ready how.now }
     requires asked { IsReadyMove F.Fn V.Fn problem.now at.now change space.old }
-    requires few { problem.now.data_cost.labels ≤ label_limit }
     requires free { IsFreeFor change (costs_of problem.now.label_costs) }
-    ensures by_site { IsGroupedFor problem.now.pairs space.new }
+    ensures of_problem { IsOfProblem F.Fn V.Fn problem.now space.new }
     ensures left { OnOk result (IsReadyToCut problem.now.pairs at.now change
         (site_limit + label_limit) space.new) }
     ensures built { WhereMeant F.Fn V.Fn problem.now

@@ -6,7 +6,7 @@ ghost use Rattle.one_move.specs.Prelude.{site_limit, label_limit, IsQuadraticBou
 ghost use Rattle.one_move.specs.Prelude.{quadratic_value};
 ghost use Rattle.one_move.specs.Prelude.{assignment, term_limit, IsPosed, WhereMeant};
 ghost use Rattle.one_move.specs.Prelude.{FitsProblem};
-ghost use Rattle.one_move.specs.Prelude.{AreOfOneSize, IsSmallestLeast, Expand, IsGroupedFor};
+ghost use Rattle.one_move.specs.Prelude.{AreOfOneSize, IsSmallestLeast, Expand, IsOfProblem};
 ghost use Rattle.one_move.specs.Prelude.{site_values, HasTaken, costs_of as costs_in};
 ghost use Rattle.one_move.specs.Prelude.{AreCostly};
 ghost use Rattle.one_move.specs.Prelude.{IsSwap, IsFreeFor, IsMade, IsMoved, IsCutRefusal};
@@ -110,8 +110,8 @@ pub fn make_move<F: Fn(u32, u32) -> i64 + Sync, V: Fn(u32, u32) -> i64 + Sync, H
     requires ready { H.ready how.now }
     requires fits { FitsProblem problem.now labelling.old }
     requires posed { IsPosed F.Fn V.Fn problem.now }
-    requires by_site { IsGroupedFor problem.now.pairs space.old }
-    ensures by_site { IsGroupedFor problem.now.pairs space.new }
+    requires of_problem { IsOfProblem F.Fn V.Fn problem.now space.old }
+    ensures of_problem { IsOfProblem F.Fn V.Fn problem.now space.new }
     ensures sizes { AreOfOneSize labelling.old labelling.new }
     ensures moved { WhereMeant F.Fn V.Fn problem.now
         (λ m. IsMoved m change labelling.old.at labelling.new.at

@@ -2,10 +2,11 @@
 ghost use Rattle.std.specs.Prelude.{◌≡◌, false, OnOk, IsTrue};
 ghost use Rattle.move_energy.specs.BySite.{AreBySite};
 ghost use Rattle.move_energy.specs.Choices.{AreOpenSites, AreAssigned};
-ghost use Rattle.one_move.specs.Building.{IsGroupedFor};
+ghost use Rattle.site_forms.specs.Lists.{HasNoCosts};
+ghost use Rattle.one_move.specs.Building.{IsOfProblem};
 
-use label_field::Pairs;
-use move_energy::MoveEnergy;
+use cost_store::Problem;
+use move_energy::{MoveEnergy, group_pairs};
 use near_changes::Stage;
 use site_bounds::Deciding;
 use std::alloc::{AllocError, Global};
@@ -41,7 +42,8 @@ pub struct Workspace {
 impl Workspace {
     /// A workspace of which nothing is taken yet. It takes no memory.
     pub fn new(alloc: Global) -> Workspace
-        ensures { result.grouped ≡ false }
+        ensures grouped { result.grouped ≡ false }
+        ensures numbers { HasNoCosts result.deciding.numbers }
     {
         Workspace {
             grouped: false,
@@ -56,14 +58,18 @@ impl Workspace {
 
     /// Groups the pairs by their sites, where that was not done before. Refuses only where memory
     /// runs out.
-    pub fn group(&mut self, alloc: Global, pairs: &Pairs) -> Result<(), AllocError>
-        requires by_site { IsGroupedFor pairs.now self.old }
-        ensures grouped { OnOk result (AreBySite pairs.now self.new.deciding.ends) }
-        ensures by_site { IsGroupedFor pairs.now self.new }
+    pub fn group<F: Fn(u32, u32) -> i64 + Sync, V: Fn(u32, u32) -> i64 + Sync>(
+        &mut self,
+        alloc: Global,
+        problem: &Problem<F, V>,
+    ) -> Result<(), AllocError>
+        requires of_problem { IsOfProblem F.Fn V.Fn problem.now self.old }
+        ensures grouped { OnOk result (AreBySite problem.now.pairs self.new.deciding.ends) }
+        ensures of_problem { IsOfProblem F.Fn V.Fn problem.now self.new }
         ensures same { (self.new.built ≡ self.old.built) × (self.new.stage ≡ self.old.stage) }
     {
         if !self.grouped {
-            self.deciding = Deciding::new(alloc, pairs)?;
+            self.deciding.ends = group_pairs(alloc, &problem.pairs)?;
             self.grouped = true;
         }
         Ok(())

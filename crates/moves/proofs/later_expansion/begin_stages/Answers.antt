@@ -44,5 +44,5 @@ returns-clause-zeros g c = λ m meant.
     let choices = c.open_first.new.choices.items in
     on_ok_map ((p : ℕ) → p < length at → choice_at choices p ≡ Zero ↔ labelling at p ≡ a)
     (AreLeastZeros m.sites (move_value m (Expand a) (labelling at)) (choice_at choices)) c.open_first.result
-    (λ zeros. first_zeros m a at choices (pairs_meant _ _ _ m c.requires.posed meant)
-    (λ p l is. (zeros p (omega (arith, l, c.requires.asked.sites, meant.sites_are))).0 is)) c.open_first.ensures.zeros
+    (λ zeros. first_zeros m a at choices (pairs_meant _ _ _ m c.requires.asked.posed meant)
+    (λ p l is. (zeros p (omega (arith, l, c.requires.asked.asked.sites, meant.sites_are))).0 is)) c.open_first.ensures.zeros

@@ -1,14 +1,40 @@
-use Rattle.std.proofs.Common.{◌∙◌, refl, sym, arith}
-use Rattle.cost_store.proofs.Meaning.{pairs_meant, metric_meant}
+use Rattle.std.proofs.Common.{◌∙◌, List, Bool, refl, sym, subst, arith}
+use Rattle.label_energies.specs.Energies.{labelling}
 use Rattle.near_changes.specs.Changes.{changed_after}
+use Rattle.near_changes.specs.Fresh.{AreFresh}
+use Rattle.near_changes.specs.Looking.{is_marked}
+use Rattle.one_move.proofs.OfProblem.{still_of_problem}
+use Rattle.cost_store.proofs.Meaning.{pairs_meant, metric_meant}
 use Rattle.moves.proofs.Stages.{metric_allowed}
 use Rattle.moves.proofs.later_expansion.look.Goals as goal
 
 pub make_stage-requires-clause-allowed : goal.make_stage-requires-clause-allowed
 make_stage-requires-clause-allowed g c = λ κs lives m meant.
-    metric_allowed m c.args.alpha c.args.problem.now.data_cost.labels c.args.at.now c.args.at.now (pairs_meant _ _ _ m c.requires.posed meant)
-    (metric_meant _ _ _ m c.requires.posed meant c.requires.metric) (omega (arith, c.requires.asked.move_of, meant.labels_are)) (sym meant.labels_are)
-    (c.requires.asked.sites ∙ sym meant.sites_are) refl c.requires.asked.labels
+    metric_allowed m c.args.alpha c.args.problem.now.data_cost.labels c.args.at.now c.args.at.now (pairs_meant _ _ _ m c.requires.asked.posed meant)
+    (metric_meant _ _ _ m c.requires.asked.posed meant c.requires.metric) (omega (arith, c.requires.asked.asked.move_of, meant.labels_are)) (sym meant.labels_are)
+    (c.requires.asked.asked.sites ∙ sym meant.sites_are) refl c.requires.asked.asked.labels
+
+pub loop-stage-preserved : goal.loop-stage-preserved
+loop-stage-preserved g c =
+    let a = c.args in
+    let stage = c.in_ok-make_stage.ensures in
+    let before = c.loop-stage.invariant in
+    record {
+      of_problem = still_of_problem _ _ a.problem.now c.loop-stage.space c.make_stage.new.space stage.same before.of_problem;
+      ready = stage.open c.in-Open.is;
+      fresh = λ m meant.
+          let F : List Bool → Type 0 = λ flags. AreFresh m a.alpha (labelling a.at.now) (changed_after a.changes.now a.alpha) (is_marked flags) in
+          subst F (sym stage.fresh) (before.fresh m meant);
+      zeros = λ m meant. stage.zeros m meant c.in-Open.is (before.zeros m meant);
+    }
+
+pub returns-in-Closed-clause-of_problem : goal.returns-in-Closed-clause-of_problem
+returns-in-Closed-clause-of_problem g c =
+    still_of_problem _ _ c.args.problem.now c.loop-stage.space c.make_stage.new.space c.in_ok-make_stage.ensures.same c.loop-stage.invariant.of_problem
+
+pub returns-in_err-make_stage-clause-of_problem : goal.returns-in_err-make_stage-clause-of_problem
+returns-in_err-make_stage-clause-of_problem g c =
+    still_of_problem _ _ c.args.problem.now c.loop-stage.space c.make_stage.new.space c.in_err-make_stage.ensures.same c.loop-stage.invariant.of_problem
 
 pub returns-in-Closed-clause-least : goal.returns-in-Closed-clause-least
 returns-in-Closed-clause-least g c = λ m meant yes was.

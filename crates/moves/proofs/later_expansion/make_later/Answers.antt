@@ -1,4 +1,4 @@
-use Rattle.std.proofs.Common.{◌≡◌, ◌↔◌, ◌<◌, ◌∙◌, ℕ, List, true, sym, subst, refl, arith}
+use Rattle.std.proofs.Common.{◌≡◌, ◌↔◌, ◌<◌, ◌∙◌, ℕ, List, All, length, true, ap, sym, subst, refl, arith}
 use Rattle.std.specs.List.{Contains}
 use Rattle.std.proofs.lemmas.Result.{err_from_is_err_and}
 use Rattle.label_energies.specs.declared.change.Move.TheVariants.{Expand}
@@ -67,3 +67,19 @@ returns-clause-taken g c =
     subst (λ (xs : List ℕ). (took p ≡ true) ↔ Contains xs p) (sym c.deref.ensures.value) (taking.listed p (omega (arith, l, c.requires.under_way.fits.sites)))) in
     let T : ℕ → Type 0 = λ n. AreTaking n c.look.new.space.stage in
     (subst T (sym c.requires.under_way.fits.sites) taking, taken, c.can_look.ensures.free c.if-not-can_look.false)
+
+pub look-requires-clause-asked : goal.look-requires-clause-asked
+look-requires-clause-asked g c = λ κs lives.
+    let u = c.requires.under_way in
+    let sizes = c.can_look.ensures.sizes c.if-not-can_look.false in
+    let B : ℕ → Type 0 = λ k. All (λ label. label < k) c.as_slice.result.now in
+    record {
+      posed = u.posed;
+      asked = record {
+        sites = ap (λ (xs : List ℕ). length xs) c.as_slice.ensures.value ∙ u.fits.sites;
+        labels = subst B u.fits.labels c.as_slice.ensures.below;
+        move_of = omega (arith, sizes.1, u.fits.labels);
+      };
+      few = omega (arith, c.keeps.ensures.sizes.2, u.fits.labels);
+      of_problem = u.of_problem;
+    }

@@ -1,6 +1,7 @@
 use Rattle.std.proofs.Common.{◌∙◌, sym}
 use Rattle.label_energies.specs.declared.change.Move.TheVariants.{Expand}
 use Rattle.cost_store.proofs.Meaning.{pairs_meant}
+use Rattle.one_move.proofs.OfProblem.{new_of_problem}
 use Rattle.moves.proofs.OverMetric.{moved_over_metric}
 use Rattle.moves.proofs.runs.expand.Goals as goal
 
@@ -11,3 +12,6 @@ returns-clause-over_metric g c = λ m meant inside.
     (c.make_move-moved.ensures.sizes.sites ∙ c.requires.fits.sites ∙ sym meant.sites_are)
     (c.make_move-moved.ensures.sizes.labels ∙ c.requires.fits.labels ∙ sym meant.labels_are)
     inside (λ swap. absurd swap) (c.make_move-moved.ensures.moved m meant) c.make_move-moved.ensures.refused
+
+pub make_move-moved-requires-clause-of_problem : goal.make_move-moved-requires-clause-of_problem
+make_move-moved-requires-clause-of_problem g c = λ κs lives. new_of_problem _ _ c.args.problem.now c.new-space.result c.new-space.ensures.grouped c.new-space.ensures.numbers

@@ -15,6 +15,7 @@ use Rattle.site_bounds.specs.declared.sites.Deciding.{Deciding}
 use Rattle.site_bounds.specs.Listed.{AreListed}
 use Rattle.one_move.proofs.Least.{agreed_least}
 use Rattle.one_move.proofs.Changes.{near_rest}
+use Rattle.one_move.proofs.OfProblem.{still_of_problem}
 use Rattle.one_move.proofs.building.build_decided.Goals as goal
 
 pub build_open-requires-clause-allowed : goal.build_open-requires-clause-allowed
@@ -38,7 +39,7 @@ build_rest-requires-clause-valued g c = λ κs lives. record {
 
 pub returns-in_err-decide : goal.returns-in_err-decide
 returns-in_err-decide g c = record {
-  by_site = c.decide.ensures.by_site;
+  of_problem = c.decide.ensures.of_problem;
   left = (let p = err_from_is_err_and c.from_residual-in_err-decide.result c.from_residual-in_err-decide.ensures.1 in rw (p.1) tt);
   built = λ m meant.
       let p = err_from_is_err_and c.from_residual-in_err-decide.result c.from_residual-in_err-decide.ensures.1 in
@@ -47,7 +48,7 @@ returns-in_err-decide g c = record {
 
 pub returns : goal.returns
 returns g c = record {
-  by_site = c.build_open.ensures.by_site;
+  of_problem = c.build_open.ensures.of_problem;
   left =
       let form = c.in_ok-build_open.ensures.form in
       let count = ap (λ (xs : List Choice). length xs) c.in_ok-build_open.ensures.kept ∙ c.in_ok-decide.ensures.weighed.count in
@@ -75,7 +76,7 @@ returns g c = record {
 
 pub returns-then-space-size : goal.returns-then-space-size
 returns-then-space-size g c = record {
-  by_site = c.build_strips.ensures.by_site;
+  of_problem = c.build_strips.ensures.of_problem;
   left =
       let form = c.in_ok-build_strips.ensures.form in
       record {
@@ -98,9 +99,7 @@ returns-then-space-size g c = record {
 
 pub returns-then-branch : goal.returns-then-branch
 returns-then-branch g c = record {
-  by_site = λ grouped.
-      let E : Neighbours → Type 0 = λ ends. AreBySite c.args.problem.now.pairs ends in
-      subst E (sym (ap (λ (d : Deciding). d.ends) c.build_rest.ensures.same.1)) (c.in_ok-close_apart.ensures.near c.if-branch.true).by_site;
+  of_problem = still_of_problem _ _ c.args.problem.now c.close_apart.new.space c.build_rest.new.space c.build_rest.ensures.same c.in_ok-close_apart.ensures.of_problem;
   left =
       let a = c.args in
       let closed = c.in_ok-close_apart.ensures.near c.if-branch.true in
@@ -137,23 +136,29 @@ returns-then-branch g c = record {
 
 pub returns-in_err-build_rest : goal.returns-in_err-build_rest
 returns-in_err-build_rest g c = record {
-  by_site = λ grouped.
-      let E : Neighbours → Type 0 = λ ends. AreBySite c.args.problem.now.pairs ends in
-      subst E (sym (ap (λ (d : Deciding). d.ends) c.build_rest.ensures.same.1)) (c.in_ok-close_apart.ensures.near c.if-branch.true).by_site;
+  of_problem = still_of_problem _ _ c.args.problem.now c.close_apart.new.space c.build_rest.new.space c.build_rest.ensures.same c.in_ok-close_apart.ensures.of_problem;
   left = (let p = err_from_is_err_and c.from_residual-in_err-build_rest.result c.from_residual-in_err-build_rest.ensures.1 in rw (p.1) tt);
   built = λ m meant. (let p = err_from_is_err_and c.from_residual-in_err-build_rest.result c.from_residual-in_err-build_rest.ensures.1 in rw (p.1, p.2) tt);
 }
 
 pub returns-in_err-build_open : goal.returns-in_err-build_open
 returns-in_err-build_open g c = record {
-  by_site = c.build_open.ensures.by_site;
+  of_problem = c.build_open.ensures.of_problem;
   left = (let p = err_from_is_err_and c.from_residual-in_err-build_open.result c.from_residual-in_err-build_open.ensures.1 in rw (p.1) tt);
   built = λ m meant. (let p = err_from_is_err_and c.from_residual-in_err-build_open.result c.from_residual-in_err-build_open.ensures.1 in rw (p.1, p.2) tt);
 }
 
 pub returns-in_err-build_strips : goal.returns-in_err-build_strips
 returns-in_err-build_strips g c = record {
-  by_site = c.build_strips.ensures.by_site;
+  of_problem = c.build_strips.ensures.of_problem;
   left = (let p = err_from_is_err_and c.from_residual-in_err-build_strips.result c.from_residual-in_err-build_strips.ensures.1 in rw (p.1) tt);
   built = λ m meant. (let p = err_from_is_err_and c.from_residual-in_err-build_strips.result c.from_residual-in_err-build_strips.ensures.1 in rw (p.1, p.2) tt);
+}
+
+pub decide-requires-clause-asked : goal.decide-requires-clause-asked
+decide-requires-clause-asked g c = λ κs lives. record {
+  posed = c.requires.asked.posed;
+  asked = c.requires.asked.asked;
+  few = c.requires.asked.few;
+  of_problem = c.in_ok-close_apart.ensures.of_problem;
 }

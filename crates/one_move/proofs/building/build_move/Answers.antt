@@ -8,9 +8,6 @@ use Rattle.one_move.specs.Building.{IsBuiltMove}
 use Rattle.one_move.proofs.Answers.{built_free, costs_free, costs_listed, costs_set}
 use Rattle.one_move.proofs.building.build_move.Goals as goal
 
-pub build_costed-requires-clause-few : goal.build_costed-requires-clause-few
-build_costed-requires-clause-few g c = λ κs lives. c.requires.few
-
 pub build_costed-requires-clause-label_costs : goal.build_costed-requires-clause-label_costs
 build_costed-requires-clause-label_costs g c = λ κs lives.
     let costs = c.args.problem.now.label_costs in

@@ -7,7 +7,7 @@ use Rattle.one_move.proofs.building.build_whole.Goals as goal
 
 pub returns : goal.returns
 returns g c = record {
-  by_site = c.requires.asked.by_site;
+  of_problem = c.requires.asked.of_problem;
   left = on_ok_both c.prepare.result _ _ _ (λ opened form. record {
     near = λ listed. absurd (cc (listed));
     choices = opened.count;

@@ -7,11 +7,11 @@ use Rattle.compile_cut.specs.declared.quadratic.Quadratic.{Quadratic}
 use Rattle.compile_cut.specs.Quadratics.{quadratic_value, IsQuadraticBounded}
 use Rattle.site_bounds.specs.Decisions.{IsSmallestLeast}
 use Rattle.one_move.proofs.Answers.{cut_refusal, cut_may_come, pair_may_come, pair_refusal, taken_free, costs_costly}
-use Rattle.move_energy.specs.BySite.{AreBySite}
 use Rattle.site_bounds.specs.declared.sites.Deciding.{Deciding}
 use Rattle.cost_store.proofs.Meaning.{pairs_meant}
 use Rattle.one_move.proofs.Least.{assigned_least}
 use Rattle.one_move.proofs.Changes.{near_changes}
+use Rattle.one_move.proofs.OfProblem.{still_of_problem}
 use Rattle.cost_store.specs.LabelCosts.{AreLabelCosts}
 use Rattle.one_move.proofs.move_by_cut.make_move.Goals as goal
 
@@ -62,8 +62,8 @@ returns-in_err-bits-clause-refused g c =
     let p = err_from_is_err_and c.from_residual.result c.from_residual.ensures.1 in
     rw (p.1, p.2) (cut_may_come (g.H.How.refuses c.args.how.now) c.args.labelling.now.labels c.args.change c.in_err-bits.field-0.0 c.in_err-bits.ensures.refused)
 
-pub returns-then-not-is_below-clause-by_site : goal.returns-then-not-is_below-clause-by_site
-returns-then-not-is_below-clause-by_site g c = c.requires.by_site
+pub returns-then-not-is_below-clause-of_problem : goal.returns-then-not-is_below-clause-of_problem
+returns-then-not-is_below-clause-of_problem g c = c.requires.of_problem
 
 pub returns-then-not-is_below-clause-sizes : goal.returns-then-not-is_below-clause-sizes
 returns-then-not-is_below-clause-sizes g c = record { labels = refl; sites = refl }
@@ -77,8 +77,8 @@ returns-then-not-is_below-clause-unchanged g c = refl
 pub returns-then-not-is_below-clause-refused : goal.returns-then-not-is_below-clause-refused
 returns-then-not-is_below-clause-refused g c = search rules
 
-pub returns-in-Err-PairNotRegular-clause-by_site : goal.returns-in-Err-PairNotRegular-clause-by_site
-returns-in-Err-PairNotRegular-clause-by_site g c = c.in-Err-PairNotRegular.ensures.by_site
+pub returns-in-Err-PairNotRegular-clause-of_problem : goal.returns-in-Err-PairNotRegular-clause-of_problem
+returns-in-Err-PairNotRegular-clause-of_problem g c = c.in-Err-PairNotRegular.ensures.of_problem
 
 pub returns-in-Err-PairNotRegular-clause-sizes : goal.returns-in-Err-PairNotRegular-clause-sizes
 returns-in-Err-PairNotRegular-clause-sizes g c = record { labels = refl; sites = refl }
@@ -86,8 +86,8 @@ returns-in-Err-PairNotRegular-clause-sizes g c = record { labels = refl; sites =
 pub returns-in-Err-PairNotRegular-clause-unchanged : goal.returns-in-Err-PairNotRegular-clause-unchanged
 returns-in-Err-PairNotRegular-clause-unchanged g c = refl
 
-pub returns-in-Err-OutOfMemory-clause-by_site : goal.returns-in-Err-OutOfMemory-clause-by_site
-returns-in-Err-OutOfMemory-clause-by_site g c = c.in-Err-OutOfMemory.ensures.by_site
+pub returns-in-Err-OutOfMemory-clause-of_problem : goal.returns-in-Err-OutOfMemory-clause-of_problem
+returns-in-Err-OutOfMemory-clause-of_problem g c = c.in-Err-OutOfMemory.ensures.of_problem
 
 pub returns-in-Err-OutOfMemory-clause-sizes : goal.returns-in-Err-OutOfMemory-clause-sizes
 returns-in-Err-OutOfMemory-clause-sizes g c = record { labels = refl; sites = refl }
@@ -111,8 +111,8 @@ cut_small-requires-clause-few g c =
     let P : Quadratic → Type 0 = λ q. vec_len q.weights ≤ 1048576 + 256 in
     subst P (sym c.replace-form.ensures.value) c.in-Ok.ensures.left.few
 
-pub returns-in_err-bits-clause-by_site : goal.returns-in_err-bits-clause-by_site
-returns-in_err-bits-clause-by_site g c = c.in-Ok.ensures.by_site
+pub returns-in_err-bits-clause-of_problem : goal.returns-in_err-bits-clause-of_problem
+returns-in_err-bits-clause-of_problem g c = c.in-Ok.ensures.of_problem
 
 pub returns-in_err-bits-clause-sizes : goal.returns-in_err-bits-clause-sizes
 returns-in_err-bits-clause-sizes g c = record { labels = refl; sites = refl }
@@ -144,11 +144,9 @@ take_best-requires-clause-changes g c = λ κs lives listed.
     near_changes c.args.problem.now.pairs c.args.change c.args.labelling.now.at _ c.assign.new.self _
     (c.in-Ok.ensures.left.choices ∙ ap (λ (xs : List ℕ). length xs) c.as_slice.ensures.value) near same.1 c.assign.ensures.assigned
 
-pub returns-clause-by_site : goal.returns-clause-by_site
-returns-clause-by_site g c = λ grouped.
-    let E : Deciding → Type 0 = λ deciding. AreBySite c.args.problem.now.pairs deciding.ends in
-    let same = c.assign.ensures.same in
-    subst E (sym same.1) (c.in-Ok.ensures.by_site (sym same.0 ∙ grouped))
+pub returns-clause-of_problem : goal.returns-clause-of_problem
+returns-clause-of_problem g c =
+    still_of_problem _ _ c.args.problem.now c.build_move.new.space c.assign.new.self c.assign.ensures.same c.in-Ok.ensures.of_problem
 
 pub assign-requires : goal.assign-requires
 assign-requires g c = λ listed. (c.in-Ok.ensures.left.near listed).opened
@@ -171,8 +169,8 @@ build_move-requires-clause-free g c = λ κs lives. c.is_taken.ensures.taken c.i
 pub take_best-requires-clause-free : goal.take_best-requires-clause-free
 take_best-requires-clause-free g c = λ κs lives. c.is_taken.ensures.taken c.if-not-is_taken.false
 
-pub returns-then-not-is_taken-clause-by_site : goal.returns-then-not-is_taken-clause-by_site
-returns-then-not-is_taken-clause-by_site g c = c.requires.by_site
+pub returns-then-not-is_taken-clause-of_problem : goal.returns-then-not-is_taken-clause-of_problem
+returns-then-not-is_taken-clause-of_problem g c = c.requires.of_problem
 
 pub returns-then-not-is_taken-clause-sizes : goal.returns-then-not-is_taken-clause-sizes
 returns-then-not-is_taken-clause-sizes g c = record { labels = refl; sites = refl }
@@ -191,9 +189,6 @@ returns-then-not-is_taken-clause-unchanged g c = refl
 pub returns-then-not-is_taken-clause-refused : goal.returns-then-not-is_taken-clause-refused
 returns-then-not-is_taken-clause-refused g c = (c.is_taken.ensures.refused c.if-not-is_taken.true).0
 
-pub build_move-requires-clause-few : goal.build_move-requires-clause-few
-build_move-requires-clause-few g c = omega (arith, c.labels.ensures.sizes.2, c.labels.ensures.value, c.requires.fits.labels)
-
 pub build_move-requires-clause-asked : goal.build_move-requires-clause-asked
 build_move-requires-clause-asked g c = λ κs lives.
     let P : ℕ → Type 0 = λ k. IsMoveOf k c.args.change in
@@ -206,7 +201,8 @@ build_move-requires-clause-asked g c = λ κs lives.
         labels = subst C c.requires.fits.labels c.as_slice.ensures.below;
         move_of = subst P (c.labels.ensures.value ∙ c.requires.fits.labels) (c.is_below.ensures.0 c.if-not-is_below.false);
       };
-      by_site = c.requires.by_site;
+      few = omega (arith, c.labels.ensures.sizes.2, c.labels.ensures.value, c.requires.fits.labels);
+      of_problem = c.requires.of_problem;
     }
 
 pub returns-clause-taken : goal.returns-clause-taken

@@ -1,4 +1,5 @@
 use Rattle.std.proofs.Common.{◌∙◌}
+use Rattle.one_move.proofs.OfProblem.{new_of_problem}
 use Rattle.moves.proofs.UnderWay.{begins_here, run_from}
 use Rattle.moves.proofs.under_way.RunUnderWay.begin.Goals as goal
 
@@ -9,7 +10,7 @@ returns g c =
     (record {
       posed = c.requires.posed;
       fits = c.requires.fits;
-      by_site = λ grouped. (let fresh = c.new.ensures in absurd (cc (grouped, fresh)));
+      of_problem = new_of_problem _ _ c.args.problem.now c.new.result c.new.ensures.grouped c.new.ensures.numbers;
       stamped = c.begin_changes.ensures;
     })
     c.begin.ensures.asked.0 labels c.begin.ensures.asked.2

@@ -14,7 +14,7 @@ returns-clause-under_way g c = record {
     sites = c.in_ok-changed.ensures.sizes.sites ∙ c.in_ok-later.ensures.sizes.sites ∙ c.requires.under_way.fits.sites;
     labels = c.in_ok-changed.ensures.sizes.labels ∙ c.in_ok-later.ensures.sizes.labels ∙ c.requires.under_way.fits.labels;
   };
-  by_site = c.in_ok-changed.ensures.by_site;
+  of_problem = c.in_ok-changed.ensures.of_problem;
   stamped = λ m meant.
       let a = c.args.alpha in
       let f = c.make_later.new.labelling.at in
