@@ -12,12 +12,11 @@ ghost use Rattle.label_field.specs.PairLists.{IsPair};
 ghost use Rattle.dual_bound.specs.Ends.{ArePairEnds};
 ghost use Rattle.counting_sort.specs.Grouping.{start_of};
 
-use crate::costs::{Form, PARTS, form_of, smooth_costs};
-use crate::rows::least;
 use crate::squares::spread_squares;
 use cost_store::Problem;
 use counting_sort::{Groups, group};
 use label_field::{Labelling, Pair, Pairs};
+use message_bound::{Form, PARTS, form_of, least, smooth_costs};
 use std::alloc::{AllocError, Global};
 
 /// It is above every number of a message.

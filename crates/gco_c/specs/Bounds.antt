@@ -2,7 +2,7 @@
 use Rattle.std.specs.Prelude.{◌≡◌, ◌⊎◌, ℕ, ◌<◌, ◌≤◌, List, All, length, ℤ, pos, ◌≤ℤ◌}
 use Rattle.std.specs.Prelude.{Result, Ok, Err}
 use Rattle.label_energies.specs.Energies.{Instance, data_energy}
-use Rattle.dual_bound.specs.Bounds.{IsLowerBound, IsCheapest}
+use Rattle.message_bound.specs.Bounds.{IsLowerBound, IsCheapest}
 use Rattle.dual_bound.specs.Sizes.{bytes_of, IsBoundRefusal}
 use Rattle.dual_bound.specs.declared.bound.LowerBound.{LowerBound}
 use Rattle.dual_bound.specs.declared.error.BoundError.{BoundError}

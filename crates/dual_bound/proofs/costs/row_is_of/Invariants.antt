@@ -1,8 +1,0 @@
-use Rattle.std.proofs.Common.{ℕ, ◌≡◌, ◌*◌, ◌<◌, slice_index}
-use Rattle.std.specs.Prelude.{min}
-use Rattle.label_field.specs.Grids.{distance}
-use Rattle.dual_bound.proofs.costs.row_is_of.Given as goal
-
-abbrev pub invariant-loop-second : goal.invariant-loop-second
-invariant-loop-second l = (b : ℕ) → b < l.second
-    → slice_index l.row b ≡ min (l.slope.step * distance l.first b) l.slope.most

@@ -1,5 +1,0 @@
-use Rattle.dual_bound.proofs.Duality.{weak_duality}
-use Rattle.dual_bound.proofs.laws.duality_is_weak.Goals as goal
-
-pub returns : goal.returns
-returns c = weak_duality

@@ -1,8 +1,0 @@
-use Rattle.std.proofs.Common.{ℕ, ◌+◌, ◌*◌, ◌^◌, ◌<◌, ◌≤◌, slice_index}
-use Rattle.dual_bound.proofs.messages.due_at.Given as goal
-
-abbrev pub invariant-loop-second : goal.invariant-loop-second
-invariant-loop-second l = record {
-  small : l.due < 2 ^ 32;
-  each : (b : ℕ) → b < l.second → slice_index l.added b ≤ l.due + l.weight * slice_index l.costs b;
-}

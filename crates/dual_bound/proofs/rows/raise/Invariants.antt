@@ -1,5 +1,0 @@
-use Rattle.dual_bound.specs.Rows.{AreRaised}
-use Rattle.dual_bound.proofs.rows.raise.Given as goal
-
-abbrev pub invariant-loop-label : goal.invariant-loop-label
-invariant-loop-label l = AreRaised l.from l.label l.by l.fn.rows l.rows

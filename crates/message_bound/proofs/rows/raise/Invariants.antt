@@ -1,0 +1,5 @@
+use Rattle.message_bound.specs.Rows.{AreRaised}
+use Rattle.message_bound.proofs.rows.raise.Given as goal
+
+abbrev pub invariant-loop-label : goal.invariant-loop-label
+invariant-loop-label l = AreRaised l.from l.label l.by l.fn.rows l.rows
