@@ -3,25 +3,15 @@
 #![tactic(auto)]
 
 mod bound;
-mod checks;
-mod cost;
 mod label;
 mod minimise;
 mod moving;
-mod outcome;
-mod pairs;
-mod ready;
-mod refusal;
-mod running;
-mod start;
-mod terms;
 #[cfg(test)]
 mod tests;
 
-pub use bound::{GcoBound, gco_lower_bound};
+pub use bound::gco_lower_bound;
+pub use gco_arrays::{GcoOne, GcoPair, GcoThree, GcoTwo};
+pub use gco_calls::{GcoBound, GcoMinimum, GcoOutcome};
 pub use label::{gco_label, gco_label_int32};
-pub use minimise::{GcoMinimum, gco_minimise};
+pub use minimise::gco_minimise;
 pub use moving::{gco_expand, gco_swap};
-pub use outcome::GcoOutcome;
-pub use pairs::GcoPair;
-pub use terms::{GcoOne, GcoThree, GcoTwo};

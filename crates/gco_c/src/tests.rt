@@ -73,30 +73,109 @@ fn tells(told: &GcoOutcome, parts: [i64; 3], place: [u64; 3], rest: [u32; 5]) ->
         ] == rest
 }
 
-/// The five districts: the least energy is 27, which expansions reach from 0 everywhere.
+/// A call over three labels: the tables of costs and the pairs; of up to five sites how many there
+/// are and where they start; its status, the labels that it leaves, and what it tells, as `tells`
+/// takes it.
+struct Case {
+    data: &'static [i64],
+    smooth: &'static [i64],
+    pairs: &'static [GcoPair],
+    sites: usize,
+    start: [u32; 5],
+    status: u32,
+    labels: [u32; 5],
+    parts: [i64; 3],
+    place: [u64; 3],
+    rest: [u32; 5],
+}
+
+/// What two sites cost at each of three labels, and the square of how far these are apart.
+const TWO_SITES: [i64; 6] = [0, 9, 9, 9, 9, 0];
+
+const SQUARES: [i64; 9] = [0, 1, 4, 1, 0, 1, 4, 1, 0];
+
+const BESIDE: GcoPair = GcoPair {
+    first: 0,
+    second: 1,
+    weight: 1,
+};
+
+const ALONE: GcoPair = GcoPair {
+    first: 0,
+    second: 0,
+    weight: 1,
+};
+
+/// Runs of expansions. The five districts, whose least energy is 27, which expansions reach from 0
+/// everywhere; no sites, where the first cycle changes nothing; and a second pair of one site
+/// alone, which is refused by its place.
+const RUNS: [Case; 3] = [
+    Case {
+        data: &DATA,
+        smooth: &POTTS,
+        pairs: &PAIRS,
+        sites: 5,
+        start: [0; 5],
+        status: 0,
+        labels: [1, 1, 1, 2, 2],
+        parts: [23, 4, 0],
+        place: [0, 1, 1],
+        rest: [2, 1, 0, 0, 0],
+    },
+    Case {
+        data: &[],
+        smooth: &POTTS,
+        pairs: &[],
+        sites: 0,
+        start: [0; 5],
+        status: 0,
+        labels: [0; 5],
+        parts: [0; 3],
+        place: [0, 1, 1],
+        rest: [1, 1, 0, 0, 0],
+    },
+    Case {
+        data: &TWO_SITES,
+        smooth: &SQUARES,
+        pairs: &[BESIDE, ALONE],
+        sites: 2,
+        start: [0, 2, 0, 0, 0],
+        status: 12,
+        labels: [0, 2, 0, 0, 0],
+        parts: [0; 3],
+        place: [1, 0, 0],
+        rest: [0; 5],
+    },
+];
+
 #[test]
-fn districts(rt: HostRuntime) -> Result<(), Fail> {
-    let mut labels = [0u32; 5];
-    let mut told = no_outcome();
-    let status = gco_label(
-        rt.alloc(),
-        3,
-        &DATA,
-        &POTTS,
-        &[],
-        &PAIRS,
-        0,
-        9,
-        &mut labels,
-        &mut told,
-    );
-    assert_eq!(rt; status, 0);
-    assert_eq!(rt; labels, [1, 1, 1, 2, 2]);
-    assert!(rt; tells(&told, [23, 4, 0], [0, 1, 1], [2, 1, 0, 0, 0]));
+fn runs(rt: HostRuntime) -> Result<(), Fail> {
+    for (place, case) in RUNS.iter().enumerate() {
+        let mut labels = case.start;
+        let mut told = no_outcome();
+        let status = gco_label(
+            rt.alloc(),
+            3,
+            case.data,
+            case.smooth,
+            &[],
+            case.pairs,
+            0,
+            9,
+            &mut labels[..case.sites.min(5)],
+            &mut told,
+        );
+        assert!(rt; status == case.status, "case {place}: status {status}");
+        assert!(rt; labels == case.labels, "case {place}: other labels");
+        assert!(rt;
+            tells(&told, case.parts, case.place, case.rest),
+            "case {place}: told otherwise"
+        );
+    }
     Ok(())
 }
 
-/// The same districts by costs of 32 bits, each label costing 2 by itself.
+/// The five districts by costs of 32 bits, each label costing 2 by itself.
 #[test]
 fn districts_int32(rt: HostRuntime) -> Result<(), Fail> {
     let mut labels = [0u32; 5];
@@ -113,32 +192,94 @@ fn districts_int32(rt: HostRuntime) -> Result<(), Fail> {
         &mut labels,
         &mut told,
     );
-    assert_eq!(rt; status, 0);
-    assert_eq!(rt; labels, [1, 1, 1, 2, 2]);
+    assert!(rt; status == 0 && labels == [1, 1, 1, 2, 2]);
     assert!(rt; tells(&told, [23, 4, 4], [0, 0, 0], [2, 1, 0, 0, 0]));
     Ok(())
 }
 
-/// One expansion of 2 from 0 everywhere, then one swap of 2 and 1: the energies after them are
-/// 25 + 4 and 21 + 7.
-#[test]
-fn single_moves(rt: HostRuntime) -> Result<(), Fail> {
-    let mut labels = [0u32; 5];
-    let mut told = no_outcome();
-    let status = gco_expand(
-        rt.alloc(),
-        3,
-        &DATA,
-        &POTTS,
-        &[],
-        &PAIRS,
+/// Expansions of one label: of 2 in the districts from 0 everywhere, to an energy of 25 + 4; of 2
+/// over no sites; and of 1 over two sites at 0 and 2 whose difference costs its square, with a term
+/// that is not regular, which names that move.
+const EXPANSIONS: [(u32, Case); 3] = [
+    (
         2,
-        &mut labels,
-        &mut told,
-    );
-    assert_eq!(rt; status, 0);
-    assert_eq!(rt; labels, [0, 2, 2, 2, 2]);
-    assert!(rt; tells(&told, [25, 4, 0], [0, 0, 0], [0, 0, 1, 0, 0]));
+        Case {
+            data: &DATA,
+            smooth: &POTTS,
+            pairs: &PAIRS,
+            sites: 5,
+            start: [0; 5],
+            status: 0,
+            labels: [0, 2, 2, 2, 2],
+            parts: [25, 4, 0],
+            place: [0; 3],
+            rest: [0, 0, 1, 0, 0],
+        },
+    ),
+    (
+        2,
+        Case {
+            data: &[],
+            smooth: &POTTS,
+            pairs: &[],
+            sites: 0,
+            start: [0; 5],
+            status: 0,
+            labels: [0; 5],
+            parts: [0; 3],
+            place: [0; 3],
+            rest: [0; 5],
+        },
+    ),
+    (
+        1,
+        Case {
+            data: &TWO_SITES,
+            smooth: &SQUARES,
+            pairs: &[BESIDE, BESIDE],
+            sites: 2,
+            start: [0, 2, 0, 0, 0],
+            status: 24,
+            labels: [0, 2, 0, 0, 0],
+            parts: [0; 3],
+            place: [0; 3],
+            rest: [0, 0, 0, 1, 1],
+        },
+    ),
+];
+
+#[test]
+fn expansions(rt: HostRuntime) -> Result<(), Fail> {
+    for (place, row) in EXPANSIONS.iter().enumerate() {
+        let case = &row.1;
+        let mut labels = case.start;
+        let mut told = no_outcome();
+        let status = gco_expand(
+            rt.alloc(),
+            3,
+            case.data,
+            case.smooth,
+            &[],
+            case.pairs,
+            row.0,
+            &mut labels[..case.sites.min(5)],
+            &mut told,
+        );
+        assert!(rt; status == case.status, "case {place}: status {status}");
+        assert!(rt; labels == case.labels, "case {place}: other labels");
+        assert!(rt;
+            tells(&told, case.parts, case.place, case.rest),
+            "case {place}: told otherwise"
+        );
+    }
+    Ok(())
+}
+
+/// A swap of 2 and 1 in the districts after the first of these expansions: to an energy of 21 + 7.
+#[test]
+fn one_swap(rt: HostRuntime) -> Result<(), Fail> {
+    let mut labels = [0u32, 2, 2, 2, 2];
+    let mut told = no_outcome();
     let status = gco_swap(
         rt.alloc(),
         3,
@@ -151,96 +292,8 @@ fn single_moves(rt: HostRuntime) -> Result<(), Fail> {
         &mut labels,
         &mut told,
     );
-    assert_eq!(rt; status, 0);
-    assert_eq!(rt; labels, [0, 1, 1, 2, 2]);
+    assert!(rt; status == 0 && labels == [0, 1, 1, 2, 2]);
     assert!(rt; tells(&told, [21, 7, 0], [0, 0, 0], [0, 0, 1, 0, 0]));
-    Ok(())
-}
-
-/// No sites: the first cycle changes nothing, and nor does a move.
-#[test]
-fn no_sites(rt: HostRuntime) -> Result<(), Fail> {
-    let mut labels = [0u32; 0];
-    let mut told = no_outcome();
-    let status = gco_label(
-        rt.alloc(),
-        3,
-        &[],
-        &POTTS,
-        &[],
-        &[],
-        0,
-        9,
-        &mut labels,
-        &mut told,
-    );
-    assert_eq!(rt; status, 0);
-    assert!(rt; tells(&told, [0, 0, 0], [0, 1, 1], [1, 1, 0, 0, 0]));
-    let status = gco_expand(
-        rt.alloc(),
-        3,
-        &[],
-        &POTTS,
-        &[],
-        &[],
-        2,
-        &mut labels,
-        &mut told,
-    );
-    assert_eq!(rt; status, 0);
-    assert!(rt; tells(&told, [0, 0, 0], [0, 0, 0], [0; 5]));
-    Ok(())
-}
-
-/// Two sites at 0 and 2 whose difference costs its square: the expansion of 1 has a term that is
-/// not regular, which names that move. A second pair of one site alone is refused by its place.
-#[test]
-fn refused_calls(rt: HostRuntime) -> Result<(), Fail> {
-    let mut pairs = [
-        GcoPair {
-            first: 0,
-            second: 1,
-            weight: 1,
-        },
-        GcoPair {
-            first: 0,
-            second: 1,
-            weight: 1,
-        },
-    ];
-    let data = [0i64, 9, 9, 9, 9, 0];
-    let squares = [0i64, 1, 4, 1, 0, 1, 4, 1, 0];
-    let mut labels = [0u32, 2];
-    let mut told = no_outcome();
-    let status = gco_expand(
-        rt.alloc(),
-        3,
-        &data,
-        &squares,
-        &[],
-        &pairs,
-        1,
-        &mut labels,
-        &mut told,
-    );
-    assert_eq!(rt; status, 24);
-    assert!(rt; tells(&told, [0, 0, 0], [0, 0, 0], [0, 0, 0, 1, 1]));
-    pairs[1].second = 0;
-    let status = gco_label(
-        rt.alloc(),
-        3,
-        &data,
-        &squares,
-        &[],
-        &pairs,
-        0,
-        9,
-        &mut labels,
-        &mut told,
-    );
-    assert_eq!(rt; status, 12);
-    assert!(rt; tells(&told, [0, 0, 0], [1, 0, 0], [0; 5]));
-    assert_eq!(rt; labels, [0, 2]);
     Ok(())
 }
 
@@ -292,10 +345,8 @@ fn three_variables(rt: HostRuntime) -> Result<(), Fail> {
         &mut assignment,
         &mut told,
     );
-    assert_eq!(rt; status, 0);
-    assert_eq!(rt; assignment, [1, 1, 1]);
-    assert_eq!(rt; told.value, 12);
-    assert_eq!(rt; [told.place, told.fixed, told.fixed_at], [0, 3, 0]);
+    assert!(rt; status == 0 && assignment == [1, 1, 1]);
+    assert!(rt; told.value == 12 && told.place == 0 && told.fixed == 3 && told.fixed_at == 0);
     Ok(())
 }
 
@@ -334,8 +385,7 @@ fn bound_of_a_chain(rt: HostRuntime) -> Result<(), Fail> {
             &mut told,
         );
     }
-    assert_eq!(rt; status, [9, 0]);
+    assert!(rt; status == [9, 0] && labels == [0, 1, 1]);
     assert!(rt; told.low == 6 && told.place == 0);
-    assert_eq!(rt; labels, [0, 1, 1]);
     Ok(())
 }

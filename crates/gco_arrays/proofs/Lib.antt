@@ -1,0 +1,5 @@
+pub mod Entries
+pub mod Given
+pub mod Lists
+pub mod Numbers
+pub mod Parts

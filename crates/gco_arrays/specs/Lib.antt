@@ -1,0 +1,5 @@
+pub mod Calls
+pub mod Energies
+pub mod Refusals
+pub mod Statuses
+pub mod TermRefusals

@@ -1,7 +1,0 @@
-pub mod Bits
-pub mod Entries
-pub mod Given
-pub mod Lists
-pub mod Numbers
-pub mod Parts
-pub mod Told

@@ -1,5 +1,0 @@
-use Rattle.std.proofs.Common.{rules}
-use Rattle.gco_c.proofs.minimise.put.Goals as goal
-
-pub returns : goal.returns
-returns c = search rules

@@ -1,8 +1,0 @@
-use Rattle.std.proofs.Common.{◌∙◌}
-use Rattle.gco_c.proofs.Told.{move_is_told}
-use Rattle.gco_c.proofs.moving.make.Goals as goal
-
-pub returns-in-Ok-clause-moved : goal.returns-in-Ok-clause-moved
-returns-in-Ok-clause-moved g c =
-    λ ok. move_is_told _ c.args.change _ _ c.in-Ok.moved c.in-Ok.ensures.given c.in-Ok.ensures.moved
-    (c.copy_labels.ensures ∙ c.as_slice.ensures.value) c.tell_move.ensures

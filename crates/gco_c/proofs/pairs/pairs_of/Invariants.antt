@@ -1,6 +1,0 @@
-use Rattle.std.proofs.Common.{◌≡◌, take}
-use Rattle.gco_c.specs.Calls.{list_given}
-use Rattle.gco_c.proofs.pairs.pairs_of.Given as goal
-
-abbrev pub invariant-loop-place : goal.invariant-loop-place
-invariant-loop-place l = l.pairs ≡ list_given l.fn.sites (take l.place l.fn.given)

@@ -1,0 +1,6 @@
+pub mod Bounds
+pub mod Calls
+pub mod Minima
+pub mod Moved
+pub mod Outcomes
+pub mod Refusals

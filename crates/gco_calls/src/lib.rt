@@ -1,0 +1,16 @@
+//! What each call of C does and tells, over the arrays that it was given. A call keeps nothing when
+//! it returns.
+#![tactic(auto)]
+
+mod bound;
+mod label;
+mod minimise;
+mod moving;
+mod outcome;
+mod running;
+
+pub use bound::{GcoBound, answer_bound};
+pub use label::answer_run;
+pub use minimise::{GcoMinimum, answer_minimum};
+pub use moving::answer_move;
+pub use outcome::GcoOutcome;
