@@ -1,6 +1,6 @@
 //! Energies as they are put in. The values were worked by hand.
-use crate::rows::expect;
-use pseudo_bool::{Energy, EnergyError, Term, VARIABLE_LIMIT};
+use crate::rows::{expect, hold};
+use pseudo_bool::{Energy, EnergyError, Term};
 use std::process::Abort;
 
 /// Adds a term.
@@ -38,22 +38,32 @@ pub const VALUES: &[i64] = &[
     2_000_000_066,
 ];
 
-/// Adds all terms.
-pub fn add_terms(energy: &mut Energy) -> Result<(), EnergyError> {
+/// Adds all terms. Whether none was refused.
+pub fn add_terms(energy: &mut Energy) -> bool {
     for term in TERMS {
-        add_term(energy, *term)?;
+        if add_term(energy, *term).is_err() {
+            return false;
+        }
     }
-    Ok(())
+    true
 }
 
-/// Adds five variables, a constant and terms.
-fn fill(rt: &impl Abort, energy: &mut Energy) -> Result<(), EnergyError> {
+/// Adds five variables. Whether they got their numbers.
+fn add_variables(energy: &mut Energy) -> bool {
     for number in 0..5 {
-        assert!(*rt; energy.add_variable()? == number);
+        if energy.add_variable() != Ok(number) {
+            return false;
+        }
     }
-    energy.add_constant(GREATEST)?;
-    add_terms(energy)?;
-    energy.add_term3(4, 3, 1, [1; 8])
+    true
+}
+
+/// Adds five variables, a constant and terms. Whether none was refused.
+fn fill(energy: &mut Energy) -> bool {
+    add_variables(energy)
+        && energy.add_constant(GREATEST).is_ok()
+        && add_terms(energy)
+        && energy.add_term3(4, 3, 1, [1; 8]).is_ok()
 }
 
 /// Whether an energy has this constant, three variables, and so many terms.
@@ -61,11 +71,22 @@ fn holds(energy: &Energy, constant: i64, terms: usize) -> bool {
     energy.constant() == constant && energy.variables() == 3 && energy.term_count() == terms
 }
 
+/// Whether an energy that is cleared keeps nothing old.
+fn is_cleared(energy: &mut Energy) -> bool {
+    energy.clear(3);
+    holds(energy, 0, 0) && energy.value(&[true, true, true]) == 0
+}
+
+/// Whether it then takes the constant -9 and the terms.
+fn is_filled_again(energy: &mut Energy) -> bool {
+    energy.add_constant(-9).is_ok() && add_terms(energy) && holds(energy, -9, 6)
+}
+
 /// The terms stand in their order.
 fn expect_terms(rt: &impl Abort, energy: &Energy) {
     for (place, term) in TERMS.iter().enumerate() {
         let is_held = place < energy.term_count() && energy.term(place) == *term;
-        expect(rt, "TERMS", place, is_held);
+        expect(rt, place, is_held);
     }
 }
 
@@ -74,35 +95,16 @@ fn expect_values(rt: &impl Abort, energy: &Energy) {
     for (place, value) in VALUES.iter().enumerate() {
         let bits = [place & 4 != 0, place & 2 != 0, place & 1 != 0];
         let is_value = energy.variables() == 3 && energy.value(&bits) == *value;
-        expect(rt, "VALUES", place, is_value);
+        expect(rt, place, is_value);
     }
 }
 
 #[test]
 fn energies_hold_what_was_put_in(rt: HostRuntime) {
     let mut energy = Energy::new(rt.alloc());
-    assert!(rt; fill(&rt, &mut energy) == Ok(()));
-    // Cleared, it keeps nothing old.
-    energy.clear(3);
-    assert!(rt; holds(&energy, 0, 0));
-    assert!(rt; energy.variables() == 3 && energy.value(&[true, true, true]) == 0);
-    assert!(rt; energy.add_constant(-9) == Ok(()) && add_terms(&mut energy) == Ok(()));
-    assert!(rt; holds(&energy, -9, 6));
+    hold(&rt, Energy::fits(5) && fill(&mut energy));
+    hold(&rt, is_cleared(&mut energy));
+    hold(&rt, is_filled_again(&mut energy));
     expect_terms(&rt, &energy);
     expect_values(&rt, &energy);
-}
-
-#[test]
-fn numbers_and_variables_have_limits(rt: HostRuntime) {
-    assert!(rt; Energy::fits(2_097_152) && !Energy::fits(2_097_153));
-    let mut energy = Energy::new(rt.alloc());
-    energy.clear(2_097_151);
-    assert!(rt; energy.add_variable() == Ok(2_097_151));
-    assert!(rt; energy.add_variable() == Err(EnergyError::NoSuchVariable));
-    assert!(rt; energy.variables() == VARIABLE_LIMIT);
-    assert!(rt; energy.add_constant(GREATEST + 1) == Err(EnergyError::ValueRange));
-    assert!(rt; energy.add_constant(LEAST - 1) == Err(EnergyError::ValueRange));
-    assert!(rt; energy.add_constant(GREATEST) == Ok(()));
-    assert!(rt; energy.add_constant(GREATEST) == Ok(()));
-    assert!(rt; energy.constant() == 2_000_000_000);
 }

@@ -1,5 +1,5 @@
-//! Tests of energies: what is put in, what is refused, costs over named variables, which terms are
-//! regular, and minima.
+//! Tests of energies: what is put in, costs over named variables, which terms are regular, and
+//! minima.
 #![tactic(auto)]
 
 #[cfg(test)]
@@ -7,7 +7,7 @@ mod energies;
 #[cfg(test)]
 mod minima;
 #[cfg(test)]
-mod refusals;
+mod regularity;
 #[cfg(test)]
 mod rows;
 #[cfg(test)]

@@ -3,15 +3,14 @@ ghost use Rattle.std.specs.Prelude.{◌≡◌, vec_len, IfOk};
 ghost use Rattle.pseudo_bool.specs.Limits.{term_limit};
 ghost use Rattle.compile_cut.specs.Quadratics.{IsQuadraticBounded};
 
-use crate::rows::expect;
+use crate::rows::{expect, hold};
 use compile_cut::{Net, Quadratic, compile, net_of};
 use flow_network::cut_capacity;
 use minimum::minimise;
-use pseudo_bool::{Energy, EnergyError};
+use pseudo_bool::Energy;
 use regular::check;
 use std::alloc::{AllocError, Global};
 use std::process::Abort;
-use std::test::Fail;
 
 /// Tables over x0, over x1 and over both, the values at 00, 01, 10 and 11, the least and where it
 /// stands.
@@ -65,28 +64,41 @@ fn cut_values(rt: &impl Abort, net: &Net, constant: i64) -> [i64; 4] {
     values
 }
 
-/// The energy of the tables of a case.
-fn put(energy: &mut Energy, case: &Case) -> Result<(), EnergyError> {
+/// The energy of the tables of a case. Whether no table was refused.
+fn put(energy: &mut Energy, case: &Case) -> bool {
     energy.clear(2);
-    energy.add_term1(0, case.0)?;
-    energy.add_term1(1, case.1)?;
-    energy.add_term2(0, 1, case.2)
+    energy.add_term1(0, case.0).is_ok()
+        && energy.add_term1(1, case.1).is_ok()
+        && energy.add_term2(0, 1, case.2).is_ok()
+}
+
+/// Whether the cuts of an energy show these values.
+fn shows(rt: &impl Abort, alloc: Global, energy: &Energy, values: &[i64; 4]) -> bool {
+    let Ok(regular) = check(energy) else {
+        return false;
+    };
+    match compile(alloc, regular) {
+        Ok(compiled) => cut_values(rt, &compiled.net, compiled.constant) == *values,
+        Err(_) => false,
+    }
+}
+
+/// Whether this is the minimum of an energy, and stands at this assignment.
+fn has_minimum(alloc: Global, energy: &Energy, value: i64, assignment: &[bool]) -> bool {
+    let Ok(regular) = check(energy) else {
+        return false;
+    };
+    match minimise(alloc, regular) {
+        Ok(minimum) => minimum.value == value && minimum.assignment.as_slice() == assignment,
+        Err(_) => false,
+    }
 }
 
 /// Whether the cuts show the values of a case, and the minimum is its least.
-fn is_right(
-    rt: &impl Abort,
-    alloc: Global,
-    energy: &Energy,
-    case: &Case,
-) -> Result<bool, AllocError> {
-    let compiled = compile(alloc, check(energy).expect(rt, "regular"))?;
-    let minimum = minimise(alloc, check(energy).expect(rt, "regular"))?;
-    Ok(
-        cut_values(rt, &compiled.net, compiled.constant) == case.3
-            && minimum.value == case.4
-            && minimum.assignment.as_slice() == case.5.as_slice(),
-    )
+fn is_right(rt: &impl Abort, alloc: Global, energy: &mut Energy, case: &Case) -> bool {
+    put(energy, case)
+        && shows(rt, alloc, energy, &case.3)
+        && has_minimum(alloc, energy, case.4, &case.5)
 }
 
 /// The form of the first case, its terms added one after another.
@@ -102,21 +114,27 @@ fn first_form(alloc: Global) -> Result<Quadratic, AllocError>
 }
 
 #[test]
-fn cuts_show_values_and_minima(rt: HostRuntime) -> Result<(), Fail> {
+fn cuts_show_values_and_minima(rt: HostRuntime) {
     let mut energy = Energy::new(rt.alloc());
     for (place, case) in CASES.iter().enumerate() {
-        put(&mut energy, case)?;
-        let is_right = is_right(&rt, rt.alloc(), &energy, case)?;
-        expect(&rt, "CASES", place, is_right);
+        expect(&rt, place, is_right(&rt, rt.alloc(), &mut energy, case));
     }
-    Ok(())
+}
+
+/// Whether the cuts of the first case's form show its values.
+fn shows_first_form(rt: &impl Abort, alloc: Global) -> bool {
+    let Ok(form) = first_form(alloc) else {
+        return false;
+    };
+    match net_of(alloc, form) {
+        Ok(compiled) => cut_values(rt, &compiled.net, compiled.constant) == CASES[0].3,
+        Err(_) => false,
+    }
 }
 
 #[test]
-fn cuts_show_a_form(rt: HostRuntime) -> Result<(), Fail> {
-    let compiled = net_of(rt.alloc(), first_form(rt.alloc())?)?;
-    assert!(rt; cut_values(&rt, &compiled.net, compiled.constant) == CASES[0].3);
-    Ok(())
+fn cuts_show_a_form(rt: HostRuntime) {
+    hold(&rt, shows_first_form(&rt, rt.alloc()));
 }
 
 /// The constants of energies without terms, and their least assignments with the fewest ones. The
@@ -124,28 +142,20 @@ fn cuts_show_a_form(rt: HostRuntime) -> Result<(), Fail> {
 const BARE: &[(i64, &[bool])] = &[(7, &[]), (-2, &[false; 3])];
 
 /// Whether an energy without terms has this constant as its minimum, at this assignment.
-fn is_bare_minimum(
-    rt: &impl Abort,
-    alloc: Global,
-    energy: &mut Energy,
-    constant: i64,
-    assignment: &[bool],
-) -> Result<bool, EnergyError> {
+fn is_bare(alloc: Global, energy: &mut Energy, constant: i64, assignment: &[bool]) -> bool {
     energy.clear(0);
-    energy.add_constant(constant)?;
     for _ in assignment {
-        energy.add_variable()?;
+        if energy.add_variable().is_err() {
+            return false;
+        }
     }
-    let minimum = minimise(alloc, check(energy).expect(rt, "regular"))?;
-    Ok(minimum.value == constant && minimum.assignment.as_slice() == assignment)
+    energy.add_constant(constant).is_ok() && has_minimum(alloc, energy, constant, assignment)
 }
 
 #[test]
-fn energies_without_terms(rt: HostRuntime) -> Result<(), Fail> {
+fn energies_without_terms(rt: HostRuntime) {
     let mut energy = Energy::new(rt.alloc());
-    for (place, (constant, assignment)) in BARE.iter().enumerate() {
-        let is_right = is_bare_minimum(&rt, rt.alloc(), &mut energy, *constant, assignment)?;
-        expect(&rt, "BARE", place, is_right);
+    for (place, row) in BARE.iter().enumerate() {
+        expect(&rt, place, is_bare(rt.alloc(), &mut energy, row.0, row.1));
     }
-    Ok(())
 }

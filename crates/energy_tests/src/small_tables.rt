@@ -1,13 +1,12 @@
 //! The minimum of every table of three variables over -1, 0 and 1, against a search over all
 //! assignments.
-use crate::rows::expect;
+use crate::rows::{expect, hold};
 use crate::small_answers::ANSWERS;
 use minimum::minimise;
-use pseudo_bool::{Energy, EnergyError};
-use regular::{Fixed, check};
+use pseudo_bool::Energy;
+use regular::{Fixed, NotRegular, Regular, check};
 use std::alloc::Global;
 use std::process::Abort;
-use std::test::Fail;
 
 /// The table whose numbers are the ternary digits of a number, less 1.
 fn table_of(number: usize) -> [i64; 8] {
@@ -44,31 +43,6 @@ fn letter_of(bits: &[bool]) -> u8 {
     }
 }
 
-/// The digit of the first failing projection, or the letter of the least assignment, and the least
-/// value.
-fn answer_of(
-    rt: &impl Abort,
-    alloc: Global,
-    energy: &mut Energy,
-    table: [i64; 8],
-) -> Result<(u8, Option<i64>), EnergyError> {
-    energy.clear(3);
-    energy.add_term3(0, 1, 2, table)?;
-    match check(energy) {
-        Ok(regular) => {
-            let minimum = minimise(alloc, regular)?;
-            Ok((
-                letter_of(minimum.assignment.as_slice()),
-                Some(minimum.value),
-            ))
-        }
-        Err(failing) => {
-            assert!(rt; failing.term == 0);
-            Ok((digit_of(failing.fixed.expect(rt, "a projection")), None))
-        }
-    }
-}
-
 /// The least entry of a table.
 fn least_of(table: &[i64; 8]) -> i64 {
     let mut least = table[0];
@@ -78,34 +52,57 @@ fn least_of(table: &[i64; 8]) -> i64 {
     least
 }
 
-/// Whether the table of a number has this answer.
-fn is_answered(
+/// Whether this letter is that of the least assignment, and the minimum the least entry.
+fn is_least(alloc: Global, regular: Regular, table: &[i64; 8], answer: u8) -> bool {
+    match minimise(alloc, regular) {
+        Ok(minimum) => {
+            letter_of(minimum.assignment.as_slice()) == answer && minimum.value == least_of(table)
+        }
+        Err(_) => false,
+    }
+}
+
+/// Whether this digit is that of the projection that fails.
+fn is_failing(failing: NotRegular, answer: u8) -> bool {
+    match failing.fixed {
+        Some(fixed) => failing.term == 0 && digit_of(fixed) == answer,
+        None => false,
+    }
+}
+
+/// Whether a table has this answer.
+fn is_answered(alloc: Global, energy: &mut Energy, table: &[i64; 8], answer: u8) -> bool {
+    energy.clear(3);
+    if energy.add_term3(0, 1, 2, *table).is_err() {
+        return false;
+    }
+    match check(energy) {
+        Ok(regular) => is_least(alloc, regular, table, answer),
+        Err(failing) => is_failing(failing, answer),
+    }
+}
+
+/// The answers of 81 tables, the first of which has this number.
+fn expect_answers(
     rt: &impl Abort,
     alloc: Global,
     energy: &mut Energy,
-    number: usize,
-    answer: u8,
-) -> Result<bool, EnergyError> {
-    let table = table_of(number);
-    let (letter, value) = answer_of(rt, alloc, energy, table)?;
-    let is_least = match value {
-        Some(value) => value == least_of(&table),
-        None => true,
-    };
-    Ok(letter == answer && is_least)
+    first: usize,
+    answers: &[u8],
+) {
+    hold(rt, answers.len() == 81);
+    for (place, answer) in answers.iter().enumerate() {
+        let number = first.wrapping_add(place);
+        let is_right = is_answered(alloc, energy, &table_of(number), *answer);
+        expect(rt, number, is_right);
+    }
 }
 
 #[test]
-fn every_small_table_of_three(rt: HostRuntime) -> Result<(), Fail> {
+fn every_small_table_of_three(rt: HostRuntime) {
     let mut energy = Energy::new(rt.alloc());
-    let mut number = 0usize;
-    for line in &ANSWERS {
-        for answer in line.as_bytes() {
-            let is_right = is_answered(&rt, rt.alloc(), &mut energy, number, *answer)?;
-            expect(&rt, "ANSWERS", number, is_right);
-            number = number.wrapping_add(1);
-        }
+    for place in 0..ANSWERS.len() {
+        let answers = ANSWERS[place].as_bytes();
+        expect_answers(&rt, rt.alloc(), &mut energy, 81 * place, answers);
     }
-    assert!(rt; number == 6561);
-    Ok(())
 }

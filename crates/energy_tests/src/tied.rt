@@ -2,10 +2,8 @@
 //! by hand.
 use crate::energies::{VALUES, add_terms};
 use crate::rows::expect;
-use pseudo_bool::{Energy, EnergyError, TERM_LIMIT, Term, VARIABLE_LIMIT};
+use pseudo_bool::{Energy, EnergyError, Term};
 use regular::is_regular_table;
-use std::process::Abort;
-use std::test::Fail;
 
 /// Named variables, a cost, whether it is paid unless all of them are 1, else if any is, and at
 /// 000, 001 and so on whether it is paid: 1 says yes.
@@ -42,6 +40,20 @@ fn tie(
     }
 }
 
+/// Whether a term is of this variable and the fourth, and a regular one.
+fn is_pair_with(term: Term, name: u32) -> bool {
+    match term {
+        Term::Two(first, 3, table) => {
+            first == name
+                && table
+                    .iter()
+                    .all(|value| value.unsigned_abs() <= 1_000_000_000)
+                && is_regular_table(&table)
+        }
+        _ => false,
+    }
+}
+
 /// Whether the terms from the seventh on are one of variable 3 alone, and of each named variable
 /// and it a regular one.
 fn are_terms(energy: &Energy, names: &[u32]) -> bool {
@@ -49,17 +61,7 @@ fn are_terms(energy: &Energy, names: &[u32]) -> bool {
         return false;
     }
     for (place, name) in names.iter().enumerate() {
-        let is_told = match energy.term(7 + place) {
-            Term::Two(first, 3, table) => {
-                first == *name
-                    && table
-                        .iter()
-                        .all(|value| value.unsigned_abs() <= 1_000_000_000)
-                    && is_regular_table(&table)
-            }
-            _ => false,
-        };
-        if !is_told {
+        if !is_pair_with(energy.term(7 + place), *name) {
             return false;
         }
     }
@@ -96,55 +98,25 @@ fn are_least(energy: &Energy, cost: i64, paid: &[u8; 8]) -> bool {
     true
 }
 
-#[test]
-fn tied_costs_are_paid(rt: HostRuntime) -> Result<(), Fail> {
-    for (place, (names, cost, unless_all, paid)) in TIED.iter().enumerate() {
-        let mut energy = Energy::new(rt.alloc());
-        energy.clear(3);
-        energy.add_constant(-9)?;
-        add_terms(&mut energy)?;
-        let number = tie(&mut energy, names, *cost, *unless_all)?;
-        let is_right = number == 3
-            && energy.variables() == 4
-            && are_terms(&energy, names)
-            && are_least(&energy, *cost, paid);
-        expect(&rt, "TIED", place, is_right);
-    }
-    Ok(())
-}
-
-/// Why an energy of three variables refuses a cost over named variables.
-const REFUSED: &[(&[u32], i64, EnergyError)] = &[
-    (&[3], -1, EnergyError::NoSuchVariable),
-    (&[0, 3], 0, EnergyError::NoSuchVariable),
-    (&[0, 1], -1, EnergyError::ValueRange),
-    (&[], 1_000_000_001, EnergyError::ValueRange),
-];
-
-/// Whether a cost is refused so both ways, and the energy keeps what it has.
-fn is_refused(energy: &mut Energy, names: &[u32], cost: i64, error: EnergyError) -> bool {
-    let (variables, terms) = (energy.variables(), energy.term_count());
-    tie(energy, names, cost, true) == Err(error)
-        && tie(energy, names, cost, false) == Err(error)
-        && energy.variables() == variables
-        && energy.term_count() == terms
-}
-
-#[test]
-fn the_first_cause_of_a_cost_is_told(rt: HostRuntime) -> Result<(), Fail> {
-    let mut energy = Energy::new(rt.alloc());
+/// The energy of three variables to which a cost is added. Whether nothing was refused.
+fn fill(energy: &mut Energy) -> bool {
     energy.clear(3);
-    energy.add_term1(1, [3, 4])?;
-    for (place, (names, cost, error)) in REFUSED.iter().enumerate() {
-        let is_refused = is_refused(&mut energy, names, *cost, *error);
-        expect(&rt, "REFUSED", place, is_refused);
+    energy.add_constant(-9).is_ok() && add_terms(energy)
+}
+
+/// Whether a cost is paid where it is to be.
+fn is_paid(energy: &mut Energy, tied: &Tied) -> bool {
+    fill(energy)
+        && tie(energy, tied.0, tied.1, tied.2) == Ok(3)
+        && energy.variables() == 4
+        && are_terms(energy, tied.0)
+        && are_least(energy, tied.1, tied.3)
+}
+
+#[test]
+fn tied_costs_are_paid(rt: HostRuntime) {
+    let mut energy = Energy::new(rt.alloc());
+    for (place, tied) in TIED.iter().enumerate() {
+        expect(&rt, place, is_paid(&mut energy, tied));
     }
-    // With the term that is there, a term of the new variable and one of each name are one too
-    // many.
-    let names = vec![in rt.alloc(); 0u32; TERM_LIMIT - 1]?;
-    assert!(rt; is_refused(&mut energy, names.as_slice(), -1, EnergyError::ValueRange));
-    assert!(rt; is_refused(&mut energy, names.as_slice(), 0, EnergyError::TooManyTerms));
-    energy.clear(VARIABLE_LIMIT);
-    assert!(rt; is_refused(&mut energy, &[0], -1, EnergyError::NoSuchVariable));
-    Ok(())
 }

@@ -1,56 +1,8 @@
-//! Terms that are refused, and the first term that is not regular.
+//! The first term that is not regular.
 use crate::energies::add_term;
-use crate::rows::expect;
-use pseudo_bool::{Energy, EnergyError, Term};
+use crate::rows::{expect, hold};
+use pseudo_bool::{Energy, Term};
 use regular::{Fixed, NotRegular, check, is_regular_table};
-
-const BEYOND: i64 = 1_000_000_001;
-
-const UNKNOWN: EnergyError = EnergyError::NoSuchVariable;
-
-const SAME: EnergyError = EnergyError::SameVariable;
-
-const RANGE: EnergyError = EnergyError::ValueRange;
-
-/// Terms, and why an energy of three variables refuses each.
-const REFUSED: &[(Term, EnergyError)] = &[
-    (Term::One(5, [BEYOND, 0]), UNKNOWN),
-    (Term::One(3, [0, 0]), UNKNOWN),
-    (Term::One(0, [BEYOND, 0]), RANGE),
-    (Term::One(0, [0, -BEYOND]), RANGE),
-    (Term::Two(5, 5, [0; 4]), UNKNOWN),
-    (Term::Two(0, 3, [0; 4]), UNKNOWN),
-    (Term::Two(0, 0, [0, 0, 0, BEYOND]), SAME),
-    (Term::Two(0, 1, [0, 0, 0, BEYOND]), RANGE),
-    (Term::Three(0, 0, 3, [0; 8]), UNKNOWN),
-    (Term::Three(0, 3, 1, [BEYOND; 8]), UNKNOWN),
-    (Term::Three(0, 2, 0, [BEYOND; 8]), SAME),
-    (Term::Three(2, 1, 1, [BEYOND; 8]), SAME),
-    (Term::Three(1, 1, 2, [BEYOND; 8]), SAME),
-    (Term::Three(0, 2, 1, [0, 0, 0, 0, 0, 0, 0, -BEYOND]), RANGE),
-];
-
-/// Whether an energy of three variables and a term refuses this one, and keeps what it has.
-fn is_refused(energy: &mut Energy, term: Term, error: EnergyError) -> bool {
-    add_term(energy, term) == Err(error) && energy.variables() == 3 && energy.term_count() == 1
-}
-
-#[test]
-fn the_first_cause_is_told(rt: HostRuntime) {
-    let mut energy = Energy::new(rt.alloc());
-    energy.clear(3);
-    assert!(rt; energy.add_term1(1, [3, 4]) == Ok(()));
-    for (place, (term, error)) in REFUSED.iter().enumerate() {
-        expect(
-            &rt,
-            "REFUSED",
-            place,
-            is_refused(&mut energy, *term, *error),
-        );
-    }
-    assert!(rt; energy.term_count() == 1);
-    assert!(rt; energy.term(0) == Term::One(1, [3, 4]));
-}
 
 /// A first term and a second, and the place of the first that is not regular with what was fixed
 /// there.
@@ -130,13 +82,18 @@ fn is_told(energy: &mut Energy, tried: &Tried) -> bool {
         && check(energy).err() == not_regular(*expected)
 }
 
+/// Whether tables of large numbers are told to be regular, or not.
+fn are_large_told() -> bool {
+    let large = 1_000_000_000_000_000_000;
+    is_regular_table(&[large, large, large, large])
+        && !is_regular_table(&[large, -large, large, large])
+}
+
 #[test]
 fn the_first_failing_term_is_named(rt: HostRuntime) {
-    let large = 1_000_000_000_000_000_000;
-    assert!(rt; is_regular_table(&[large, large, large, large]));
-    assert!(rt; !is_regular_table(&[large, -large, large, large]));
     let mut energy = Energy::new(rt.alloc());
+    hold(&rt, are_large_told());
     for (place, tried) in TRIED.iter().enumerate() {
-        expect(&rt, "TRIED", place, is_told(&mut energy, tried));
+        expect(&rt, place, is_told(&mut energy, tried));
     }
 }
