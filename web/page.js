@@ -185,8 +185,8 @@ function showCommand(words) {
 
 // Of two labels the first expansion reaches each labelling.
 function gapOf({ job, bound }) {
-  if (job.command === "segment") return "0: none costs less";
-  return bound ? `at most ${(2 * bound.vmax / bound.vmin).toLocaleString("en")} times` : "";
+  if (job.command === "segment") return "equal: none costs less";
+  return bound ? `at most ${(2 * bound.vmax / bound.vmin).toLocaleString("en")} times it` : "";
 }
 
 function forgetAnswer() {
