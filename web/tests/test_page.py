@@ -244,7 +244,7 @@ def try_sentences(browser, folder):
     wants(note == "The picture has 3000 by 2000 pixels. It was made smaller: 627 by 418.", f"a huge picture: {note}")
     browser.click("#run")
     wants(browser.said() == "Paint a stroke on the figure, and one on the background.", f"no strokes: {browser.said()}")
-    settle(browser, byGrey=True)
+    settle(browser, live=False, byGrey=True)
     browser.run("JOBS.kept = JOBS.segment; JOBS.segment = () => ({ ...JOBS.kept(), options: { low: 70000, high: 0 } })")
     browser.click("#run")
     said = answered(browser)
@@ -409,6 +409,7 @@ def in_firefox(page, cases, shots):
         for mode in ("segment", "restore", "stereo"):
             browser.open(f"{page.as_uri()}#{mode}-example")
             browser.wait("return state.last !== null && !state.job")
+            time.sleep(0.3)
             browser.shot(shots / f"firefox_{mode}.png")
     finally:
         browser.close()
