@@ -8,13 +8,17 @@ async function take(files) {
     } catch {
       return say(`${file.name} is no picture that this browser reads, or it is too large for it.`, true);
     }
-  if (pictures.length) begin(...pictures);
+  if (!pictures.length) return;
+  if (isRightViewDue() && pictures.length === 1) takeSecond(...pictures);
+  else begin(...pictures);
 }
+
+const isRightViewDue = () => state.mode === "stereo" && state.isLeft && !state.right;
 
 // Begins with a picture and, where there are two, its right view or its strokes.
 function begin(picture, second) {
   stop();
-  Object.assign(state, { picture, right: null, undo: [], cursor: null, seeds: new Uint8Array(picture.samples.length) });
+  Object.assign(state, { picture, isLeft: state.mode === "stereo", right: null, undo: [], cursor: null, seeds: new Uint8Array(picture.samples.length) });
   forgetAnswer();
   showParts();
   tellSize(picture);
@@ -28,6 +32,7 @@ function takeSecond(second) {
   if (second.width !== width || second.height !== height)
     return say(`The two pictures have different sizes: ${width} by ${height}, and ${second.width} by ${second.height}.`, true);
   if (state.mode === "segment") {
+    keepForUndo();
     state.seeds = seedsOf(second);
     strokesChanged();
   } else {
@@ -44,7 +49,6 @@ function tellSize({ width, height, from }) {
 
 async function takeStrokes(files) {
   if (!state.picture) return say("Choose a picture before its strokes.", true);
-  keepForUndo();
   try {
     takeSecond((await readPictures(files[0], PIXEL_LIMIT))[0]);
   } catch {

@@ -7,6 +7,7 @@ const bytesOf = (text) => Uint8Array.from(atob(text), (letter) => letter.charCod
 const state = {
   mode: "segment",
   picture: null, // what was read: { width, height, maxval, samples, colours, from }
+  isLeft: false, // whether it was chosen as the left view
   right: null, // the right view
   seeds: null, // the strokes: 0 free, 1 figure, 2 background
   undo: [], // the strokes before each change
@@ -83,13 +84,15 @@ function tellFailure(reason, isBroken) {
 // --- What is asked ---
 
 const isComplete = () => state.picture && (state.mode !== "stereo" || state.right);
+const isReady = () => isComplete() && (state.mode !== "segment" || isPainted());
 
 function wantedNext() {
   if (!state.picture) return "No picture yet.";
-  if (state.mode === "stereo" && !state.right) return "Choose two files together: the left view and the right one.";
-  if (state.mode !== "segment" || $("byGrey").checked) return "Press Run.";
+  if (isRightViewDue()) return "Now the right view, or both views together.";
+  if (!isComplete()) return "Choose the left view, or both views together.";
+  if (isReady()) return "Press Run.";
   const strokes = [["figure", 1], ["background", 2]].filter(([, seed]) => !state.seeds.includes(seed));
-  return strokes.length ? `Paint a stroke on the ${strokes.map(([name]) => name).join(", and one on the ")}.` : "Press Run.";
+  return `Paint a stroke on the ${strokes.map(([name]) => name).join(", and one on the ")}.`;
 }
 
 const CYCLES = 100;
@@ -123,8 +126,7 @@ function jobOf() {
 const wordsOf = ({ command, options }) => ["gco", command, ...Object.entries(options).map(([name, it]) => `--${name} ${it}`)].join(" ");
 
 async function run() {
-  if (!isComplete()) return say(wantedNext(), true);
-  if (state.mode === "segment" && !$("byGrey").checked && !hasBothStrokes()) return say(wantedNext(), true);
+  if (!isReady()) return say(wantedNext(), true);
   if (state.job) {
     state.isAgain = true;
     return;
@@ -183,8 +185,8 @@ function showCommand(words) {
 
 // Of two labels the first expansion reaches each labelling.
 function gapOf({ job, bound }) {
-  if (job.command === "segment") return "0: none costs less";
-  return bound ? `at most ${(2 * bound.vmax / bound.vmin).toLocaleString("en")} times` : "";
+  if (job.command === "segment") return "equal: none costs less";
+  return bound ? `at most ${(2 * bound.vmax / bound.vmin).toLocaleString("en")} times it` : "";
 }
 
 function forgetAnswer() {
@@ -210,8 +212,8 @@ function showParts() {
   $("frame").hidden = !isComplete();
   if (wasInDrop && isComplete()) $("view").focus({ preventScroll: true }); // and not on what is hidden now
   $("brushes").hidden = mode !== "segment" || !picture;
-  $("dropTitle").textContent = mode === "stereo" ? "Drop two views here, the left one first" : "Drop a photograph here";
-  $("dropHint").textContent = mode === "stereo" ? "Choose both files together." : "";
+  $("dropTitle").textContent = isRightViewDue() ? "Drop the right view here"
+    : mode === "stereo" ? "Drop two views here, the left one first" : "Drop a photograph here";
   $("view").className = mode === "segment" ? "painting" : "sliding";
   $("view").setAttribute("aria-label", mode === "segment" ? "The picture, to be painted on" : "The picture before and after");
   $("viewHelp").textContent = mode === "segment" ? "Arrows move the brush, Space paints, Shift with an arrow paints on the way."
@@ -225,7 +227,7 @@ function setMode(mode) {
   state.mode = mode;
   forgetAnswer();
   showParts();
-  if (state.picture) say(wantedNext());
+  say(wantedNext());
   draw();
 }
 
@@ -238,17 +240,23 @@ function choose(values) {
   }
 }
 
+// A cut follows its settings.
+function runAgain() {
+  if (state.mode === "segment" && state.last) run();
+}
+
 function listenToSettings() {
   for (const label of document.querySelectorAll("fieldset label:has(output)")) {
     const input = label.querySelector("input"), show = () => { label.querySelector("output").textContent = input.value; };
     label.htmlFor = input.id; // and not the output, which stands before it
     input.addEventListener("input", show);
-    input.addEventListener("change", () => { if (state.mode === "segment" && state.last) run(); });
+    input.addEventListener("change", runAgain);
     show();
   }
+  $("neighbours").onchange = runAgain;
   $("byGrey").onchange = () => {
     showParts();
-    if (state.last) run();
+    if (state.picture) strokesChanged();
   };
   $("levels").onchange = () => choose({ trunc: Math.max(1, (value("levels") || 256) / 4) });
   $("run").onclick = run;
@@ -261,7 +269,7 @@ function keyOfPage(event) {
   const { key, target } = event, isPlain = !event.ctrlKey && !event.metaKey && !event.altKey;
   if (key === "Escape") return stop();
   if (key === "z" && (event.ctrlKey || event.metaKey)) return undo();
-  if (!isPlain || !state.picture || target.matches("input:not([type=range]), select, button, summary")) return;
+  if (!isPlain || !state.picture || target.matches("input[type=file], select, button, summary")) return;
   if (key === "Enter") run();
   if (state.mode !== "segment") return;
   if (BRUSH_KEYS.includes(key)) document.querySelector(`[name=brush][value="${key}"]`).checked = true;

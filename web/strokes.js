@@ -37,31 +37,36 @@ function showUndo() {
 function strokesChanged() {
   showUndo();
   draw();
-  if ($("live").checked && hasBothStrokes()) run();
-  else say(wantedNext());
+  if (!isPainted()) {
+    stop();
+    forgetAnswer();
+  }
+  if ($("live").checked && isPainted()) run();
+  else if (!state.job) say(wantedNext());
 }
 
 const hasBothStrokes = () => state.seeds.includes(1) && state.seeds.includes(2);
+const isPainted = () => $("byGrey").checked || hasBothStrokes(); // enough for a cut
 
 function undo() {
-  if (!state.undo.length) return;
+  if (state.mode !== "segment" || !state.undo.length) return;
   state.seeds = state.undo.pop();
-  if (!hasBothStrokes()) forgetAnswer();
   strokesChanged();
 }
 
 function clearStrokes() {
   keepForUndo();
   state.seeds.fill(0);
-  forgetAnswer();
   strokesChanged();
 }
 
 let last = null; // where the pointer was, while it paints
+let pointer = null; // which it is: a second finger paints nothing
 
 function pointerDown(event) {
-  if (!state.picture || event.button > 0) return;
+  if (!state.picture || event.button > 0 || last) return;
   $("view").setPointerCapture(event.pointerId);
+  pointer = event.pointerId;
   last = placeOf(event);
   if (state.mode !== "segment") return slideTo(last);
   state.cursor = null;
@@ -71,7 +76,7 @@ function pointerDown(event) {
 }
 
 function pointerMove(event) {
-  if (!last) return;
+  if (!last || event.pointerId !== pointer) return;
   if (state.mode !== "segment") return slideTo(placeOf(event));
   for (const part of event.getCoalescedEvents?.() ?? [event]) {
     const to = placeOf(part);
@@ -81,8 +86,8 @@ function pointerMove(event) {
   draw();
 }
 
-function pointerUp() {
-  if (!last) return;
+function pointerUp({ pointerId }) {
+  if (!last || pointerId !== pointer) return;
   last = null;
   if (state.mode === "segment") strokesChanged();
 }
@@ -128,8 +133,7 @@ function listenToStrokes() {
   const view = $("view");
   view.addEventListener("pointerdown", pointerDown);
   view.addEventListener("pointermove", pointerMove);
-  view.addEventListener("pointerup", pointerUp);
-  view.addEventListener("pointercancel", pointerUp);
+  view.addEventListener("lostpointercapture", pointerUp);
   view.addEventListener("keydown", (event) => { if (state.picture && keyInView(event)) event.preventDefault(); });
   view.addEventListener("blur", () => { state.cursor = null; draw(); });
   $("undo").onclick = undo;

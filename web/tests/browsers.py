@@ -73,14 +73,15 @@ class Chromium(Browser):
             chain.move_to_element_with_offset(element, *point)
         chain.release().perform()
 
-    def touch(self, selector, points):
-        """The same by a finger."""
+    def touch(self, selector, points, other):
+        """The same by a finger, beside which another one is laid down."""
         box = self.run("const b = document.querySelector(arguments[0]).getBoundingClientRect();"
                        " return [b.x + b.width / 2, b.y + b.height / 2]", selector)
-        at = [{"x": box[0] + x, "y": box[1] + y} for x, y in points]
-        for kind, point in [("touchStart", at[0]), *(("touchMove", it) for it in at[1:])]:
-            self.driver.execute_cdp_cmd("Input.dispatchTouchEvent", {"type": kind, "touchPoints": [point]})
-        self.driver.execute_cdp_cmd("Input.dispatchTouchEvent", {"type": "touchEnd", "touchPoints": []})
+        first, *rest = [{"x": box[0] + x, "y": box[1] + y, "id": 0} for x, y in points]
+        second = {"x": box[0] + other[0], "y": box[1] + other[1], "id": 1}
+        for kind, fingers in [("touchStart", [first]), ("touchStart", [first, second]),
+                              *(("touchMove", [it, second]) for it in rest), ("touchEnd", [])]:
+            self.driver.execute_cdp_cmd("Input.dispatchTouchEvent", {"type": kind, "touchPoints": fingers})
 
     def keys(self, selector, *keys):
         element = self.find(selector)

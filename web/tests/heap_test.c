@@ -9,7 +9,7 @@
 enum { SLOTS = 4000, CALLS = 3000000 };
 
 static char *memory;
-static uint64_t used, limit = (uint64_t)1 << 30;
+static uint64_t used, limit = (uint64_t)1 << 25; /* less than the blocks want now and then */
 
 uint64_t more(uint64_t bytes) {
     static int calls;
@@ -85,6 +85,7 @@ int main(void) {
         for (block *b = lists[list]; b; b = b->next) blocks++;
     parts = (long)(used / STEP);
     wants(blocks <= parts, "free neighbours were not made one");
+    wants(refused > 0, "no call was without memory");
     wants(!gco_malloc((uint64_t)1 << 41), "there was memory for 2 TiB");
     printf("heap_test: %d calls, %ld without memory, %ld free blocks at the end\n", CALLS, refused, blocks);
     return 0;
