@@ -127,7 +127,7 @@ def tiny_pictures(folder, count):
 
 
 def starts(folder):
-    """Without a cycle the labels are those that the bound tells, of four labels after four tenths of the passes, or all are 0 if that is lower. With
+    """Without a cycle the labels are those that the bound tells, of four labels after a quarter of the passes, or all are 0 if that is lower. With
     --refine alone no bound is said, and of two labels none is looked for."""
     import gco
     rng = random.Random(4)
@@ -140,7 +140,7 @@ def starts(folder):
         assert status == 0 and "least" not in wrong
         data = [[abs(sample - label) for label in range(4)] for sample in samples]
         pairs = [(p, q, 1) for p, q in definition.neighbours(4, 3, False)]
-        start = [int(label) for label in gco.lower_bound(data, gco.potts(4), pairs, passes=3).labels]
+        start = [int(label) for label in gco.lower_bound(data, gco.potts(4), pairs, passes=2).labels]
         told, plain = (gco.label(data, gco.potts(4), pairs, cycles=0, start=labels).energy for labels in (start, [0] * 12))
         assert written(folder / "out.pgm") == (start if told <= plain else [0] * 12) and energy_in(wrong.splitlines()[-1]) == min(told, plain)
     path = pgm(folder / "two.pgm", (4, 1, [0, 1, 1, 0, 1, 0, 0, 0]))

@@ -84,8 +84,8 @@ def ran(data: Any, smooth: Any, pairs: Any, label_costs: Any, moves: str, cycles
 
 
 def passes_of_start(passes: int, labels: int) -> int:
-    """How many of the passes are made for a start: of fewer than ten labels as many tenths."""
-    return -(-passes * min(labels, 10) // 10)
+    """How many of the passes are made for a start: of fewer than 16 labels as many sixteenths."""
+    return -(-passes * min(labels, 16) // 16)
 
 
 def _beside(call: Callable[[], Ran]) -> "Future[Ran]":
