@@ -31,7 +31,7 @@ from gco_proved.tiles import label_tiles
 
 EXAMPLES = pathlib.Path(__file__).resolve().parents[2] / "examples"
 CASES = [(4, "potts", 1), (4, "potts", 4), (16, "linear", 1), (32, "linear", 1)]
-TILES = (250, 512)
+GAIN = 0.001  # as python3 -m gco has it
 PICTURE = (3000, 4000)
 
 
@@ -102,25 +102,25 @@ class Peak:
 
 def whole(jobs, _):
     side = 1000
-    print("| Labels, smooth, weight | One call | Tile | Energy | In turn | Processes | Settled |")
-    print("|---|---|---|---|---|---|---|")
+    print("| Labels, smooth, weight | One call | Energy | In turn | Processes | Settled |")
+    print("|---|---|---|---|---|---|")
     for levels, name, weight in CASES:
         samples = np.rint(photograph((side, side)) * ((levels - 1) / 255)).astype(int)
         data = abs(samples[..., None] - np.arange(levels)).astype(np.int32)
         smooth = gco.potts(levels) if name == "potts" else gco.linear(levels, levels // 4)
         one, clock, processor = timed(lambda: gco.label(
             data, smooth, gco.grid_pairs(side, side, weight), stoppable=False))
-        for tile in TILES:
-            found, turn, busy = timed(lambda: label_tiles(
-                data, smooth, weight, tile=tile, least_gain=0.0005))
-            _, by_jobs, _ = timed(lambda: label_tiles(
-                data, smooth, weight, tile=tile, least_gain=0.0005, executor=jobs))
-            settled = label_tiles(data, smooth, weight, tile=tile, start=found.labels,
-                                  executor=jobs)
-            print(f"| {levels}, {name}, {weight} | {clock:.1f} s, {one.energy:,} | {tile} |"
-                  f" {100 * (found.energy / one.energy - 1):+.4f} % |"
-                  f" {turn / clock:.2f} ({busy / processor:.2f}) | {by_jobs / clock:.2f} |"
-                  f" {100 * (settled.energy / one.energy - 1):+.4f} % |", flush=True)
+
+        def above(found):
+            return f"{100 * (found.energy / one.energy - 1):+.4f} %"
+
+        found, turn, busy = timed(lambda: label_tiles(data, smooth, weight, least_gain=GAIN))
+        _, by_jobs, _ = timed(lambda: label_tiles(
+            data, smooth, weight, least_gain=GAIN, executor=jobs))
+        settled = label_tiles(data, smooth, weight, start=found.labels, executor=jobs)
+        print(f"| {levels}, {name}, {weight} | {clock:.1f} s, {one.energy:,} | {above(found)} |"
+              f" {turn / clock:.2f} ({busy / processor:.2f}) | {by_jobs / clock:.2f} |"
+              f" {above(settled)} |", flush=True)
 
 
 def large_photograph(jobs, folder):
@@ -158,7 +158,7 @@ def volume(jobs, folder):
         labels = np.lib.format.open_memmap(folder / "labels.npy", "w+", np.uint8, (side, side))
         with Peak(os.getpid()) as peak:
             found, clock, processor = timed(lambda: label_tiles(
-                costs, gco.potts(4), out=labels, least_gain=0.001, executor=executor))
+                costs, gco.potts(4), out=labels, least_gain=GAIN, executor=executor))
         print(f"{side * side:,} sites, {executor or 1} processes: {clock:.0f} s by the clock,"
               f" {processor:.0f} s of processor, {peak.bytes >> 20:,} MB; energies"
               f" {found.energies}", flush=True)
