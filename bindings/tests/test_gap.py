@@ -101,8 +101,8 @@ def written(path):
 
 
 def tiny_pictures(folder, count):
-    """Each bound is at most the least energy of all labellings. The line is one more, and --refine adds none."""
-    rng, met = random.Random(18), 0
+    """Each bound is at most the least energy of all labellings. The line is one more, and --refine adds none and never ends above."""
+    rng, met, lower = random.Random(18), 0, 0
     out, plain = folder / "out.pgm", folder / "plain.pgm"
     for turn in range(count):
         command, path, words, (least, problem) = picture_case(rng, folder)
@@ -118,12 +118,17 @@ def tiny_pictures(folder, count):
         met += low == least
         status, _, wrong = run(command, path, plain, *words, *refine, *passes)
         assert (status, wrong.splitlines(), written(plain)) == (0, before, labels), (command, words, wrong)
-    assert 2 * met > count, met
-    return f"{count} tiny pictures, of {met} the bound is the least energy"
+        if refine:
+            status, _, wrong = run(command, path, plain, *words)
+            assert status == 0 and energy <= energy_in(wrong.splitlines()[-1]), (command, words, wrong, energy)
+            lower += written(plain) != labels
+    assert 2 * met > count and 0 < lower, (met, lower)
+    return f"{count} tiny pictures, of {met} the bound is the least energy, and {lower} end elsewhere with --refine"
 
 
 def starts(folder):
-    """Without a cycle the labels are those that the bound tells, and with --refine alone no bound is said."""
+    """Without a cycle the labels are those that the bound tells, of four labels after a quarter of the passes, or all are 0 if that is lower. With
+    --refine alone no bound is said, and of two labels none is looked for."""
     import gco
     rng = random.Random(4)
     for _ in range(20):
@@ -135,8 +140,12 @@ def starts(folder):
         assert status == 0 and "least" not in wrong
         data = [[abs(sample - label) for label in range(4)] for sample in samples]
         pairs = [(p, q, 1) for p, q in definition.neighbours(4, 3, False)]
-        wanted = gco.lower_bound(data, gco.potts(4), pairs, passes=7).labels
-        assert written(folder / "out.pgm") == [int(label) for label in wanted]
+        start = [int(label) for label in gco.lower_bound(data, gco.potts(4), pairs, passes=2).labels]
+        told, plain = (gco.label(data, gco.potts(4), pairs, cycles=0, start=labels).energy for labels in (start, [0] * 12))
+        assert written(folder / "out.pgm") == (start if told <= plain else [0] * 12) and energy_in(wrong.splitlines()[-1]) == min(told, plain)
+    path = pgm(folder / "two.pgm", (4, 1, [0, 1, 1, 0, 1, 0, 0, 0]))
+    assert run("restore", path, folder / "out.pgm", "--weight", 1, "--no-scale", "--cycles", 0, "--refine")[0] == 0
+    assert written(folder / "out.pgm") == [0] * 8
 
 
 def told(command, files, words, folder, *more):
@@ -164,7 +173,7 @@ def example_pictures(folder):
         today, line = told(command, files, words, folder)
         refined, other = told(command, files, words, folder, "--refine")
         low = bound_in(line, today)
-        assert bound_in(other, refined) == low <= min(refined, today), (files, words, line, other)
+        assert bound_in(other, refined) == low <= refined <= today, (files, words, line, other)
         if all(name.endswith(".pgm") for name in files):  # what a JPEG decoder makes of a picture may differ
             seen = [f"{today:,}", SHARE_SAID.search(line).group(1), f"{refined:,}", SHARE_SAID.search(other).group(1)]
             assert seen == cells, (files, words, seen, cells)
@@ -275,7 +284,7 @@ def problem_files(folder, count):
                 assert bound_in(lines[-1], energy) <= least, (told, least)
             ends.append(lines[:2])
         else:
-            assert ends[0] == ends[3] and ends[1] == ends[2]
+            assert ends[0] == ends[3] and ends[1] == ends[2] and energy_in(ends[1][0] + " ") <= energy_in(ends[0][0] + " ")
     assert run("label", EXAMPLES / "districts.toml", "--gap")[1].endswith("\nleast at least 27: at most 0 % above the least energy\n")
     path.write_text(toml_of([[0, 5], [5, 0]], [[0, 1], [1, 0]], [(0, 1, 2)], [], start=[1, 1]))
     assert run("label", path, "--gap")[0] == 0

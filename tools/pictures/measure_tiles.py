@@ -1,36 +1,50 @@
 #!/usr/bin/env python3
-"""Measures gco_proved.tiles against one problem of the whole, as the tables of docs/LARGE.md:
+"""Measures gco_proved.tiles, as the tables of docs/LARGE.md: make -C bindings measure_tiles, or
 
-    PYTHONPATH=bindings/dist/python python3 tools/pictures/measure_tiles.py [--side 1000] [--jobs 4]
-    PYTHONPATH=bindings/dist/python python3 tools/pictures/measure_tiles.py --volume FOLDER [--sites 10**8]
+    PYTHONPATH=bindings/dist/python tools/pictures/measure_tiles.py [PART ..] [--jobs 4]
 
-The first labels a photograph with noise of examples/, made so large, by one call of gco.label, and
-by tiles in turn and by processes. A line has the energy above that of the one call, and the times
-over its time, by the clock and of the processor, all of one run. The second labels a memory map of
-four labels a site on the disk of FOLDER, and tells the time and the greatest memory.
+whole       a photograph with noise of 1,000 x 1,000 pixels, by one call of gco.label, and by tiles
+            in turn and by processes: the energy above that of the one call, and the times over its
+            time, by the clock and of the processor
+photograph  one of 12,000,000 pixels by python3 -m gco: segment along strokes, and restore of 32
+            levels
+volume      10^8 sites of four labels from a memory map, in turn and by processes
+
+Without a PART it does all three. Each line is of one run. Memory is the greatest sum over the
+processes of a run, where a page that some of them share counts once. Files are made in a folder of
+their own, in --folder if that is given; those of the volume are 500 MB.
 """
 import argparse
 import os
 import pathlib
-import resource
+import subprocess
+import sys
+import tempfile
+import threading
 import time
 
 import numpy as np
-from PIL import Image
+from PIL import Image, ImageOps
 
 import gco_proved as gco
 from gco_proved.tiles import label_tiles
 
-TOP = pathlib.Path(__file__).resolve().parents[2]
+EXAMPLES = pathlib.Path(__file__).resolve().parents[2] / "examples"
 CASES = [(4, "potts", 1), (4, "potts", 4), (16, "linear", 1), (32, "linear", 1)]
-TILES = (250, 512)
+GAIN = 0.001  # as python3 -m gco has it
+PICTURE = (3000, 4000)
 
 
-def photograph(side, levels):
-    """A photograph of so many levels, with noise of a standard deviation of 20 of 255."""
-    image = Image.open(TOP / "examples" / "photo.jpg").convert("L").resize((side, side))
-    noise = np.random.default_rng(1).normal(0, 20, (side, side))
-    return np.rint(np.clip(np.asarray(image) + noise, 0, 255) * (levels - 1) / 255).astype(int)
+def enlarged(name, sides, kind):
+    """A picture of examples/ at so many rows and columns."""
+    return Image.open(EXAMPLES / name).convert("L").resize(sides[::-1], kind)
+
+
+def photograph(sides):
+    """A photograph of so many rows and columns, with noise of a standard deviation of 20."""
+    clean = np.asarray(enlarged("camera.jpg", sides, Image.BICUBIC))
+    noise = np.random.default_rng(1).normal(0, 20, sides)
+    return np.rint(np.clip(clean + noise, 0, 255)).astype(np.uint8)
 
 
 def timed(call):
@@ -40,58 +54,143 @@ def timed(call):
     return answer, time.monotonic() - clock, sum(os.times()[:4]) - processor
 
 
-def against_the_whole(side, jobs):
-    print("| Labels, smooth, weight | One call | Tile | Energy | Settled | In turn | Processes |")
+def family(parent):
+    """A process and those that it and its processes started."""
+    children = {}
+    for folder in pathlib.Path("/proc").glob("[0-9]*"):
+        try:
+            above = (folder / "stat").read_text().rpartition(")")[2].split()[1]
+        except OSError:
+            continue
+        children.setdefault(int(above), []).append(int(folder.name))
+    found = [parent]
+    for one in found:
+        found += children.get(one, [])
+    return found
+
+
+def memory(process):
+    """The bytes of a process in memory, its share of the pages that others have too."""
+    try:
+        rollup = pathlib.Path(f"/proc/{process}/smaps_rollup").read_text()
+    except OSError:
+        return 0
+    shares = (line for line in rollup.splitlines() if line.startswith("Pss:"))
+    return 1024 * sum(int(line.split()[1]) for line in shares)
+
+
+class Peak:
+    """The greatest memory of a process and its processes while the block runs, seen five times a
+    second."""
+
+    def __init__(self, process):
+        self.process, self.bytes, self.ended = process, 0, threading.Event()
+        self.thread = threading.Thread(target=self._look, daemon=True)
+
+    def _look(self):
+        while not self.ended.wait(0.2):
+            self.bytes = max(self.bytes, sum(map(memory, family(self.process))))
+
+    def __enter__(self):
+        self.thread.start()
+        return self
+
+    def __exit__(self, *_):
+        self.ended.set()
+        self.thread.join()
+
+
+def whole(jobs, _):
+    side = 1000
+    print("| Labels, smooth, weight | One call | Energy | In turn | Processes | Settled |")
+    print("|---|---|---|---|---|---|")
     for levels, name, weight in CASES:
-        data = abs(photograph(side, levels)[..., None] - np.arange(levels)).astype(np.int32)
+        samples = np.rint(photograph((side, side)) * ((levels - 1) / 255)).astype(int)
+        data = abs(samples[..., None] - np.arange(levels)).astype(np.int32)
         smooth = gco.potts(levels) if name == "potts" else gco.linear(levels, levels // 4)
-        whole, clock, processor = timed(lambda: gco.label(
+        one, clock, processor = timed(lambda: gco.label(
             data, smooth, gco.grid_pairs(side, side, weight), stoppable=False))
-        for tile in TILES:
-            found, turn, busy = timed(lambda: label_tiles(
-                data, smooth, weight, tile=tile, least_gain=0.0005))
-            _, by_jobs, _ = timed(lambda: label_tiles(
-                data, smooth, weight, tile=tile, least_gain=0.0005, executor=jobs))
-            settled = label_tiles(data, smooth, weight, tile=tile, start=found.labels,
-                                  executor=jobs)
-            print(f"| {levels}, {name}, {weight} | {clock:.1f} s, {whole.energy:,} | {tile} |"
-                  f" {100 * (found.energy / whole.energy - 1):+.4f} % |"
-                  f" {100 * (settled.energy / whole.energy - 1):+.4f} % |"
-                  f" {turn / clock:.2f} ({busy / processor:.2f}) | {by_jobs / clock:.2f} |",
-                  flush=True)
+
+        def above(found):
+            return f"{100 * (found.energy / one.energy - 1):+.4f} %"
+
+        found, turn, busy = timed(lambda: label_tiles(data, smooth, weight, least_gain=GAIN))
+        _, by_jobs, _ = timed(lambda: label_tiles(
+            data, smooth, weight, least_gain=GAIN, executor=jobs))
+        settled = label_tiles(data, smooth, weight, start=found.labels, executor=jobs)
+        print(f"| {levels}, {name}, {weight} | {clock:.1f} s, {one.energy:,} | {above(found)} |"
+              f" {turn / clock:.2f} ({busy / processor:.2f}) | {by_jobs / clock:.2f} |"
+              f" {above(settled)} |", flush=True)
 
 
-def volume(folder, sites):
-    """A memory map of four labels a site, and the labels on the disk beside it."""
-    side = int(sites ** 0.5)
-    costs = np.lib.format.open_memmap(folder / "costs.npy", "w+", np.uint8, (side, side, 4))
+def large_photograph(jobs, folder):
+    clean = enlarged("camera.jpg", PICTURE, Image.BICUBIC)
+    ImageOps.colorize(clean, "navy", "white", "peru").save(folder / "clean.jpg", quality=95)
+    Image.fromarray(photograph(PICTURE)).save(folder / "noisy.jpg", quality=95)
+    enlarged("painted.png", PICTURE, Image.NEAREST).save(folder / "painted.png")
+    print("| python3 -m gco | By the clock | Processor | Memory | Energy |")
+    print("|---|---|---|---|---|")
+    for words in ("segment clean.jpg painted.png out.png",
+                  "segment clean.jpg painted.png out.png --like edges",
+                  "restore noisy.jpg out.jpg"):
+        command = [sys.executable, "-m", "gco_proved", *words.split(), "--jobs", str(jobs)]
+        run, clock, processor = timed(lambda: watched(command, folder))
+        said, peak = run
+        print(f"| `{words}` | {clock:.1f} s | {processor:.1f} s | {peak >> 20:,} MB |"
+              f" {said.splitlines()[-1]} |", flush=True)
+
+
+def watched(command, folder):
+    """What a command says on standard error, and its greatest memory."""
+    with subprocess.Popen(command, cwd=folder, stderr=subprocess.PIPE, text=True) as run, \
+            Peak(run.pid) as peak:
+        said = run.communicate()[1]
+    if run.returncode:
+        raise SystemExit(f"{' '.join(command)} ended with {run.returncode}:\n{said}")
+    return said, peak.bytes
+
+
+def volume(jobs, folder):
+    side = 10_000
+    made_volume(folder / "costs.npy", side)
+    for executor in (None, jobs):
+        costs = np.load(folder / "costs.npy", mmap_mode="r")
+        labels = np.lib.format.open_memmap(folder / "labels.npy", "w+", np.uint8, (side, side))
+        with Peak(os.getpid()) as peak:
+            found, clock, processor = timed(lambda: label_tiles(
+                costs, gco.potts(4), out=labels, least_gain=GAIN, executor=executor))
+        print(f"{side * side:,} sites, {executor or 1} processes: {clock:.0f} s by the clock,"
+              f" {processor:.0f} s of processor, {peak.bytes >> 20:,} MB; energies"
+              f" {found.energies}", flush=True)
+
+
+def made_volume(path, side):
+    """Squares of four greys with noise, as costs of one byte on the disk."""
+    costs = np.lib.format.open_memmap(path, "w+", np.uint8, (side, side, 4))
     rng = np.random.default_rng(1)
     for row in range(0, side, 256):
         part = slice(row, min(row + 256, side))
         grey = (np.add.outer(np.arange(side)[part] // 90, np.arange(side) // 70) % 4
                 + (rng.random((part.stop - part.start, side)) < 0.2)) % 4
         costs[part] = abs(grey[..., None] - np.arange(4))
-    del costs
-    costs = np.load(folder / "costs.npy", mmap_mode="r")
-    labels = np.lib.format.open_memmap(folder / "labels.npy", "w+", np.uint8, (side, side))
-    found, clock, processor = timed(lambda: label_tiles(
-        costs, gco.potts(4), out=labels, least_gain=0.001, progress=None))
-    peak = resource.getrusage(resource.RUSAGE_SELF).ru_maxrss / 1024
-    print(f"{side * side:,} sites: {clock:.0f} s, {processor:.0f} s of processor, {peak:.0f} MB;"
-          f" energies {found.energies}")
+    costs.flush()
+
+
+PARTS = {"whole": whole, "photograph": large_photograph, "volume": volume}
 
 
 def main():
     parser = argparse.ArgumentParser(description=__doc__.split("\n")[0])
-    parser.add_argument("--side", type=int, default=1000)
+    parser.add_argument("parts", nargs="*", metavar="PART", help="whole, photograph, volume")
     parser.add_argument("--jobs", type=int, default=4)
-    parser.add_argument("--volume", type=pathlib.Path)
-    parser.add_argument("--sites", type=int, default=10**8)
+    parser.add_argument("--folder", type=pathlib.Path)
     options = parser.parse_args()
-    if options.volume:
-        volume(options.volume, options.sites)
-    else:
-        against_the_whole(options.side, options.jobs)
+    unknown = set(options.parts) - set(PARTS)
+    if unknown:
+        parser.error(f"no such part: {', '.join(sorted(unknown))}")
+    with tempfile.TemporaryDirectory(dir=options.folder) as made:
+        for name in options.parts or PARTS:
+            PARTS[name](options.jobs, pathlib.Path(made))
 
 
 if __name__ == "__main__":

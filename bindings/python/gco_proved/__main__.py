@@ -9,14 +9,15 @@ def main(words: Optional[List[str]] = None) -> int:
     from gco_proved import __version__
     from gco_proved.pictures import browser, commands, problems
     from gco_proved.pictures.options import command_line
+    from gco_proved.pictures.running import Wanted
     from gco_proved.pictures.words import Wrong
     options = command_line(__version__).parse_args(words)
     try:
         if options.command == "page":
             return browser.open_page()
         if options.command == "label":
-            sys.stdout.write(problems.label_lines(
-                options.file, options.bound, options.gap, options.refine, options.passes))
+            wanted = Wanted(options.gap, options.refine, options.passes)
+            sys.stdout.write(problems.label_lines(options.file, options.bound, wanted))
             return 0
         if options.command == "energy":
             sys.stdout.write(problems.energy_lines(options.file))

@@ -72,9 +72,10 @@ class Mixture:
         """The negative log likelihood of colours in twentieths of a nat, in whole numbers."""
         numpy, _ = numpy_and_pillow()
         likely = numpy.full(len(colours), ELSEWHERE / 256 ** 3)
+        columns = numpy.ascontiguousarray(colours.T)
         for height, centre, inverse in self.gaussians:
-            apart = colours - centre
-            likely += height * numpy.exp(-0.5 * ((apart @ inverse) * apart).sum(axis=1))
+            apart = columns - centre[:, None]
+            likely += height * numpy.exp(-0.5 * ((inverse.T @ apart) * apart).sum(axis=0))
         return numpy.rint(-UNIT * numpy.log(likely)).astype(numpy.int64)
 
 
@@ -89,17 +90,23 @@ def costs_by_models(colours: Any, models: List[Mixture]) -> Any:
     """What each model costs each pixel; the least is 0."""
     numpy, _ = numpy_and_pillow()
     flat = colours.reshape(-1, 3)
-    costs = numpy.stack([model.costs(flat) for model in models], axis=-1)
-    costs -= costs.min(axis=1, keepdims=True)
+    each = [model.costs(flat) for model in models]
+    least = numpy.minimum.reduce(each)
+    costs = numpy.stack([cost - least for cost in each], axis=-1)
     return costs.reshape(*colours.shape[:2], len(models))
+
+
+def squares_apart(first: Any, second: Any) -> Any:
+    """How far colours are apart, squared."""
+    squares = (first.astype(int) - second) ** 2
+    return squares[..., 0] + squares[..., 1] + squares[..., 2]
 
 
 def usual_edge(colours: Any) -> int:
     """The root of the mean square difference of the colours of neighbours, at least 1."""
     numpy, _ = numpy_and_pillow()
-    wide = colours.astype(int)
-    squares = [((wide[:, 1:] - wide[:, :-1]) ** 2).sum(axis=2).ravel(),
-               ((wide[1:] - wide[:-1]) ** 2).sum(axis=2).ravel()]
+    squares = [squares_apart(colours[:, 1:], colours[:, :-1]).ravel(),
+               squares_apart(colours[1:], colours[:-1]).ravel()]
     together = numpy.concatenate(squares)
     return max(1, int(round(math.sqrt(together.mean())))) if together.size else 1
 
@@ -111,8 +118,8 @@ def contrast_pairs(colours: Any, strong: int, weak: int, edge: int, neighbours: 
     numpy, _ = numpy_and_pillow()
     height, width = colours.shape[:2]
     pairs = grid_pairs(width, height, 1, neighbours)
-    flat = colours.reshape(-1, 3).astype(int)
-    apart = ((flat[pairs[:, 0]] - flat[pairs[:, 1]]) ** 2).sum(axis=1)
+    flat = colours.reshape(-1, 3)
+    apart = squares_apart(flat[pairs[:, 0]], flat[pairs[:, 1]])
     across = (pairs[:, 1] // width > pairs[:, 0] // width) \
         & (pairs[:, 1] % width != pairs[:, 0] % width)
     pairs[:, 2] = contrast_weights(apart, across, strong, weak, edge)

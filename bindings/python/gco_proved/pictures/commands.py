@@ -234,14 +234,14 @@ def run_picture(options: argparse.Namespace) -> int:
 
 def _ran(options, data, smooth, pairs, label_costs, kept):
     drawn = False if options.quiet else options.progress
-    bounded = options.gap or options.refine
     if hasattr(data, "piece"):
-        if bounded:
+        if options.gap or options.refine:
             raise Wrong("--gap and --refine take a picture of at most 1,048,576 pixels: make it"
                         " smaller with --fit")
         return large.ran(data, smooth, pairs, options, drawn)
-    return running.ran(data, smooth, pairs, label_costs, options.moves, options.cycles, drawn, kept,
-                       options.passes if bounded else 0, options.refine)
+    with running.in_words():
+        return running.ran(data, smooth, pairs, label_costs, options.moves, options.cycles, drawn,
+                           kept, running.Wanted(options.gap, options.refine, options.passes))
 
 
 def _in_rounds(options, task):

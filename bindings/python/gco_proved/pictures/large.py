@@ -237,7 +237,7 @@ def contrast_pairs(shades: Any, strong: int, weak: int, edge: int, neighbours: i
 
 
 def _contrast_weights(first, second, offset, strong, weak, edge):
-    apart = ((first.astype(int) - second) ** 2).sum(axis=-1)
+    apart = colours.squares_apart(first, second)
     return colours.contrast_weights(apart, all(offset), strong, weak, edge)
 
 

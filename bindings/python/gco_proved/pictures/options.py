@@ -116,10 +116,11 @@ def _gap_options(parser: argparse.ArgumentParser) -> None:
     parser.add_argument("--gap", action="store_true",
                         help="say how far above the least energy it is at most")
     parser.add_argument("--refine", action="store_true",
-                        help="start from the labels that the bound of --gap tells: it mostly ends"
-                        " lower")
+                        help="start from labels that a bound tells, beside a run from 0: the lower"
+                        " counts")
     parser.add_argument("--passes", type=_ranged(1, 1000), default=50, metavar="N",
-                        help="the most passes of --gap and --refine (50)")
+                        help="the most passes of --gap and --refine (50): of fewer than 16 labels"
+                        " --refine makes as many sixteenths")
 
 
 def command_line(version: str) -> argparse.ArgumentParser:

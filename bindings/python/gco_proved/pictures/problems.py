@@ -5,10 +5,9 @@ from typing import Any, Dict, List, Tuple
 from .. import labelling, minimum
 from .._library import DATA_LIMIT, LABEL_COST_LIMIT, PAIR_LIMIT, SITE_LIMIT, SMOOTH_LIMIT
 from .._library import TERM_LIMIT, VALUE_LIMIT, VARIABLE_LIMIT, WEIGHT_LIMIT
-from ..lower_bound import lower_bound
 from ..refusals import Refused
 from .reading import bytes_of
-from .running import bound_line, gap_line
+from .running import Wanted, bound_line, gap_line, ran
 from .words import Wrong
 
 BYTES = 268435456
@@ -118,9 +117,8 @@ def _pairs(read: Dict[str, Any], sites: int) -> List[Tuple[int, ...]]:
     return pairs
 
 
-def label_lines(name: str, bound: bool, gap: bool = False, refine: bool = False,
-                passes: int = 50) -> str:
-    """What `gco label` prints of a problem file, and with `gap` a line more."""
+def label_lines(name: str, bound: bool, wanted: Wanted) -> str:
+    """What `gco label` prints of a problem file, and with --gap a line more."""
     read = document(name)
     sites = _number(read, "sites", 0, SITE_LIMIT, None)
     labels = _number(read, "labels", 1, 256, None)
@@ -145,23 +143,19 @@ def label_lines(name: str, bound: bool, gap: bool = False, refine: bool = False,
                         "label_costs")
     if isinstance(smooth, str):
         smooth = TABLES[smooth](labels, trunc)
-    if refine and start is not None:
+    if wanted.refine and start is not None:
         raise Wrong("--refine starts from labels of its own, and the file has a start: leave one of"
                     " the two away")
-    low = None
     try:
-        if gap or refine:
-            low, told = lower_bound(data, smooth, pairs, label_costs=costs, passes=passes)
-            start = told if refine else start
-        found = labelling.label(data, smooth, pairs, label_costs=costs, moves=moves, cycles=cycles,
-                                start=start)
+        ended = ran(data, smooth, pairs, costs, moves, cycles, False, False, wanted, start)
     except Refused as refused:
         raise _line_of(refused, moves) from None
+    found = ended.found
     text = f"energy {found.energy} data {found.data} smooth {found.smooth}"
     text += f" label {found.label}\n" if costs is not None else "\n"
     text += " ".join(["labels", *map(str, list(found.labels))]) + "\n"
     text += bound_line(found.bound) + "\n" if bound else ""
-    return text + gap_line(found.energy, low) + "\n" if gap else text
+    return text + gap_line(found.energy, ended.low) + "\n" if wanted.gap else text
 
 
 def _line_of(refused: Refused, moves: str) -> Exception:

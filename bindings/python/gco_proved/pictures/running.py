@@ -3,11 +3,12 @@ import contextlib
 import signal
 import sys
 import threading
-from typing import Any, Iterator, List, NamedTuple, Optional, Tuple
+from concurrent.futures import Future
+from typing import Any, Callable, Iterator, List, NamedTuple, Optional, Tuple
 
 from .. import labelling, progress
 from .._library import MOVES, calls
-from ..lower_bound import lower_bound
+from ..lower_bound import PASSES, LowerBound, lower_bound
 from ..refusals import Refused
 from .words import Wrong
 
@@ -42,39 +43,92 @@ class Ran(NamedTuple):
     low: Optional[int] = None
 
 
+class Wanted(NamedTuple):
+    """What --gap, --refine and --passes ask for."""
+
+    gap: bool = False
+    refine: bool = False
+    passes: int = PASSES
+
+
 def ran(data: Any, smooth: Any, pairs: Any, label_costs: Any, moves: str, cycles: int,
-        drawn: Optional[bool], kept: bool, passes: int = 0, refines: bool = False) -> Ran:
+        drawn: Optional[bool], kept: bool, wanted: Wanted = Wanted(), start: Any = None) -> Ran:
     """Makes the moves; `drawn` asks for a bar, and None for one where a person looks on. Where
     there is no bar, and no step is to be `kept`, it is one call of the library: that is quicker.
 
-    With `passes` there is a bound first, and a run that `refines` starts from its labels."""
-    steps: List[Step] = []
-    low, start = None, None
+    A run that is to be refined starts from the labels of the bound. The one from 0 goes beside it,
+    and the answer is the one of less energy. With two labels one move from 0 reaches each
+    labelling, so there is nothing to refine.
+    """
     if drawn is None:
         drawn = sys.stderr.isatty()
-    with in_words():
-        if passes:
-            low, labels = lower_bound(data, smooth, pairs, label_costs=label_costs, passes=passes)
-            start = labels if refines else None
+
+    def run_from(labels: Any, drawn: bool) -> Ran:
         if not drawn and not kept:
-            found = _at_once(data, smooth, pairs, label_costs, moves, cycles, start)
-            return Ran(found, steps, False, low=low)
-        problem = labelling.Problem(data, smooth, pairs, label_costs, start)
-        bar = progress.bar(problem.label_count, moves) if drawn else None
+            return Ran(_at_once(data, smooth, pairs, label_costs, moves, cycles, labels), [], False)
+        return _by_moves(labelling.Problem(data, smooth, pairs, label_costs, labels), moves, cycles,
+                         drawn)
 
-        def step(cycle: int, change: Any, changed: int, energy: int) -> None:
-            told = problem.told
-            steps.append(Step(cycle, change, changed, told.data, told.smooth, told.label))
-            if bar:
-                bar(cycle, change, changed, energy)
+    def bound_by(passes: int) -> LowerBound:
+        return lower_bound(data, smooth, pairs, label_costs=label_costs, passes=passes)
 
-        problem.make(calls.gco_label, MOVES[moves], 0)
-        told = problem.told
-        steps.append(Step(0, None, 0, told.data, told.smooth, told.label))
+    refines, low = wanted.refine and len(smooth) > 2, None
+    few = passes_of_start(wanted.passes, len(smooth))
+    plain = _beside(lambda: run_from(None, False)) if refines else None
+    if refines:
+        low, start = bound_by(few)
+    if wanted.gap and not (refines and few == wanted.passes):
+        low = bound_by(wanted.passes).low
+    ended = run_from(start, drawn)._replace(low=low)
+    return ended if plain is None or ended.stopped else _lower(ended, plain)
+
+
+def passes_of_start(passes: int, labels: int) -> int:
+    """How many of the passes are made for a start: of fewer than 16 labels as many sixteenths."""
+    return -(-passes * min(labels, 16) // 16)
+
+
+def _beside(call: Callable[[], Ran]) -> "Future[Ran]":
+    """A call in a thread that the end of the program does not wait for."""
+    future: Future[Ran] = Future()
+
+    def answer() -> None:
         try:
-            return Ran(labelling.run(problem, moves, cycles, step), steps, False, low=low)
-        except KeyboardInterrupt as stop:
-            return Ran(stop.partial, steps, True, low=low)  # type: ignore[attr-defined]
+            future.set_result(call())
+        except BaseException as failure:
+            future.set_exception(failure)
+
+    threading.Thread(target=answer, daemon=True).start()
+    return future
+
+
+def _lower(ended: Ran, plain: "Future[Ran]") -> Ran:
+    """The run of less energy, the first of two that have the same."""
+    try:
+        other = plain.result()
+    except KeyboardInterrupt:
+        return ended._replace(stopped=True, done="one of two runs")
+    return other._replace(low=ended.low) if other.found.energy < ended.found.energy else ended
+
+
+def _by_moves(problem: labelling.Problem, moves: str, cycles: int, drawn: bool) -> Ran:
+    """The moves one by one, each with what it left."""
+    steps: List[Step] = []
+    bar = progress.bar(problem.label_count, moves) if drawn else None
+
+    def step(cycle: int, change: Any, changed: int, energy: int) -> None:
+        told = problem.told
+        steps.append(Step(cycle, change, changed, told.data, told.smooth, told.label))
+        if bar:
+            bar(cycle, change, changed, energy)
+
+    problem.make(calls.gco_label, MOVES[moves], 0)
+    told = problem.told
+    steps.append(Step(0, None, 0, told.data, told.smooth, told.label))
+    try:
+        return Ran(labelling.run(problem, moves, cycles, step), steps, False)
+    except KeyboardInterrupt as stop:
+        return Ran(stop.partial, steps, True)  # type: ignore[attr-defined]
 
 
 @contextlib.contextmanager
