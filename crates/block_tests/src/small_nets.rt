@@ -2,7 +2,7 @@
 pub const COUNT: usize = 240;
 
 /// Of each net: nodes, arcs, the source's and the sink's arc of each node, each arc, the value, the
-/// side as bits. Made by tools/small_nets.py, over all cuts.
+/// side as bits. Made by tools/tables/small_nets.py, over all cuts.
 pub const NUMBERS: &[u32] = &[
     0, 0, 0, 0, 1, 3, 0, 1, 0, 0, 0, 0, 0, 2, 0, 0, 1, 0, 1, 2, 3, 0, 0, 0, 1, 1, 0, 1, 0, 0, 0, 0,
     0, 0, 0, 2, 3, 5, 0, 0, 1, 1, 0, 0, 2, 2, 3, 2, 2, 2, 2, 0, 1, 2, 1, 2, 1, 2, 8, 1, 0, 4, 3, 1,

@@ -1,5 +1,5 @@
 //! The answers for all small tables of three variables.
-/// What tools/three_tables.py says of every table of three variables over -1, 0 and 1.
+/// What tools/tables/three_tables.py says of every table of three variables over -1, 0 and 1.
 pub const ANSWERS: [&str; 81] = [
     "a11441444221222222222222222111a11441a11aa1444221222222111111a11111a11aa1a11aa1aaa",
     "000000000000000000000000000000000000000000000000000000000000000000000000000000000",

@@ -1,6 +1,6 @@
-//! Small random moves with their best answers. Made by tools/random_moves.py, over all labellings
-//! that they reach: 500 moves, 198 of them swaps, 56 with several answers of the least energy, 182
-//! with a pair twice.
+//! Small random moves with their best answers. Made by tools/tables/random_moves.py, over all
+//! labellings that they reach: 500 moves, 198 of them swaps, 56 with several answers of the least
+//! energy, 182 with a pair twice.
 
 /// The moves, each a row of `random`.
 pub const MOVES: &[u8] = b"\

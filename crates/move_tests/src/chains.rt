@@ -1,4 +1,4 @@
-//! Small random runs with their answers. Made by tools/random_runs.py, over all labellings:
+//! Small random runs with their answers. Made by tools/tables/random_runs.py, over all labellings:
 //! 300 runs, 169 of them of swaps, 80 that a refused move ends, 45 of these after a change.
 
 /// The runs, each a row of `random`.

@@ -1,7 +1,7 @@
 //! Small random moves and runs where labels cost something by themselves, and runs over metrics.
-//! Made by tools/random_costed.py, over all labellings: 300 moves and runs with label costs, 169 of
-//! which change a label, and 300 settled runs of expansions over metrics, 31 of which end above the
-//! least energy.
+//! Made by tools/tables/random_costed.py, over all labellings: 300 moves and runs with label costs,
+//! 169 of which change a label, and 300 settled runs of expansions over metrics, 31 of which end
+//! above the least energy.
 
 /// The rows, each a row of `random`.
 pub const COSTED: &[u8] = b"\

@@ -20,7 +20,8 @@ use std::test::Fail;
 
 /// By how many parts a later expansion looks, what two unlike labels cost, how many cycles are
 /// allowed, how many cuts there are but for those of the parts, and how many sites these have
-/// together. Made by tools/stage_sites.py, which finds by itself where a later expansion looks.
+/// together. Made by tools/tables/stage_sites.py, which finds by itself where a later expansion
+/// looks.
 const RUNS: &[(usize, i64, u32, usize, usize)] = &[
     (1, 2, 1, 4, 1863),
     (1, 2, 2, 8, 2193),

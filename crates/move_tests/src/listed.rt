@@ -1,5 +1,5 @@
 //! Moves of which few sites are left for a cut, with their best answers. Made by
-//! tools/open_sites.py.
+//! tools/tables/open_sites.py.
 
 /// The moves, each a row of `few_open`.
 pub const LISTED: [&[u8; 257]; 22] = [

@@ -15,7 +15,7 @@ use std::process::Abort;
 use std::test::Fail;
 
 /// How many sites each expansion of the first cycle leaves open, and how many it changes. Made by
-/// tools/open_sites.py, which knows the definitions alone.
+/// tools/tables/open_sites.py, which knows the definitions alone.
 const FIRST_CYCLE: &[(usize, usize)] = &[(0, 0), (863, 3225), (855, 2191), (145, 1039)];
 
 /// A board of fields of 16 by 16 pixels, some of which have another sample.

@@ -1,5 +1,6 @@
-//! Small random runs with the labels after each of their moves. Made by tools/random_steps.py, over
-//! all labellings: 500 runs, 244 of them of swaps, of 1991 moves, 566 of which change a label.
+//! Small random runs with the labels after each of their moves. Made by
+//! tools/tables/random_steps.py, over all labellings: 500 runs, 244 of them of swaps, of 1991
+//! moves, 566 of which change a label.
 
 /// The runs, each a row of `random`.
 pub const RUNS_MADE: &[u8] = b"\

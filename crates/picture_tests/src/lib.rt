@@ -1,7 +1,7 @@
 //! Tests of images, labellings and pairs, and of the image commands, as tables: inputs and answers
 //! by hand, pictures whose answers a script finds that tries every labelling
-//! (`tools/pictures_by_definition.py`), inputs that are refused, writers that stop; moves and
-//! pictures by workers, moves that threads close in by parts, how workers share a net, and cuts
+//! (`tools/tables/pictures_by_definition.py`), inputs that are refused, writers that stop; moves
+//! and pictures by workers, moves that threads close in by parts, how workers share a net, and cuts
 //! that are refused.
 #![tactic(auto)]
 

@@ -1,6 +1,6 @@
-//! Small random problems with what `gco label` says of them. Made by tools/random_problems.py,
-//! over all labellings: 300 problems, 168 of them of swaps, 75 that a refused move ends,
-//! 40 of these after a change.
+//! Small random problems with what `gco label` says of them. Made by
+//! tools/tables/random_problems.py, over all labellings: 300 problems, 168 of them of swaps, 75
+//! that a refused move ends, 40 of these after a change.
 
 /// A line for each problem: its file, a bar, what is said. A semicolon ends a line of these.
 pub const PROBLEMS: &str = "\
