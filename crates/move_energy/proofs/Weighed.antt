@@ -1,15 +1,13 @@
 -- The form of the weights of the open sites, and what it stands for once the pairs' savings are
 -- added.
-use Rattle.std.proofs.Common.{◌≡◌, ◌==◌, ℕ, zero, suc, ◌+◌, ◌-◌, ◌*◌, ◌<◌, ◌≤◌, Bool, true, false, cond, List, [], ◌∷◌, ◌++◌, length, vec_len, take, get_or, All, map, sum_by, ℤ, pos, ◌+ℤ◌, ◌-ℤ◌, ◌≤ℤ◌, ◌<ℤ◌, unsigned_abs, w64, to_z, of_z, lit<, refl, sym, ap, ◌∙◌, subst, add-one, arith}
-use Rattle.std.specs.Prelude.{◌&&◌, ◌||◌, not, slice_get, Some}
-use Rattle.std.proofs.lemmas.Option.{get_or_from_slice_get}
+use Rattle.std.proofs.Common.{◌≡◌, ◌==◌, ℕ, zero, suc, ◌+◌, ◌-◌, ◌<◌, ◌≤◌, Bool, true, false, cond, List, [], ◌∷◌, ◌++◌, length, vec_len, take, All, map, sum_by, ℤ, pos, ◌+ℤ◌, ◌-ℤ◌, unsigned_abs, w64, to_z, of_z, lit<, refl, sym, ap, ◌∙◌, subst, add-one, arith}
+use Rattle.std.specs.Prelude.{◌&&◌, ◌||◌, not}
 use Rattle.std.proofs.lemmas.Int.{ints, to_z-of_z}
 use Rattle.std.proofs.lemmas.List.{length-append, append-nil, map-append, take_all}
 use Rattle.std.proofs.lemmas.List.Sums.{sum_by-cons, sum_by_push, sum_by_more}
 use Rattle.sums.specs.Sums.{count_if}
 use Rattle.sums.specs.IntegerSums.{int_sum_below, int_counted}
 use Rattle.sums.proofs.IntegerSumLemmas.{int_sum_below-same, within_fits}
-use Rattle.flow_network.specs.Cut.{IsArc}
 use Rattle.flow_network.specs.declared.arc.Arc.{Arc}
 use Rattle.label_field.specs.declared.pair.Pair.{Pair}
 use Rattle.label_field.specs.PairLists.{PairList, IsPair}
@@ -19,21 +17,18 @@ use Rattle.move_energy.proofs.Beside.{pairs_are_met_once}
 use Rattle.label_energies.specs.declared.change.Move.{Move}
 use Rattle.label_energies.specs.Energies.{Instance}
 use Rattle.label_energies.specs.Moves.{label_after, pair_entry, IsRegularPair, IsAllowed}
-use Rattle.pseudo_bool.specs.Energies.{entry, digit}
 use Rattle.compile_cut.specs.declared.quadratic.Quadratic.{Quadratic}
-use Rattle.compile_cut.specs.Quadratics.{quadratic_value, IsQuadraticBounded}
-use Rattle.compile_cut.specs.Weights.{weights_value, weights_size, arcs_value, arcs_size, IsAbove}
+use Rattle.compile_cut.specs.Quadratics.{quadratic_value}
+use Rattle.compile_cut.specs.Weights.{weights_value, weights_size, arcs_value}
 use Rattle.compile_cut.proofs.WeightLemmas.{weights_value-push}
 use Rattle.move_energy.specs.declared.choice.Choice.{Choice}
 use Rattle.move_energy.specs.declared.choice.Choice.TheVariants.{Open, Zero as DecidedZero, One as DecidedOne}
-use Rattle.move_energy.specs.Choices.{choice_at, openness, is_open, open_at, open_rank, open_count, IsNumbering, AreOpenSites, StandsFor}
+use Rattle.move_energy.specs.Choices.{choice_at, openness, is_open, open_at, open_rank, open_count, AreOpenSites, StandsFor}
 use Rattle.move_energy.specs.Built.{AddsCost}
 use Rattle.move_energy.specs.Weights.{weight_at, open_energy, AreWeights, pair_surplus, are_open, unsaved_surplus, open_weights, IsOfWeights, pair_table, surplus_of}
 use Rattle.move_energy.proofs.Opened.{true_open}
 use Rattle.move_energy.proofs.Numbers.{rank_below, open_site, open_site_is}
-use Rattle.move_energy.proofs.Joins.{read_at}
 use Rattle.move_energy.proofs.Values.{adds_same}
-use Rattle.move_energy.proofs.Adding.{cost_none, cost_more}
 use Rattle.move_energy.proofs.Weighing.{costs_law}
 
 -- ---- the weights of the open sites, one site after another
@@ -94,46 +89,11 @@ form_value weights q x is =
     let arcs = ap (λ (ys : List Arc). arcs_value ys x) is.arcs in
     omega (arith, ints, is.constant, ws, arcs)
 
-pub form_bounded : (weights : List ℤ) (q : Quadratic) → weights_size weights ≤ 500000000000000 → IsOfWeights weights q → IsQuadraticBounded 1048576 q
-form_bounded weights q small is =
-    let ws = ap (λ (ys : List ℤ). weights_size ys) is.weights_are in
-    let arcs = ap (λ (ys : List Arc). arcs_size ys) is.arcs in
-    let P : List Arc → Type 0 = λ ys. All (IsArc (vec_len q.weights)) ys in
-    let Q : List Arc → Type 0 = λ ys. All IsAbove ys in
-    let none : (k : ℕ) → k < length q.arcs.items → ⊥ = λ k l. (let e = ap (λ (ys : List Arc). length ys) is.arcs in omega (arith, l, e)) in
-    record {
-      constant = (let e = ap unsigned_abs is.constant in omega (arith, e));
-      size = omega (arith, small, ws, arcs);
-      arcs = λ k d l. absurd (none k l);
-      above = λ k d l. absurd (none k l);
-    }
-
 pub form_nodes : (choices : List Choice) (weights : List ℤ) (q : Quadratic) (n : ℕ) → n ≡ length choices → IsOfWeights (open_weights choices weights n) q
     → vec_len q.weights ≡ open_count choices
 form_nodes choices weights q n all is = q.weights.ok.0 ∙ ap (λ (ws : List ℤ). length ws) is.weights_are ∙ weights_length choices weights n ∙ ap (open_rank choices) all
 
 -- ---- what a pair saves
-
-saved : (s : ℕ) (table : List ℤ) (z : ℤ) (a b : Bool) → table ≡ pos 0 ∷ pos 0 ∷ pos 0 ∷ (pos 0 -ℤ z) ∷ [] → z ≡ pos s
-    → entry table (2 * digit a + digit b) +ℤ pos s ≡ pos (count_if (not (a && b)) s)
-saved s table z true true is size = rw is (omega (arith, ints, size))
-saved s table z true false is size = rw is (omega (arith, ints))
-saved s table z false true is size = rw is (omega (arith, ints))
-saved s table z false false is size = rw is (omega (arith, ints))
-
-pub saving_adds : (old new : Quadratic) (v w s : ℕ) (table : List ℤ) (z : ℤ) → table ≡ pos 0 ∷ pos 0 ∷ pos 0 ∷ (pos 0 -ℤ z) ∷ [] → z ≡ pos s
-    → ((x : ℕ → Bool) → quadratic_value new x ≡ quadratic_value old x +ℤ entry table (2 * digit (x v) + digit (x w)))
-    → AddsCost old new (λ x. count_if (not (x v && x w)) s)
-saving_adds old new v w s table z is size adds = record {
-  rest = pos s;
-  value = λ x. omega (arith, ints, adds x, saved s table z (x v) (x w) is size);
-}
-
-positive_is : (z : ℤ) → pos 0 <ℤ z → z ≡ pos (unsigned_abs z)
-positive_is z above = omega (arith, ints, above)
-
-pub positive_passed : (z : ℤ) → pos 0 <ℤ z → unsigned_abs z ≤ 20000000 → to_z w64 (of_z w64 z) ≡ pos (unsigned_abs z)
-positive_passed z above small = to_z-of_z w64 z (within_fits 20000000 z small (lit< tt)) ∙ positive_is z above
 
 pub surplus_passed : (z : ℤ) → unsigned_abs z ≤ 20000000 → to_z w64 (of_z w64 z) ≡ z
 surplus_passed z small = to_z-of_z w64 z (within_fits 20000000 z small (lit< tt))
@@ -173,19 +133,6 @@ surplus_counted m move f pair b z h regular is =
     is ∙ regular_surplus (pair_entry m move f pair false false) (pair_entry m move f pair false true) (pair_entry m move f pair true false) (pair_entry m move f pair true true) regular
     ∙ ap pos (sym (counted_yes b (pair_surplus m move f pair) h))
 
-unsaved_none : (o b : Bool) (s : ℕ) → count_if o s ≡ 0 → count_if o (count_if b s) ≡ 0
-unsaved_none true true s none = none
-unsaved_none true false s none = refl
-unsaved_none false b s none = refl
-
--- what is added for a pair: nothing where its surplus is 0
-pub surplus_none : (m : Instance) (move : Move) (f : ℕ → ℕ) (choice : ℕ → Choice) (variable : ℕ → ℕ) (q : Quadratic) (pair : Pair) (z : ℤ)
-    → z ≡ pos (count_if (are_open choice pair) (pair_surplus m move f pair)) → z ≤ℤ pos 0 → AddsCost q q (λ x. unsaved_surplus m move f choice variable x pair)
-surplus_none m move f choice variable q pair z is none =
-    let empty : count_if (are_open choice pair) (pair_surplus m move f pair) ≡ 0 = omega (arith, ints, is, none) in
-    cost_none q (λ x. unsaved_surplus m move f choice variable x pair)
-    (λ x. unsaved_none (are_open choice pair) (not (x (variable pair.first) && x (variable pair.second))) (pair_surplus m move f pair) empty)
-
 pub surplus_adds : (m : Instance) (move : Move) (f : ℕ → ℕ) (choice : ℕ → Choice) (variable : ℕ → ℕ) (old new : Quadratic) (pair : Pair) (v w s : ℕ) (z : ℤ)
     → v ≡ variable pair.first → w ≡ variable pair.second → are_open choice pair ≡ true
     → z ≡ pos (count_if (are_open choice pair) (pair_surplus m move f pair)) → s ≡ unsigned_abs z
@@ -195,34 +142,6 @@ surplus_adds m move f choice variable old new pair v w s z first second h is siz
     adds_same old new (λ x. count_if (not (x v && x w)) s) (λ x. unsaved_surplus m move f choice variable x pair)
     (λ x. (λ i. count_if (not (x (first i) && x (second i))) (amount i))
     ∙ sym (counted_yes (are_open choice pair) (count_if (not (x (variable pair.first) && x (variable pair.second))) (pair_surplus m move f pair)) h)) adds
-
--- the number of an open site, as it was read
-pub number_read : (choices : List Choice) (variables : List ℕ) (p r : ℕ) → IsNumbering choices variables → p < length choices → choice_at choices p ≡ Open
-    → r ≡ get_or variables p r → r ≡ open_rank choices p
-number_read choices variables p r numbering l opened is = read_at variables p r 0 (omega (arith, numbering.count, l)) is ∙ numbering.each p l opened
-
--- the pairs one after another
-pub savings_more : (m : Instance) (move : Move) (f : ℕ → ℕ) (choice : ℕ → Choice) (variable : ℕ → ℕ) (first old new : Quadratic) (i : ℕ) (list : List Pair) (pair : Pair)
-    → m.pairs ≡ list → i < length list → slice_get list i ≡ Some pair → IsAllowed m move f
-    → AddsCost first old (λ x. sum_by (unsaved_surplus m move f choice variable x) (take i m.pairs))
-    → (IsRegularPair m move f pair → AddsCost old new (λ x. unsaved_surplus m move f choice variable x pair))
-    → AddsCost first new (λ x. sum_by (unsaved_surplus m move f choice variable x) (take (i + 1) m.pairs))
-savings_more m move f choice variable first old new i list pair same within here allowed so_far adds =
-    let l : i < length m.pairs = omega (arith, within, ap (λ (xs : List Pair). length xs) same) in
-    let read : get_or m.pairs i pair ≡ pair = ap (λ (xs : List Pair). get_or xs i pair) same ∙ get_or_from_slice_get list i pair pair here in
-    let P : Pair → Type 0 = λ p. IsRegularPair m move f p in
-    cost_more first old new (λ x. sum_by (unsaved_surplus m move f choice variable x) (take i m.pairs)) (λ x. unsaved_surplus m move f choice variable x pair)
-    (λ x. sum_by (unsaved_surplus m move f choice variable x) (take (i + 1) m.pairs)) so_far (adds (subst P read (allowed i pair l)))
-    (λ x. sum_by_more (unsaved_surplus m move f choice variable x) m.pairs i pair l
-    ∙ ap (λ p. sum_by (unsaved_surplus m move f choice variable x) (take i m.pairs) + unsaved_surplus m move f choice variable x p) read)
-
-pub savings_all : (m : Instance) (move : Move) (f : ℕ → ℕ) (choice : ℕ → Choice) (variable : ℕ → ℕ) (first now : Quadratic) (i : ℕ) (list : List Pair)
-    → m.pairs ≡ list → length list ≤ i → AddsCost first now (λ x. sum_by (unsaved_surplus m move f choice variable x) (take i m.pairs))
-    → AddsCost first now (λ x. sum_by (unsaved_surplus m move f choice variable x) m.pairs)
-savings_all m move f choice variable first now i list same past adds =
-    let count = ap (λ (xs : List Pair). length xs) same in
-    adds_same first now (λ x. sum_by (unsaved_surplus m move f choice variable x) (take i m.pairs)) (λ x. sum_by (unsaved_surplus m move f choice variable x) m.pairs)
-    (λ x. ap (λ (ps : List Pair). sum_by (unsaved_surplus m move f choice variable x) ps) (take_all i m.pairs (omega (arith, past, count)))) adds
 
 -- ---- all together
 

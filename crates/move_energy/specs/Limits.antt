@@ -11,8 +11,3 @@ surplus_limit = 2 * pair_cost_limit
 -- many terms
 abbrev pub weights_limit : ℕ
 weights_limit = 3 * 10 ^ 14
-
--- the most that the weights of a form's nodes come to, 5 * 10^14: those of all open sites, and once
--- more a surplus of each end of 2^22 pairs
-abbrev pub form_weights_limit : ℕ
-form_weights_limit = 5 * 10 ^ 14

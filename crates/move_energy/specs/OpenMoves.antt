@@ -1,8 +1,7 @@
 -- What is asked of a partly decided move before its energy is built, and what a form of its open
 -- sites has.
-use Rattle.std.specs.Prelude.{◌≡◌, ℕ, ◌≤◌, List, length, ℤ, vec_len}
+use Rattle.std.specs.Prelude.{◌≡◌, ℕ, ◌≤◌, List, length, vec_len}
 use Rattle.label_field.specs.Limits.{site_limit}
-use Rattle.label_field.specs.PairLists.{PairList}
 use Rattle.label_energies.specs.declared.change.Move.{Move}
 use Rattle.label_energies.specs.Energies.{Instance, labelling}
 use Rattle.label_energies.specs.Moves.{IsAllowed}
@@ -10,15 +9,10 @@ use Rattle.cost_store.specs.declared.problem.Problem.{Problem}
 use Rattle.cost_store.specs.Posed.{Closure, IsPosed, IsAsked, IsMeant, WhereMeant}
 use Rattle.compile_cut.specs.declared.quadratic.Quadratic.{Quadratic}
 use Rattle.compile_cut.specs.Quadratics.{IsQuadraticBounded}
-use Rattle.compile_cut.specs.Weights.{weights_size}
 use Rattle.move_energy.specs.declared.building.MoveEnergy.{MoveEnergy}
 use Rattle.move_energy.specs.declared.choice.Choice.{Choice}
 use Rattle.move_energy.specs.declared.open_moves.NumberedMove.{NumberedMove}
-use Rattle.move_energy.specs.declared.open_moves.OpenSites.{OpenSites}
-use Rattle.move_energy.specs.BySite.{AreBySite}
-use Rattle.move_energy.specs.Choices.{choice_at, open_rank, open_count, IsNumbering, AreOpenSites}
-use Rattle.move_energy.specs.Limits.{weights_limit}
-use Rattle.move_energy.specs.Weights.{AreWeights}
+use Rattle.move_energy.specs.Choices.{choice_at, open_rank, open_count, IsNumbering}
 
 -- the move is asked of a posed problem, and there is a choice for each site
 pub record IsValuedMove {F V : Type 0} (f : Closure F) (v : Closure V) (problem : Problem F V)
@@ -61,22 +55,8 @@ pub record IsFormOfOpen (terms : ℕ) (made : MoveEnergy) : Type 0 where
   pub numbering : IsNumbering made.variables.choices.items made.variables.of_sites.items
   pub variables : vec_len made.form.weights ≡ open_count made.variables.choices.items
 
--- the neighbours are those of the pairs, and the open sites are listed
-pub record AreSitesListed (pairs : PairList) (choices : List Choice) (sites : OpenSites)
-    : Type 0 where
-  pub by_site : AreBySite pairs sites.ends.now
-  pub listed : AreOpenSites choices sites.opened.now
-
 -- the move from these labels is allowed
 abbrev pub IsAllowedFrom : {F V : Type 0} → Closure F → Closure V → Problem F V → List ℕ → Move
     → Type 0
 IsAllowedFrom {F} {V} f v problem at move =
     WhereMeant f v problem (λ m. IsAllowed m move (labelling at))
-
--- there is a weight for each site, those of the open sites are right, and together they are small
-pub record AreWeightsOf {F V : Type 0} (f : Closure F) (v : Closure V) (problem : Problem F V)
-    (at : List ℕ) (move : Move) (choices : List Choice) (weights : List ℤ) : Type 0 where
-  pub count : length weights ≡ length at
-  pub size : weights_size weights ≤ weights_limit
-  pub each : WhereMeant f v problem (λ m.
-      AreWeights m move (labelling at) (choice_at choices) weights)

@@ -1,6 +1,6 @@
 //! What the energy of a partly decided move is built from, each as one value.
 
-use crate::{Neighbours, Variables};
+use crate::Variables;
 use cost_store::Problem;
 use label_energies::Move;
 
@@ -12,11 +12,4 @@ pub(crate) struct NumberedMove<'a, F, V> {
     pub at: &'a [u8],
     pub change: Move,
     pub variables: &'a Variables,
-}
-
-/// The open sites of a move, listed in rising order, and the neighbours of all sites.
-#[derive(Clone, Copy)]
-pub struct OpenSites<'a> {
-    pub ends: &'a Neighbours,
-    pub opened: &'a [u32],
 }

@@ -18,8 +18,8 @@ use Rattle.move_energy.specs.declared.choice.Choice.{Choice}
 use Rattle.move_energy.specs.declared.choice.Choice.TheVariants.{Zero}
 use Rattle.move_energy.specs.Choices.{choice_at, choice_of, bit_of, value_of, open_rank, StandsFor}
 use Rattle.site_bounds.specs.Decisions.{IsSmallestLeast}
-use Rattle.move_prices.specs.MoveValues.{move_value}
-use Rattle.move_prices.proofs.Rising.{move_falls, move_over}
+use Rattle.move_energy.specs.MoveValues.{move_value}
+use Rattle.move_energy.proofs.Rising.{move_falls, move_over}
 use Rattle.persistency.specs.Fixing.{with_choices, AreLeastZeros}
 use Rattle.near_changes.specs.Fresh.{WasExpanded, AreFresh, IsApart}
 use Rattle.near_changes.specs.Looking.{IsClosedIn}

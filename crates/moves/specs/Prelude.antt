@@ -9,7 +9,8 @@ pub use Rattle.label_energies.specs.Moves.{IsBest}
 pub use Rattle.label_energies.specs.declared.change.Move.TheVariants.{Expand, Swap}
 pub use Rattle.label_energies.specs.declared.cycles.Moves.TheVariants.{Expansion}
 pub use Rattle.move_energy.specs.Choices.{choice_at, value_of, open_count, IsNumbering}
-pub use Rattle.move_energy.specs.OpenMoves.{IsValuedMove, IsAllowedFrom, AreSitesListed}
+pub use Rattle.move_energy.specs.Choices.{AreOpenSites}
+pub use Rattle.move_energy.specs.OpenMoves.{IsAllowedFrom}
 pub use Rattle.move_energy.specs.declared.choice.Choice.TheVariants.{Zero}
 pub use Rattle.moves.specs.Bounds.{IsBoundOf, IsWithinBound}
 pub use Rattle.moves.specs.Instances.{IsInstanceOf, data_entry, instance_of}
@@ -24,7 +25,7 @@ pub use Rattle.moves.specs.Courses.{LeadsBest, labels_changed}
 pub use Rattle.moves.specs.UnderWay.{IsRunFrom, IsSomeRun, IsStepOf, TellsStep, IsAhead, ended_of}
 pub use Rattle.moves.specs.UnderWay.{cycles_of, left_of}
 pub use Rattle.one_move.specs.Building.{IsOfProblem, KeepsDecided, site_values, TellsChange}
-pub use Rattle.one_move.specs.Building.{HasTaken, IsReadyMove}
+pub use Rattle.one_move.specs.Building.{HasTaken, IsReadyMove, HasNumbersOf}
 pub use Rattle.one_move.specs.Moved.{IsMade, IsCutRefusal, IsMoveRefusal, IsMoved}
 pub use Rattle.near_changes.specs.Changes.{made_of, changed_after, AreStamped}
 pub use Rattle.near_changes.specs.Fresh.{WasExpanded}

@@ -11,7 +11,7 @@ use Rattle.label_energies.specs.Energies.{Instance, labelling}
 use Rattle.move_energy.specs.BySite.{AreBySite}
 use Rattle.move_energy.specs.Choices.{choice_at, AreOpenSites}
 use Rattle.site_bounds.specs.Decisions.{IsSmallestLeast}
-use Rattle.move_prices.specs.MoveValues.{move_value}
+use Rattle.move_energy.specs.MoveValues.{move_value}
 use Rattle.near_changes.specs.declared.changes.Changes.{Changes}
 use Rattle.near_changes.specs.Changes.{AreStamped, changed_after}
 use Rattle.persistency.specs.Fixing.{AreLeastZeros}
@@ -19,7 +19,7 @@ use Rattle.near_changes.specs.Fresh.{WasExpanded, AreFresh}
 use Rattle.near_changes.specs.Looking.{is_marked}
 use Rattle.one_move.specs.declared.error.MoveError.{MoveError}
 use Rattle.one_move.specs.declared.workspace.Workspace.{Workspace}
-use Rattle.one_move.specs.Building.{IsOfProblem}
+use Rattle.one_move.specs.Building.{IsOfProblem, KeepsDecided}
 use Rattle.one_move.specs.Moved.{IsMoved}
 
 -- a stage can be cut: its choices are of the sites, its open sites and its fresh sites are listed,
@@ -32,9 +32,9 @@ pub record IsStageReady (pairs : PairList) (space : Workspace) : Type 0 where
       → Contains space.stage.fresh_sites.items p
   pub inside : All (λ p. p < pairs.sites) space.stage.fresh_sites.items
 
--- the fresh sites stay as they are, and so do the pairs by their sites
+-- the fresh sites stay as they are, and what was grouped and decided
 pub record KeepsFreshSites (old new : Workspace) : Type 0 where
-  pub ends : new.deciding.ends ≡ old.deciding.ends
+  pub decided : KeepsDecided old new
   pub fresh : new.stage.fresh ≡ old.stage.fresh
   pub listed : new.stage.fresh_sites ≡ old.stage.fresh_sites
 

@@ -7,7 +7,8 @@ ghost use Rattle.moves.specs.Prelude.{AreFree, WhereMeant, AreOfOneSize, made_of
 ghost use Rattle.moves.specs.Prelude.{changed_after, WasExpanded, is_marked, AreTaking};
 ghost use Rattle.moves.specs.Prelude.{IsOfProblem, IsMade, IsCutRefusal, IsMoveRefusal};
 ghost use Rattle.moves.specs.Prelude.{IsStageReady, AreStageZeros, AreStageFresh, IsTakenLeast};
-ghost use Rattle.moves.specs.Prelude.{HasTaken, IsLater, IsUnderWay, TellsChange};
+ghost use Rattle.moves.specs.Prelude.{HasTaken, IsLater, IsUnderWay, TellsChange, HasNumbersOf};
+ghost use Rattle.moves.specs.Prelude.{IsAllowedFrom};
 
 use crate::opening_apart::open_apart;
 use crate::stage_cut::{Standing, make_stage};
@@ -65,8 +66,8 @@ fn can_look<F: Fn(u32, u32) -> i64 + Sync, V: Fn(u32, u32) -> i64 + Sync>(
         && are_few(&changes.stamps, since, labelling.as_slice(), alpha)
 }
 
-/// Makes the first stage ready: by parts of the sites that look by themselves first, where the way
-/// to cut asks for parts.
+/// Reads the numbers of the expansion, and makes the first stage ready: by parts of the sites that
+/// look by themselves first, where the way to cut asks for parts.
 fn begin_stages<F: Fn(u32, u32) -> i64 + Sync, V: Fn(u32, u32) -> i64 + Sync, H: How>(
     problem: &Problem<F, V>,
     space: &mut Workspace,
@@ -77,8 +78,11 @@ fn begin_stages<F: Fn(u32, u32) -> i64 + Sync, V: Fn(u32, u32) -> i64 + Sync, H:
 ) -> Result<(), AllocError>
     requires ready { H.ready how.now }
     requires asked { IsReadyMove F.Fn V.Fn problem.now at.now (Expand alpha) space.old }
+    requires allowed { IsAllowedFrom F.Fn V.Fn problem.now at.now (Expand alpha) }
     requires stamps { length changes.now.stamps.items ≡ length at.now }
     ensures of_problem { IsOfProblem F.Fn V.Fn problem.now space.new }
+    ensures numbers { OnOk result
+        (HasNumbersOf F.Fn V.Fn problem.now at.now (Expand alpha) space.new) }
     ensures stage { OnOk result (IsStageReady problem.now.pairs space.new) }
     ensures fresh { WhereMeant F.Fn V.Fn problem.now
         (λ m. OnOk result (AreStageFresh m alpha at.now changes.now space.new)) }
@@ -95,6 +99,10 @@ fn begin_stages<F: Fn(u32, u32) -> i64 + Sync, V: Fn(u32, u32) -> i64 + Sync, H:
         &changes.stamps,
         changes.last(alpha),
     )?;
+    space
+        .deciding
+        .numbers
+        .read(problem, at, Move::Expand(alpha))?;
     if open_apart(alloc, problem, space, at, alpha, how)? {
         return Ok(());
     }
@@ -118,7 +126,7 @@ fn look<F: Fn(u32, u32) -> i64 + Sync, V: Fn(u32, u32) -> i64 + Sync, H: How>(
 ) -> Result<bool, MoveError>
     requires ready { H.ready how.now }
     requires asked { IsReadyMove F.Fn V.Fn problem.now at.now (Expand alpha) space.old }
-    requires metric { IsTrue problem.now.smooth_cost.by_metric }
+    requires allowed { IsAllowedFrom F.Fn V.Fn problem.now at.now (Expand alpha) }
     requires stamps { length changes.now.stamps.items ≡ length at.now }
     ensures of_problem { IsOfProblem F.Fn V.Fn problem.now space.new }
     ensures least { WhereMeant F.Fn V.Fn problem.now (λ m. IfOk result (λ closed. IsTrue closed →

@@ -1,16 +1,15 @@
 //! The first stage of an expansion that is made once more, after parts of the sites looked by
 //! themselves.
-ghost use Rattle.std.specs.Prelude.{◌≡◌, ◌*◌, ◌<◌, ◌≤◌, All, length, IfOk, IsTrue};
+ghost use Rattle.std.specs.Prelude.{◌≡◌, ◌<◌, ◌≤◌, All, length, IfOk, OnOk, IsTrue};
 ghost use Rattle.label_field.specs.Limits.{site_limit};
 ghost use Rattle.move_energy.specs.BySite.{AreBySite};
 ghost use Rattle.move_energy.specs.Choices.{AreOpenSites};
 ghost use Rattle.moves.specs.Prelude.{Expand, WhereMeant, AreStageZeros, KeepsFreshSites};
-ghost use Rattle.moves.specs.Prelude.{IsOfProblem, IsReadyMove};
+ghost use Rattle.moves.specs.Prelude.{HasNumbersOf};
 
 use crate::How;
 use cost_store::Problem;
-use label_energies::Move;
-use near_change_parts::{PartSizes, find_zeros};
+use near_changes::{PartSizes, find_zeros};
 use near_changes::{Window, choose_first};
 use one_move::Workspace;
 use std::alloc::{AllocError, Global};
@@ -34,7 +33,7 @@ fn part_sizes(sites: usize, parts: usize) -> PartSizes
 }
 
 /// Opens the sites of the first stage after so many parts of the sites looked by themselves, side
-/// by side. It answers whether they did.
+/// by side.
 fn open_by_parts<F: Fn(u32, u32) -> i64 + Sync, V: Fn(u32, u32) -> i64 + Sync, H: How>(
     alloc: Global,
     problem: &Problem<F, V>,
@@ -43,26 +42,21 @@ fn open_by_parts<F: Fn(u32, u32) -> i64 + Sync, V: Fn(u32, u32) -> i64 + Sync, H
     alpha: u32,
     how: &H,
     parts: usize,
-) -> Result<bool, AllocError>
+) -> Result<(), AllocError>
     requires ready { H.ready how.now }
-    requires asked { IsReadyMove F.Fn V.Fn problem.now at.now (Expand alpha) space.old }
+    requires numbers { HasNumbersOf F.Fn V.Fn problem.now at.now (Expand alpha) space.old }
     requires by_site { AreBySite problem.now.pairs space.old.deciding.ends }
     requires inside { All (λ p. p < problem.now.pairs.sites) space.old.stage.fresh_sites.items }
     requires parts { (0 < parts) × (parts ≤ length at.now) }
-    ensures of_problem { IsOfProblem F.Fn V.Fn problem.now space.new }
     ensures same { KeepsFreshSites space.old space.new }
-    ensures count { IfOk result (λ done. IsTrue done →
-        length space.new.built.variables.choices.items ≡ length at.now) }
-    ensures opened { IfOk result (λ done. IsTrue done →
-        AreOpenSites space.new.built.variables.choices.items space.new.stage.opened.items) }
-    ensures zeros { WhereMeant F.Fn V.Fn problem.now (λ m. IfOk result (λ done. IsTrue done →
-        AreStageZeros m alpha at.now space.new)) }
+    ensures count { OnOk result
+        (length space.new.built.variables.choices.items ≡ length at.now) }
+    ensures opened { OnOk result
+        (AreOpenSites space.new.built.variables.choices.items space.new.stage.opened.items) }
+    ensures zeros { WhereMeant F.Fn V.Fn problem.now
+        (λ m. OnOk result (AreStageZeros m alpha at.now space.new)) }
 {
     problem.pairs.keeps();
-    match space.deciding.open(problem, at, Move::Expand(alpha)) {
-        Ok(()) => {}
-        Err(_) => return Ok(false),
-    }
     let choices = &mut space.built.variables.choices;
     choose_first(choices, at, alpha)?;
     let form = space
@@ -84,8 +78,7 @@ fn open_by_parts<F: Fn(u32, u32) -> i64 + Sync, V: Fn(u32, u32) -> i64 + Sync, H
     };
     space
         .stage
-        .open_fresh(choices, &problem.pairs, &space.deciding.ends, window)?;
-    Ok(true)
+        .open_fresh(choices, &problem.pairs, &space.deciding.ends, window)
 }
 
 /// Opens the sites of the first stage after parts of the sites looked by themselves, where the way
@@ -99,10 +92,9 @@ pub(crate) fn open_apart<F: Fn(u32, u32) -> i64 + Sync, V: Fn(u32, u32) -> i64 +
     how: &H,
 ) -> Result<bool, AllocError>
     requires ready { H.ready how.now }
-    requires asked { IsReadyMove F.Fn V.Fn problem.now at.now (Expand alpha) space.old }
+    requires numbers { HasNumbersOf F.Fn V.Fn problem.now at.now (Expand alpha) space.old }
     requires by_site { AreBySite problem.now.pairs space.old.deciding.ends }
     requires inside { All (λ p. p < problem.now.pairs.sites) space.old.stage.fresh_sites.items }
-    ensures of_problem { IsOfProblem F.Fn V.Fn problem.now space.new }
     ensures same { KeepsFreshSites space.old space.new }
     ensures count { IfOk result (λ done. IsTrue done →
         length space.new.built.variables.choices.items ≡ length at.now) }
@@ -118,5 +110,6 @@ pub(crate) fn open_apart<F: Fn(u32, u32) -> i64 + Sync, V: Fn(u32, u32) -> i64 +
     if parts < 2 {
         return Ok(false);
     }
-    open_by_parts(alloc, problem, space, at, alpha, how, parts)
+    open_by_parts(alloc, problem, space, at, alpha, how, parts)?;
+    Ok(true)
 }

@@ -2,22 +2,24 @@
 //! shows.
 ghost use Rattle.std.specs.Prelude.{◌≡◌, ◌+◌, ◌<◌, ℕ, false, true, length};
 ghost use Rattle.std.specs.Prelude.{OnOk, IfOk, IfErr};
-ghost use Rattle.moves.specs.Prelude.{Expand, labelling, IsPosed, WhereMeant, IsAsked, Zero};
+ghost use Rattle.site_forms.specs.Numbers.{IsOverPairs, WhereRead};
+ghost use Rattle.moves.specs.Prelude.{Expand, WhereMeant, Zero, AreOpenSites};
 ghost use Rattle.moves.specs.Prelude.{choice_at, value_of, open_count, IsNumbering, is_marked};
-ghost use Rattle.moves.specs.Prelude.{IsClosedIn, AreTaking, IsAllowedFrom, IsValuedMove};
-ghost use Rattle.moves.specs.Prelude.{AreSitesListed, KeepsDecided, IsCutRefusal, IsStageLeast};
-ghost use Rattle.moves.specs.Prelude.{IsStageReady, AreStageZeros, EndsMove};
+ghost use Rattle.moves.specs.Prelude.{IsClosedIn, AreTaking, HasNumbersOf, KeepsDecided};
+ghost use Rattle.moves.specs.Prelude.{IsCutRefusal, IsStageLeast, IsStageReady, AreStageZeros};
+ghost use Rattle.moves.specs.Prelude.{EndsMove};
 
 use crate::{How, MoveError};
 use compile_cut::Quadratic;
 use cost_store::Problem;
-use label_energies::Move;
 use label_field::Pairs;
-use move_energy::{MoveEnergy, OpenSites};
+use move_energy::MoveEnergy;
 use near_changes::Window;
 use one_move::{Workspace, cut_small, least_nodes};
+use site_bounds::SiteForm;
 use std::alloc::{AllocError, Global};
 use std::mem::replace;
+use strips::Strips;
 
 /// What a stage leaves: the sites that take the label are found, or there are more sites to look
 /// at.
@@ -28,34 +30,32 @@ pub(crate) enum Standing {
 }
 
 /// The cut of a partly fixed move, over the listed open sites: a bit for each.
-pub(crate) fn cut_stage<F: Fn(u32, u32) -> i64 + Sync, V: Fn(u32, u32) -> i64 + Sync, H: How>(
-    problem: &Problem<F, V>,
+pub(crate) fn cut_stage<H: How>(
+    form: &SiteForm,
+    strips: &mut Strips,
     built: &mut MoveEnergy,
-    sites: &OpenSites,
-    at: &[u8],
-    change: Move,
+    opened: &[u32],
     how: &H,
     cutting: &mut plain_cut::Workspace,
 ) -> Result<Vec<bool>, MoveError>
     requires ready { H.ready how.now }
-    requires valued { IsValuedMove F.Fn V.Fn problem.now at.now change
-        built.old.variables.choices.items }
-    requires sites { AreSitesListed problem.now.pairs built.old.variables.choices.items sites.now }
-    requires allowed { IsAllowedFrom F.Fn V.Fn problem.now at.now change }
+    requires over { IsOverPairs form.now }
+    requires choices { length built.old.variables.choices.items ≡ length form.now.at.now }
+    requires opened { AreOpenSites built.old.variables.choices.items opened.now }
     ensures kept { built.new.variables.choices.items ≡ built.old.variables.choices.items }
     ensures numbering { OnOk result (IsNumbering built.new.variables.choices.items
         built.new.variables.of_sites.items) }
     ensures count { IfOk result
         (λ bits. length bits.items ≡ open_count built.new.variables.choices.items) }
-    ensures least { WhereMeant F.Fn V.Fn problem.now (λ m. IfOk result (λ bits. IsStageLeast m
-        change (labelling at.now) built.new.variables.choices.items bits.items)) }
+    ensures least { WhereRead form.now (λ m move f. IfOk result
+        (λ bits. IsStageLeast m move f built.new.variables.choices.items bits.items)) }
     ensures refused { IfErr result (IsCutRefusal (H.refuses how.now)) }
 {
     let alloc = *built.form.weights.allocator();
-    built.build_listed(alloc, problem, sites, at, change)?;
-    let form = replace(&mut built.form, Quadratic::new(alloc));
-    let small = least_nodes(how.parts(usize::MAX), at.len(), true).max(how.strip_sites());
-    cut_small(alloc, form, small, how, cutting)
+    strips.build_read(form, opened, built)?;
+    let left = replace(&mut built.form, Quadratic::new(alloc));
+    let small = least_nodes(how.parts(usize::MAX), form.at.len(), true).max(how.strip_sites());
+    cut_small(alloc, left, small, how, cutting)
 }
 
 /// What is done with what a cut showed: where the sites that take the label are not closed in, more
@@ -113,10 +113,8 @@ pub(crate) fn make_stage<F: Fn(u32, u32) -> i64 + Sync, V: Fn(u32, u32) -> i64 +
     how: &H,
 ) -> Result<Standing, MoveError>
     requires ready { H.ready how.now }
-    requires asked { IsAsked problem.now at.now (Expand alpha) }
-    requires posed { IsPosed F.Fn V.Fn problem.now }
+    requires numbers { HasNumbersOf F.Fn V.Fn problem.now at.now (Expand alpha) space.old }
     requires stage { IsStageReady problem.now.pairs space.old }
-    requires allowed { IsAllowedFrom F.Fn V.Fn problem.now at.now (Expand alpha) }
     ensures same { KeepsDecided space.old space.new }
     ensures fresh { space.new.stage.fresh.items ≡ space.old.stage.fresh.items }
     ensures closed { WhereMeant F.Fn V.Fn problem.now (λ m. IfOk result (λ standing.
@@ -130,16 +128,15 @@ pub(crate) fn make_stage<F: Fn(u32, u32) -> i64 + Sync, V: Fn(u32, u32) -> i64 +
         AreStageZeros m alpha at.now space.old → AreStageZeros m alpha at.now space.new)) }
     ensures refused { IfErr result (IsCutRefusal (H.refuses how.now)) }
 {
-    let sites = OpenSites {
-        ends: &space.deciding.ends,
-        opened: &space.stage.opened,
-    };
+    let form = space
+        .deciding
+        .numbers
+        .form(&problem.pairs, &space.deciding.ends, at);
     let bits = cut_stage(
-        problem,
+        &form,
+        &mut space.strips,
         &mut space.built,
-        &sites,
-        at,
-        Move::Expand(alpha),
+        &space.stage.opened,
         how,
         &mut space.cutting,
     )?;

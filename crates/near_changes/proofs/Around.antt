@@ -1,5 +1,5 @@
 -- The pairs of a site, and what is told of all pairs by those of each site.
-use Rattle.move_prices.specs.Ends.{AreEnds}
+use Rattle.move_energy.specs.Ends.{AreEnds}
 use Rattle.std.proofs.Common.{◌≡◌, ◌≢◌, ◌⊎◌, ◌==◌, ℕ, ◌+◌, ◌-◌, ◌<◌, Bool, true, false, cond, List, length, All, refl, sym, ap, ◌∙◌, subst, inl, inr, arith}
 use Rattle.std.proofs.lemmas.Bool.{eq-eqb, ne_eqb}
 use Rattle.std.specs.List.{Contains}

@@ -10,10 +10,10 @@ use Rattle.label_energies.proofs.Repeating.{best_again}
 use Rattle.move_energy.specs.declared.choice.Choice.{Choice}
 use Rattle.move_energy.specs.declared.choice.Choice.TheVariants.{Open, Zero, One}
 use Rattle.move_energy.specs.Choices.{bit_of}
-use Rattle.move_prices.specs.Assignments.{IsOver}
+use Rattle.move_energy.specs.Assignments.{IsOver}
 use Rattle.site_bounds.specs.Decisions.{IsSmallestLeast}
-use Rattle.move_prices.specs.MoveValues.{move_value}
-use Rattle.move_prices.proofs.Rising.{move_falls, move_over}
+use Rattle.move_energy.specs.MoveValues.{move_value}
+use Rattle.move_energy.proofs.Rising.{move_falls, move_over}
 use Rattle.persistency.specs.Fixing.{with_choices, fixed_value, AreLeastZeros, OnesLieWithin, IsLeftOpen}
 use Rattle.near_changes.specs.Fresh.{LowersNothing, WasExpanded, AreFresh, HoldsFresh, IsPartOf}
 use Rattle.near_changes.proofs.Parts.{swapped_le, closing}

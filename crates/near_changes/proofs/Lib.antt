@@ -6,3 +6,4 @@ pub mod Scanning
 pub mod Opens
 pub mod Seen
 pub mod Noting
+pub mod Codes

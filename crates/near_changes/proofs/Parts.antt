@@ -12,10 +12,10 @@ use Rattle.label_energies.specs.declared.change.Move.TheVariants.{Expand}
 use Rattle.label_energies.specs.Energies.{Instance, IsInstance, plain_energy, pair_cost}
 use Rattle.label_energies.specs.Moves.{labelling_made}
 use Rattle.label_energies.proofs.Energy.{plain-same}
-use Rattle.move_prices.specs.Assignments.{set_bit}
+use Rattle.move_energy.specs.Assignments.{set_bit}
 use Rattle.site_bounds.specs.Decisions.{IsSmallestLeast}
-use Rattle.move_prices.specs.MoveValues.{move_value}
-use Rattle.move_prices.proofs.Assignments.{set_at, set_other}
+use Rattle.move_energy.specs.MoveValues.{move_value}
+use Rattle.move_energy.proofs.Assignments.{set_at, set_other}
 use Rattle.persistency.specs.Fixing.{OnesLieWithin}
 use Rattle.near_changes.specs.Fresh.{WasExpanded, IsFreshAcross, AreFresh, HoldsNoFresh, HoldsFresh, IsApart, IsPartOf}
 

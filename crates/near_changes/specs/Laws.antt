@@ -6,7 +6,7 @@ use Rattle.label_energies.specs.declared.change.Move.TheVariants.{Expand}
 use Rattle.label_energies.specs.Energies.{Instance, IsInstance, AreLabelsFree, labelling}
 use Rattle.label_energies.specs.Moves.{IsAllowed, IsBest}
 use Rattle.site_bounds.specs.Decisions.{IsSmallestLeast}
-use Rattle.move_prices.specs.MoveValues.{move_value}
+use Rattle.move_energy.specs.MoveValues.{move_value}
 use Rattle.persistency.specs.Fixing.{with_choices, fixed_value, AreLeastZeros, OnesLieWithin}
 use Rattle.persistency.specs.Fixing.{IsLeftOpen}
 use Rattle.near_changes.specs.Fresh.{WasExpanded, AreFresh, HoldsNoFresh, HoldsFresh, IsApart}

@@ -3,3 +3,4 @@ pub mod Laws
 pub mod Looking
 pub mod Working
 pub mod Changes
+pub mod SideBySide

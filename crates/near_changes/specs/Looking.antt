@@ -1,5 +1,5 @@
 -- Where an expansion of a label that is made once more looks, stage after stage.
-use Rattle.move_prices.specs.Ends.{AreEnds}
+use Rattle.move_energy.specs.Ends.{AreEnds}
 use Rattle.std.specs.Prelude.{◌≡◌, ◌≢◌, ◌⊎◌, ◌↔◌, ℕ, ◌<◌, Bool, true, false, List, length, nat_lt}
 use Rattle.std.specs.Prelude.{slice_index, slice_index_or}
 use Rattle.std.specs.List.{All, Contains}

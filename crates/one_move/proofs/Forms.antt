@@ -1,14 +1,30 @@
--- What is said of the form that is lent of the workspace's numbers.
-use Rattle.std.proofs.Common.{◌≡◌, ℕ, List, subst}
+-- What is said of a form that is lent of the workspace's numbers, and of a move that is built of
+-- it.
+use Rattle.std.proofs.Common.{◌≡◌, ◌∙◌, ℕ, List, Ok, length, ap, sym, subst}
+use Rattle.pseudo_bool.specs.Energies.{assignment}
 use Rattle.label_energies.specs.declared.change.Move.{Move}
 use Rattle.label_energies.specs.Energies.{Instance, labelling}
 use Rattle.label_energies.specs.Moves.{IsAllowed}
 use Rattle.cost_store.specs.declared.problem.Problem.{Problem}
-use Rattle.cost_store.specs.Posed.{Closure, IsMeant, WhereMeant}
+use Rattle.cost_store.specs.Posed.{Closure, IsPosed, IsMeant, WhereMeant}
+use Rattle.cost_store.proofs.Meaning.{pairs_meant}
+use Rattle.move_energy.specs.declared.choice.Choice.{Choice}
+use Rattle.move_energy.specs.BySite.{AreBySite}
+use Rattle.move_energy.specs.Choices.{choice_at, open_rank}
+use Rattle.move_energy.specs.MoveValues.{move_value}
 use Rattle.site_forms.specs.declared.lists.FormLists.{FormLists}
 use Rattle.site_forms.specs.declared.numbers.SiteForm.{SiteForm}
-use Rattle.site_forms.specs.Lists.{IsReadOf}
+use Rattle.site_forms.specs.Lists.{AreFormLists, IsReadOf}
 use Rattle.site_forms.specs.Numbers.{IsFormOf}
+use Rattle.site_bounds.specs.declared.sites.Deciding.{Deciding}
+use Rattle.site_bounds.specs.Listed.{AreListed}
+use Rattle.persistency.specs.Agreeing.{Agree}
+use Rattle.one_move.specs.declared.workspace.Workspace.{Workspace}
+use Rattle.one_move.specs.Building.{HasNumbersOf, IsReadMove, IsOpenForm, KeepsDecided, KeepsChoices, IsBuiltPlain}
+use Rattle.one_move.specs.PlainBuilding.{IsPlainBuilding}
+use Rattle.one_move.proofs.Least.{agreed_least}
+use Rattle.one_move.proofs.Changes.{near_rest}
+use Rattle.one_move.proofs.OfProblem.{still_of_problem}
 
 -- what holds of the form holds of the move that the problem means, from its labels
 pub read_meant : {F V : Type 0} (f : Closure F) (v : Closure V) (problem : Problem F V) (at : List ℕ) (move : Move) (lists : FormLists) (form : SiteForm)
@@ -18,3 +34,51 @@ pub read_meant : {F V : Type 0} (f : Closure F) (v : Closure V) (problem : Probl
     → ((m : Instance) → IsMeant f v problem m → IsFormOf m move form → P m form.at.now) → WhereMeant f v problem (λ m. P m at)
 read_meant {F} {V} f v problem at move lists form P allowed read from forms told m meant =
     subst (P m) from (told m meant (forms m move meant.sites_are meant.pairs_are (allowed m meant) (read m meant)))
+
+-- the numbers stay where nothing is decided since
+pub still_numbers : {F V : Type 0} (f : Closure F) (v : Closure V) (problem : Problem F V) (at : List ℕ) (move : Move) (old new : Workspace) → KeepsDecided old new
+    → HasNumbersOf f v problem at move old → HasNumbersOf f v problem at move new
+still_numbers {F} {V} f v problem at move old new same numbers =
+    let L : Deciding → Type 0 = λ d. AreFormLists at d.numbers in
+    record {
+      sites = numbers.sites;
+      allowed = numbers.allowed;
+      lists = subst L (sym same.1) numbers.lists;
+      read = λ m meant. (let R : Deciding → Type 0 = λ d. IsReadOf m move at d.numbers in subst R (sym same.1) (numbers.read m meant));
+    }
+
+-- the form of a move whose choices agree is that of its least values
+pub agreed_built : {F V : Type 0} (f : Closure F) (v : Closure V) (problem : Problem F V) (at : List ℕ) (move : Move) (space : Workspace) → IsPosed f v problem
+    → WhereMeant f v problem (λ m. IsAllowed m move (labelling at)) → IsOpenForm f v problem at move space
+    → WhereMeant f v problem (λ m. Agree m.sites (move_value m move (labelling at)) (choice_at space.built.variables.choices.items))
+    → WhereMeant f v problem (λ m. IsBuiltPlain m move at space.built (Ok tt))
+agreed_built {F} {V} f v problem at move space posed allowed form agree m meant =
+    let choices = space.built.variables.choices.items in (
+      allowed m meant,
+      λ bits least. agreed_least m move (labelling at) (choice_at choices) space.built.form (open_rank choices) (assignment bits) (pairs_meant f v problem m posed meant)
+          (allowed m meant) (agree m meant) (form.stands m meant) least,
+    )
+
+-- a move whose numbers were read, and whose form is then built
+pub plain_built : {F V : Type 0} (f : Closure F) (v : Closure V) (problem : Problem F V) (at : List ℕ) (move : Move) (old new : Workspace) → IsPosed f v problem
+    → IsReadMove f v problem at move old → KeepsDecided old new → KeepsChoices old new → IsOpenForm f v problem at move new
+    → WhereMeant f v problem (λ m. Agree m.sites (move_value m move (labelling at)) (choice_at old.built.variables.choices.items))
+    → IsPlainBuilding f v problem at move new (Ok tt)
+plain_built {F} {V} f v problem at move old new posed read same kept form agree =
+    let count = ap (λ (xs : List Choice). length xs) kept ∙ read.count in
+    let E : Deciding → Type 0 = λ d. AreBySite problem.pairs d.ends in
+    let L : Deciding → Type 0 = λ d. AreListed move (labelling at) new.built.variables.choices.items d.lists in
+    let C : List Choice → Type 0 = λ choices. AreListed move (labelling at) choices old.deciding.lists in
+    record {
+      of_problem = still_of_problem f v problem old new same read.of_problem;
+      left = record {
+        near = near_rest problem.pairs move at new count
+            (record { by_site = subst E (sym same.1) read.near.by_site; lists = subst L (sym same.1) (subst C (sym kept) read.near.lists) });
+        choices = count;
+        bounded = form.bounded;
+        few = form.few;
+      };
+      built = agreed_built f v problem at move new posed read.numbers.allowed form (λ m meant.
+      let A : List Choice → Type 0 = λ choices. Agree m.sites (move_value m move (labelling at)) (choice_at choices) in
+      subst A (sym kept) (agree m meant));
+    }

@@ -24,8 +24,8 @@ use Rattle.move_energy.specs.declared.choice.Choice.TheVariants.{Open, Zero as D
 use Rattle.move_energy.specs.Choices.{bit_of, choice_at, choice_of, value_of, open_rank, made_by, AreAllOpen, AreAssigned, StandsFor}
 use Rattle.one_move.specs.Building.{site_values, made_value}
 use Rattle.site_bounds.specs.Decisions.{IsSmallestLeast}
-use Rattle.move_prices.specs.MoveValues.{move_value}
-use Rattle.move_prices.proofs.Rising.{move_falls, move_over}
+use Rattle.move_energy.specs.MoveValues.{move_value}
+use Rattle.move_energy.proofs.Rising.{move_falls, move_over}
 use Rattle.persistency.specs.Fixing.{with_choices}
 use Rattle.persistency.specs.Agreeing.{Agree}
 use Rattle.persistency.specs.Forms.{bits_by_site}

@@ -1,24 +1,18 @@
 -- Workspaces of a problem.
-use Rattle.std.proofs.Common.{◌≡◌, ◌∙◌, ◌≤◌, ℕ, Bool, List, true, false, sym, subst, lit≤}
-use Rattle.std.specs.Prelude.{slice_index, slice_index_or}
+use Rattle.std.proofs.Common.{◌≡◌, ◌∙◌, false, sym, subst}
 use Rattle.cost_store.specs.declared.problem.Problem.{Problem}
 use Rattle.cost_store.specs.Posed.{Closure}
 use Rattle.move_energy.specs.BySite.{AreBySite}
 use Rattle.site_bounds.specs.declared.sites.Deciding.{Deciding}
 use Rattle.site_forms.specs.Lists.{HasNoCosts, KnowsCosts}
+use Rattle.site_forms.proofs.Asking.{none_known}
 use Rattle.one_move.specs.declared.workspace.Workspace.{Workspace}
 use Rattle.one_move.specs.Building.{IsOfProblem, KeepsDecided}
 
 -- one of which nothing was taken is of any problem
 pub new_of_problem : {F V : Type 0} (f : Closure F) (v : Closure V) (problem : Problem F V) (space : Workspace) → space.grouped ≡ false
     → HasNoCosts space.deciding.numbers → IsOfProblem f v problem space
-new_of_problem {F} {V} f v problem space fresh none = (
-  (λ grouped. absurd (cc (grouped, fresh))),
-  record {
-    small = λ place. (let S : List ℕ → Type 0 = λ xs. slice_index xs place ≤ 10000 in subst S (sym none.1) (lit≤ tt));
-    costs = λ m meant one other l k was also. (let A : List Bool → Type 0 = λ xs. slice_index_or xs one false ≡ true in absurd (cc (subst A none.0 was)));
-  },
-)
+new_of_problem {F} {V} f v problem space fresh none = ((λ grouped. absurd (cc (grouped, fresh))), none_known f v problem space.deciding.numbers none)
 
 -- where nothing was grouped or decided since, it is still of the problem
 pub still_of_problem : {F V : Type 0} (f : Closure F) (v : Closure V) (problem : Problem F V) (old new : Workspace) → KeepsDecided old new

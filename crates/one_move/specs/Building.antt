@@ -20,6 +20,7 @@ use Rattle.move_energy.specs.declared.error.BuildError.{BuildError}
 use Rattle.move_energy.specs.Choices.{bit_of, choice_at, value_of, AreOpenSites}
 use Rattle.move_energy.specs.Problems.{IsPrepareRefusal, Stands}
 use Rattle.move_energy.specs.Limits.{weights_limit}
+use Rattle.move_energy.specs.OpenMoves.{IsAllowedFrom}
 use Rattle.move_energy.specs.Weights.{AreWeights}
 use Rattle.sums.specs.Sums.{count_if}
 use Rattle.move_energy.specs.declared.by_site.Neighbours.{Neighbours}
@@ -28,7 +29,7 @@ use Rattle.label_field.specs.PairLists.{PairList}
 use Rattle.move_energy.specs.BySite.{AreBySite, IsListing, met_at}
 use Rattle.site_bounds.specs.Listed.{AreListed, changes}
 use Rattle.site_bounds.specs.Decisions.{IsSmallestLeast}
-use Rattle.move_prices.specs.MoveValues.{move_value}
+use Rattle.move_energy.specs.MoveValues.{move_value}
 use Rattle.site_forms.specs.Lists.{AreFormLists, IsReadOf, KnowsCosts}
 use Rattle.one_move.specs.declared.workspace.Workspace.{Workspace}
 
@@ -49,11 +50,6 @@ pub record HasListsOfMove (pairs : PairList) (move : Move) (f : List ℕ)
     (space : Workspace) : Type 0 where
   pub by_site : AreBySite pairs space.deciding.ends
   pub lists : AreListed move (labelling f) space.built.variables.choices.items space.deciding.lists
-
--- they are, where a move is to look at the listed sites alone
-abbrev pub IsNearWhereListed : PairList → Move → List ℕ → Workspace → Type 0
-IsNearWhereListed pairs move f space = IsTrue space.deciding.lists.listed
-    → HasListsOfMove pairs move f space
 
 -- what is left of a move is listed: its open sites, and among the changing ones each whose label
 -- can still become another
@@ -91,19 +87,28 @@ pub record IsReadyMove {F V : Type 0} (f : Closure F) (v : Closure V) (problem :
   pub few : problem.data_cost.labels ≤ label_limit
   pub of_problem : IsOfProblem f v problem space
 
--- the sites of the move are decided: the workspace has a choice for each, the lists of those that
--- are open, their weights, and the lists of the move's numbers
-pub record IsWeighedMove {F V : Type 0} (f : Closure F) (v : Closure V) (problem : Problem F V)
+-- the workspace has the numbers of the move, which is allowed
+pub record HasNumbersOf {F V : Type 0} (f : Closure F) (v : Closure V) (problem : Problem F V)
     (at : List ℕ) (move : Move) (space : Workspace) : Type 0 where
-  pub posed : IsPosed f v problem
-  pub asked : IsAsked problem at move
+  pub sites : length at ≡ problem.pairs.sites
+  pub allowed : IsAllowedFrom f v problem at move
+  pub lists : AreFormLists at space.deciding.numbers
+  pub read : WhereMeant f v problem (λ m. IsReadOf m move at space.deciding.numbers)
+
+-- and it is of the problem, with a choice for each site and the lists of those that are open
+pub record IsReadMove {F V : Type 0} (f : Closure F) (v : Closure V) (problem : Problem F V)
+    (at : List ℕ) (move : Move) (space : Workspace) : Type 0 where
+  pub numbers : HasNumbersOf f v problem at move space
   pub of_problem : IsOfProblem f v problem space
   pub count : length space.built.variables.choices.items ≡ length at
   pub near : HasListsOfMove problem.pairs move at space
+
+-- and its sites are decided: the workspace has the weights of those that are open
+pub record IsWeighedMove {F V : Type 0} (f : Closure F) (v : Closure V) (problem : Problem F V)
+    (at : List ℕ) (move : Move) (space : Workspace) : Type 0 where
+  pub read : IsReadMove f v problem at move space
   pub sized : AreWeightsSized (length at) space
   pub weights : WhereMeant f v problem (λ m. KnowsWeights m move at space)
-  pub lists : AreFormLists at space.deciding.numbers
-  pub read : WhereMeant f v problem (λ m. IsReadOf m move at space.deciding.numbers)
 
 -- the form of the workspace stands for what is open of the move, and is of a size that can be cut
 pub record IsOpenForm {F V : Type 0} (f : Closure F) (v : Closure V) (problem : Problem F V)

@@ -18,10 +18,10 @@ pub use Rattle.move_energy.specs.BySite.{AreBySite, is_counted, met_at}
 pub use Rattle.move_energy.specs.Choices.{choice_at}
 pub use Rattle.move_energy.specs.OpenMoves.{IsValuedMove, IsAllowedFrom}
 pub use Rattle.move_energy.specs.Problems.{IsPrepareRefusal}
-pub use Rattle.move_prices.specs.MoveValues.{move_value}
+pub use Rattle.move_energy.specs.MoveValues.{move_value}
 pub use Rattle.pseudo_bool.specs.Energies.{assignment}
 pub use Rattle.pseudo_bool.specs.Limits.{term_limit}
-pub use Rattle.one_move.specs.Building.{IsOfProblem, HasListsOfMove, IsNearWhereListed}
+pub use Rattle.one_move.specs.Building.{IsOfProblem, HasListsOfMove, IsReadMove}
 pub use Rattle.one_move.specs.Building.{IsRestWhereListed, IsReadyMove, IsWeighedMove}
 pub use Rattle.one_move.specs.Building.{IsOpenForm, KeepsChoices, KeepsDecided, IsReadyToCut}
 pub use Rattle.one_move.specs.Building.{IsBuiltMove, site_values, LowersEnergy, rise_by}

@@ -1,14 +1,10 @@
 //! The energy of a move, of which sites are decided before it is built.
-ghost use Rattle.std.specs.Prelude.{◌≡◌, ◌+◌, ◌<◌, ◌≤◌, length, false, IfOk, IfErr, OnOk, IsTrue};
-ghost use Rattle.one_move.specs.Prelude.{labelling, IsAllowed, site_limit, label_limit};
-ghost use Rattle.one_move.specs.Prelude.{IsPosed};
-ghost use Rattle.one_move.specs.Prelude.{WhereMeant, IsAsked, choice_at, IsPrepareRefusal};
-ghost use Rattle.one_move.specs.Prelude.{IsDecidedMove, move_value, Agree, IsOfProblem};
-ghost use Rattle.one_move.specs.Prelude.{HasListsOfMove, IsNearWhereListed, IsRestWhereListed};
-ghost use Rattle.one_move.specs.Prelude.{IsReadyMove, IsWeighedMove, IsOpenForm, KeepsChoices};
-ghost use Rattle.one_move.specs.Prelude.{KeepsDecided, IsReadyToCut, IsBuiltMove};
-ghost use Rattle.one_move.specs.Prelude.{IsValuedMove, IsAllowedFrom, costs_of, AreCosts};
-ghost use Rattle.one_move.specs.Prelude.{IsFreeFor};
+ghost use Rattle.std.specs.Prelude.{◌≡◌, ◌+◌, ◌<◌, length, IfOk, IfErr, OnOk, IsTrue};
+ghost use Rattle.one_move.specs.Prelude.{labelling, site_limit, label_limit, WhereMeant, choice_at};
+ghost use Rattle.one_move.specs.Prelude.{IsPrepareRefusal, IsDecidedMove, move_value, Agree};
+ghost use Rattle.one_move.specs.Prelude.{IsOfProblem, IsRestWhereListed, IsReadyMove, IsReadMove};
+ghost use Rattle.one_move.specs.Prelude.{IsWeighedMove, IsOpenForm, KeepsChoices, KeepsDecided};
+ghost use Rattle.one_move.specs.Prelude.{IsReadyToCut, IsBuiltMove, costs_of, AreCosts, IsFreeFor};
 ghost use Rattle.one_move.specs.Prelude.{Expand, AreCostsOf};
 ghost use Rattle.one_move.specs.PlainBuilding.{IsPlainBuilding};
 
@@ -17,7 +13,7 @@ use cost_store::{Problem, costs_of, has_cost};
 use cut_ways::How;
 use label_cost_terms::add_label_costs;
 use label_energies::Move;
-use move_energy::{BuildError, OpenSites};
+use move_energy::BuildError;
 use std::alloc::{AllocError, Global};
 use std::mem::swap;
 use strips::{Basis, close_parts};
@@ -46,10 +42,8 @@ fn decide<F: Fn(u32, u32) -> i64 + Sync, V: Fn(u32, u32) -> i64 + Sync>(
     Ok(())
 }
 
-/// The energy of a move over its listed open sites, from their weights. What was decided is not
-/// looked at.
-fn build_near<F: Fn(u32, u32) -> i64 + Sync, V: Fn(u32, u32) -> i64 + Sync>(
-    alloc: Global,
+/// The energy of a move whose sites are decided, over its listed open sites, from what they weigh.
+fn build_open<F: Fn(u32, u32) -> i64 + Sync, V: Fn(u32, u32) -> i64 + Sync>(
     problem: &Problem<F, V>,
     space: &mut Workspace,
     at: &[u8],
@@ -57,65 +51,21 @@ fn build_near<F: Fn(u32, u32) -> i64 + Sync, V: Fn(u32, u32) -> i64 + Sync>(
 ) -> Result<(), AllocError>
     requires weighed { IsWeighedMove F.Fn V.Fn problem.now at.now change space.old }
     requires listed { IsTrue space.old.deciding.lists.listed }
-    requires allowed { IsAllowedFrom F.Fn V.Fn problem.now at.now change }
     ensures same { KeepsDecided space.old space.new }
     ensures kept { KeepsChoices space.old space.new }
     ensures form { OnOk result (IsOpenForm F.Fn V.Fn problem.now at.now change space.new) }
 {
-    let sites = OpenSites {
-        ends: &space.deciding.ends,
-        opened: &space.deciding.lists.opened,
-    };
-    let weights = &space.deciding.bounds.greatest;
-    space
-        .built
-        .build_weighted_listed(alloc, problem, &sites, weights, at, change)
-}
-
-/// The energy of a move from the weights of its open sites, for which all sites and pairs are
-/// passed.
-fn build_all<F: Fn(u32, u32) -> i64 + Sync, V: Fn(u32, u32) -> i64 + Sync>(
-    alloc: Global,
-    problem: &Problem<F, V>,
-    space: &mut Workspace,
-    at: &[u8],
-    change: Move,
-) -> Result<(), AllocError>
-    requires weighed { IsWeighedMove F.Fn V.Fn problem.now at.now change space.old }
-    requires far { space.old.deciding.lists.listed ≡ false }
-    requires allowed { IsAllowedFrom F.Fn V.Fn problem.now at.now change }
-    ensures of_problem { IsOfProblem F.Fn V.Fn problem.now space.new }
-    ensures far { space.new.deciding.lists.listed ≡ false }
-    ensures kept { KeepsChoices space.old space.new }
-    ensures form { OnOk result (IsOpenForm F.Fn V.Fn problem.now at.now change space.new) }
-{
-    let weights = &space.deciding.bounds.greatest;
-    space
-        .built
-        .build_weighted(alloc, problem, weights, at, change)?;
+    let form = space
+        .deciding
+        .numbers
+        .form(&problem.pairs, &space.deciding.ends, at);
+    space.strips.build_open(
+        &form,
+        &space.deciding.bounds.greatest,
+        &space.deciding.lists.opened,
+        &mut space.built,
+    )?;
     Ok(())
-}
-
-/// The energy of a move whose sites are decided, over its open sites.
-fn build_open<F: Fn(u32, u32) -> i64 + Sync, V: Fn(u32, u32) -> i64 + Sync>(
-    alloc: Global,
-    problem: &Problem<F, V>,
-    space: &mut Workspace,
-    at: &[u8],
-    change: Move,
-) -> Result<(), AllocError>
-    requires weighed { IsWeighedMove F.Fn V.Fn problem.now at.now change space.old }
-    requires allowed { IsAllowedFrom F.Fn V.Fn problem.now at.now change }
-    ensures of_problem { IsOfProblem F.Fn V.Fn problem.now space.new }
-    ensures near { IsNearWhereListed problem.now.pairs change at.now space.new }
-    ensures kept { KeepsChoices space.old space.new }
-    ensures form { OnOk result (IsOpenForm F.Fn V.Fn problem.now at.now change space.new) }
-{
-    if space.deciding.lists.listed {
-        build_near(alloc, problem, space, at, change)
-    } else {
-        build_all(alloc, problem, space, at, change)
-    }
 }
 
 /// The energy of the last strip of a move whose sites are decided: all strips before it are closed
@@ -129,7 +79,6 @@ fn build_strips<F: Fn(u32, u32) -> i64 + Sync, V: Fn(u32, u32) -> i64 + Sync>(
 ) -> Result<(), AllocError>
     requires some { 0 < size }
     requires weighed { IsWeighedMove F.Fn V.Fn problem.now at.now change space.old }
-    requires allowed { IsAllowedFrom F.Fn V.Fn problem.now at.now change }
     ensures of_problem { IsOfProblem F.Fn V.Fn problem.now space.new }
     ensures near { OnOk result (IsRestWhereListed problem.now.pairs change at.now space.new) }
     ensures choices { OnOk result (length space.new.built.variables.choices.items ≡ length at.now) }
@@ -174,13 +123,10 @@ fn close_apart<F: Fn(u32, u32) -> i64 + Sync, V: Fn(u32, u32) -> i64 + Sync, H: 
     requires ready { H.ready how.now }
     requires asked { IsReadyMove F.Fn V.Fn problem.now at.now change space.old }
     ensures of_problem { IsOfProblem F.Fn V.Fn problem.now space.new }
-    ensures near { IfOk result (λ done. IsTrue done →
-        HasListsOfMove problem.now.pairs change at.now space.new) }
-    ensures choices { IfOk result (λ done. IsTrue done →
-        length space.new.built.variables.choices.items ≡ length at.now) }
-    ensures closed { WhereMeant F.Fn V.Fn problem.now (λ m. IfOk result (λ done. IsTrue done →
-        IsAllowed m change (labelling at.now)
-        × Agree m.sites (move_value m change (labelling at.now))
+    ensures read { IfOk result (λ done. IsTrue done →
+        IsReadMove F.Fn V.Fn problem.now at.now change space.new) }
+    ensures agree { WhereMeant F.Fn V.Fn problem.now (λ m. IfOk result (λ done. IsTrue done →
+        Agree m.sites (move_value m change (labelling at.now))
         (choice_at space.new.built.variables.choices.items))) }
     ensures refused { WhereMeant F.Fn V.Fn problem.now (λ m.
         IfErr result (IsPrepareRefusal m change (labelling at.now))) }
@@ -215,32 +161,44 @@ fn close_apart<F: Fn(u32, u32) -> i64 + Sync, V: Fn(u32, u32) -> i64 + Sync, H: 
     Ok(true)
 }
 
-/// The energy of what the parts of a move left open, by the costs of its sites and pairs.
+/// The energy of what the parts of a move left open.
 fn build_rest<F: Fn(u32, u32) -> i64 + Sync, V: Fn(u32, u32) -> i64 + Sync>(
-    alloc: Global,
     problem: &Problem<F, V>,
     space: &mut Workspace,
     at: &[u8],
     change: Move,
 ) -> Result<(), AllocError>
-    requires valued { IsValuedMove F.Fn V.Fn problem.now at.now change
-        space.old.built.variables.choices.items }
-    requires near { HasListsOfMove problem.now.pairs change at.now space.old }
-    requires allowed { IsAllowedFrom F.Fn V.Fn problem.now at.now change }
+    requires read { IsReadMove F.Fn V.Fn problem.now at.now change space.old }
     ensures same { KeepsDecided space.old space.new }
     ensures kept { KeepsChoices space.old space.new }
     ensures form { OnOk result (IsOpenForm F.Fn V.Fn problem.now at.now change space.new) }
 {
+    let form = space
+        .deciding
+        .numbers
+        .form(&problem.pairs, &space.deciding.ends, at);
     if space.deciding.lists.listed {
-        let sites = OpenSites {
-            ends: &space.deciding.ends,
-            opened: &space.deciding.lists.opened,
-        };
-        return space.built.build_listed(alloc, problem, &sites, at, change);
+        space
+            .strips
+            .build_read(&form, &space.deciding.lists.opened, &mut space.built)?;
+        return Ok(());
     }
-    match space.built.build(alloc, problem, at, change) {
-        Ok(()) => Ok(()),
-        Err(_) => Err(AllocError),
+    space.strips.list_open(&space.built.variables.choices)?;
+    swap(&mut space.stage.opened, &mut space.strips.opened);
+    space
+        .strips
+        .build_read(&form, &space.stage.opened, &mut space.built)?;
+    Ok(())
+}
+
+/// How many open sites a move closes in at once: all, where the way to cut takes all that is open
+/// as one net.
+fn strip_size<H: How>(how: &H) -> usize
+    ensures { 0 < result }
+{
+    match how.strip_sites() {
+        0 => usize::MAX,
+        sites => sites,
     }
 }
 
@@ -259,16 +217,16 @@ fn build_decided<F: Fn(u32, u32) -> i64 + Sync, V: Fn(u32, u32) -> i64 + Sync, H
     ensures { IsPlainBuilding F.Fn V.Fn problem.now at.now change space.new result }
 {
     if close_apart(alloc, problem, space, at, change, how)? {
-        build_rest(alloc, problem, space, at, change)?;
+        build_rest(problem, space, at, change)?;
         return Ok(());
     }
     decide(alloc, problem, space, at, change)?;
-    let size = how.strip_sites();
-    if size > 0 && space.deciding.lists.count > size {
-        build_strips(problem, space, at, change, size)?;
+    let size = strip_size(how);
+    if space.deciding.lists.listed && space.deciding.lists.count <= size {
+        build_open(problem, space, at, change)?;
         return Ok(());
     }
-    build_open(alloc, problem, space, at, change)?;
+    build_strips(problem, space, at, change, size)?;
     Ok(())
 }
 

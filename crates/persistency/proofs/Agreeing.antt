@@ -4,7 +4,7 @@ use Rattle.std.proofs.lemmas.Int.{ints}
 use Rattle.move_energy.specs.declared.choice.Choice.{Choice}
 use Rattle.move_energy.specs.declared.choice.Choice.TheVariants.{Open, Zero, One}
 use Rattle.move_energy.specs.Choices.{bit_of, is_open}
-use Rattle.move_prices.specs.Assignments.{IsSubmodular, IsOver}
+use Rattle.move_energy.specs.Assignments.{IsSubmodular, IsOver}
 use Rattle.site_bounds.specs.Decisions.{Decision, AreForced, IsSmallestLeast}
 use Rattle.site_bounds.proofs.Putting.{forced_least}
 use Rattle.persistency.specs.Fixing.{with_choices, fixed_value, HasZeros, HasOnes}

@@ -19,16 +19,16 @@ use Rattle.move_energy.specs.Choices.{bit_of, choice_at, is_open}
 use Rattle.move_energy.specs.BySite.{AreNeighboursOf, degree, pair_of}
 use Rattle.move_energy.proofs.Beside.{site_sum}
 use Rattle.move_energy.specs.Weights.{weight_at, pair_surplus, AreWeights}
-use Rattle.move_prices.specs.Assignments.{set_bit, rise}
+use Rattle.move_energy.specs.Assignments.{set_bit, rise}
 use Rattle.site_bounds.specs.Decisions.{IsSmallestLeast}
-use Rattle.move_prices.specs.MoveValues.{move_value, data_rise, pair_rise}
+use Rattle.move_energy.specs.MoveValues.{move_value, data_rise, pair_rise}
 use Rattle.site_bounds.specs.Decided.{AreDecided}
 use Rattle.site_bounds.specs.Working.{TellsValue, ArePartlyDecided}
 use Rattle.site_bounds.specs.declared.bounds.Bounds.{Bounds}
-use Rattle.move_prices.proofs.Assignments.{set_at, set_other, set_same, value_same}
+use Rattle.move_energy.proofs.Assignments.{set_at, set_other, set_same, value_same}
 use Rattle.site_bounds.proofs.Putting.{passed_forced}
-use Rattle.move_prices.proofs.Rising.{move_falls, move_over, rise_over, rise_parts, pair_rise-first, pair_rise-second, pair_rise-none}
-use Rattle.move_prices.proofs.SiteSums.{test_true, test_false}
+use Rattle.move_energy.proofs.Rising.{move_falls, move_over, rise_over, rise_parts, pair_rise-first, pair_rise-second, pair_rise-none}
+use Rattle.move_energy.proofs.SiteSums.{test_true, test_false}
 use Rattle.persistency.specs.Fixing.{with_choices, fixed_value}
 use Rattle.persistency.specs.Agreeing.{Agree, TellsOne, or_else, choices_or}
 use Rattle.persistency.specs.Strips.{Strip, others_at, lower_value, upper_value, with_batches, AreBatches}

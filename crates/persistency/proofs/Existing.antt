@@ -6,9 +6,9 @@ use Rattle.std.proofs.lemmas.Bool.Decides.{nat_tests}
 use Rattle.move_energy.specs.declared.choice.Choice.{Choice}
 use Rattle.move_energy.specs.declared.choice.Choice.TheVariants.{Open}
 use Rattle.move_energy.specs.Choices.{bit_of, choice_of}
-use Rattle.move_prices.specs.Assignments.{IsSubmodular, IsOver}
+use Rattle.move_energy.specs.Assignments.{IsSubmodular, IsOver}
 use Rattle.site_bounds.specs.Decisions.{IsSmallestLeast}
-use Rattle.move_prices.proofs.Assignments.{value_same}
+use Rattle.move_energy.proofs.Assignments.{value_same}
 use Rattle.persistency.specs.Fixing.{with_choices}
 use Rattle.persistency.proofs.Lattice.{both, either, both_second, both_and_either}
 use Rattle.persistency.proofs.Fixing.{fixed_falls}

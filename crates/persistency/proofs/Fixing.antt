@@ -5,9 +5,9 @@ use Rattle.std.proofs.lemmas.Bool.{cases_eq}
 use Rattle.move_energy.specs.declared.choice.Choice.{Choice}
 use Rattle.move_energy.specs.declared.choice.Choice.TheVariants.{Open, Zero, One}
 use Rattle.move_energy.specs.Choices.{bit_of}
-use Rattle.move_prices.specs.Assignments.{set_bit, rise, OnesWithin, IsSubmodular, IsOver}
+use Rattle.move_energy.specs.Assignments.{set_bit, rise, OnesWithin, IsSubmodular, IsOver}
 use Rattle.site_bounds.specs.Decisions.{IsSmallestLeast}
-use Rattle.move_prices.proofs.Assignments.{set_at, set_other, value_same}
+use Rattle.move_energy.proofs.Assignments.{set_at, set_other, value_same}
 use Rattle.persistency.specs.Fixing.{with_choices, fixed_value, IsLeast, HasZeros, HasOnes, OnesLieWithin}
 use Rattle.persistency.proofs.Lattice.{both, either, both_second, both_and_either}
 

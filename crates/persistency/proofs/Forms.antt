@@ -17,7 +17,7 @@ use Rattle.move_energy.specs.declared.choice.Choice.{Choice}
 use Rattle.move_energy.specs.declared.choice.Choice.TheVariants.{Open, Zero, One}
 use Rattle.move_energy.specs.Choices.{bit_of, is_open, made_by, StandsFor}
 use Rattle.site_bounds.specs.Decisions.{IsSmallestLeast}
-use Rattle.move_prices.specs.MoveValues.{move_value}
+use Rattle.move_energy.specs.MoveValues.{move_value}
 use Rattle.persistency.specs.Fixing.{with_choices, fixed_value, IsLeast}
 use Rattle.persistency.specs.Agreeing.{or_else}
 use Rattle.persistency.specs.Strips.{others_at, lower_value, upper_value}

@@ -2,8 +2,8 @@
 use Rattle.std.proofs.Common.{◌≡◌, ℕ, zero, suc, ◌<◌, ◌≤◌, Bool, true, false, ℤ, ◌+ℤ◌, ◌≤ℤ◌, refl, sym, ap, ◌∙◌, inl, inr, arith, ◌&&◌, ◌||◌}
 use Rattle.std.proofs.lemmas.Int.{ints}
 use Rattle.std.proofs.lemmas.Bool.{cases_eq, cases_Bool}
-use Rattle.move_prices.specs.Assignments.{set_bit, OnesWithin, IsSubmodular, IsOver}
-use Rattle.move_prices.proofs.Assignments.{set_at, set_other, set_same, value_same}
+use Rattle.move_energy.specs.Assignments.{set_bit, OnesWithin, IsSubmodular, IsOver}
+use Rattle.move_energy.proofs.Assignments.{set_at, set_other, set_same, value_same}
 
 abbrev pub both : (ℕ → Bool) → (ℕ → Bool) → ℕ → Bool
 both x y k = x k && y k

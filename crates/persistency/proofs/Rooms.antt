@@ -13,7 +13,7 @@ use Rattle.label_energies.specs.Moves.{IsRegularPair, IsAllowed}
 use Rattle.move_energy.specs.BySite.{AreBySite, degree, pair_of}
 use Rattle.move_energy.specs.declared.choice.Choice.{Choice}
 use Rattle.move_energy.proofs.Parts.{pair_has}
-use Rattle.move_prices.proofs.Places.{meant_pairs, meant_beside}
+use Rattle.move_energy.proofs.Places.{meant_pairs, meant_beside}
 use Rattle.persistency.specs.Borders.{pair_border, border_at}
 use Rattle.persistency.proofs.Borders.{border_by_site}
 

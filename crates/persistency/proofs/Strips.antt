@@ -7,10 +7,10 @@ use Rattle.std.proofs.lemmas.List.Elements.{All-head, All-tail}
 use Rattle.move_energy.specs.declared.choice.Choice.{Choice}
 use Rattle.move_energy.specs.declared.choice.Choice.TheVariants.{Open, Zero, One}
 use Rattle.move_energy.specs.Choices.{bit_of, choice_of}
-use Rattle.move_prices.specs.Assignments.{set_bit, rise, IsSubmodular, IsOver}
+use Rattle.move_energy.specs.Assignments.{set_bit, rise, IsSubmodular, IsOver}
 use Rattle.site_bounds.specs.Decisions.{IsSmallestLeast}
-use Rattle.move_prices.proofs.Assignments.{set_at, set_other, value_same}
-use Rattle.move_prices.proofs.SiteSums.{test_true, test_false}
+use Rattle.move_energy.proofs.Assignments.{set_at, set_other, value_same}
+use Rattle.move_energy.proofs.SiteSums.{test_true, test_false}
 use Rattle.persistency.specs.Fixing.{with_choices, fixed_value, IsLeast, AreLeastZeros}
 use Rattle.persistency.specs.Agreeing.{Agree, IsAgreed, ChooseMore, TellsOne, with_one, or_else, choices_or}
 use Rattle.persistency.specs.Strips.{Strip, others_at, lower_value, upper_value, IsStripBounded, choice_of_bounds, told_by, with_strips, with_batches, AreBatches}

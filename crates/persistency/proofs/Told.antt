@@ -9,8 +9,8 @@ use Rattle.std.proofs.lemmas.Grind.{get_or_default_zero}
 use Rattle.move_energy.specs.declared.choice.Choice.{Choice}
 use Rattle.move_energy.specs.declared.choice.Choice.TheVariants.{Open, Zero, One}
 use Rattle.move_energy.specs.Choices.{choice_at}
-use Rattle.move_prices.specs.Assignments.{IsSubmodular, IsOver}
-use Rattle.move_prices.proofs.SiteSums.{test_true, test_false}
+use Rattle.move_energy.specs.Assignments.{IsSubmodular, IsOver}
+use Rattle.move_energy.proofs.SiteSums.{test_true, test_false}
 use Rattle.persistency.specs.Agreeing.{Agree, ChooseMore, or_else, choices_or}
 use Rattle.persistency.specs.Strips.{Strip, IsStripBounded, choice_of_bounds, told_by}
 use Rattle.persistency.specs.Telling.{IsStripListed}

@@ -5,7 +5,7 @@ use Rattle.std.specs.Prelude.{◌<ℤ◌}
 use Rattle.move_energy.specs.declared.choice.Choice.{Choice}
 use Rattle.move_energy.specs.declared.choice.Choice.TheVariants.{Open, Zero, One}
 use Rattle.move_energy.specs.Choices.{bit_of, choice_of}
-use Rattle.move_prices.specs.Assignments.{rise}
+use Rattle.move_energy.specs.Assignments.{rise}
 use Rattle.site_bounds.specs.Decisions.{Decision, with_decisions}
 use Rattle.persistency.specs.Fixing.{with_choices, AreLeastZeros, AreLeastOnes}
 

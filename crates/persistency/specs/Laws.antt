@@ -14,10 +14,10 @@ use Rattle.move_energy.specs.declared.choice.Choice.TheVariants.{Open, Zero, One
 use Rattle.move_energy.specs.Choices.{choice_at, StandsFor}
 use Rattle.move_energy.specs.BySite.{AreNeighboursOf, degree, pair_of}
 use Rattle.move_energy.specs.Weights.{weight_at, AreWeights}
-use Rattle.move_prices.specs.Assignments.{rise, IsSubmodular, IsOver}
+use Rattle.move_energy.specs.Assignments.{rise, IsSubmodular, IsOver}
 use Rattle.site_bounds.specs.Decisions.{Decision, AreForced}
 use Rattle.site_bounds.specs.Decisions.{IsSmallestLeast}
-use Rattle.move_prices.specs.MoveValues.{move_value}
+use Rattle.move_energy.specs.MoveValues.{move_value}
 use Rattle.site_bounds.specs.Decided.{AreDecided}
 use Rattle.site_bounds.specs.Working.{TellsValue, ArePartlyDecided}
 use Rattle.site_bounds.specs.declared.bounds.Bounds.{Bounds}

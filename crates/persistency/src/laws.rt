@@ -5,7 +5,7 @@
 ghost use Rattle.std.specs.Prelude.{ℕ, Bool, List, ℤ};
 ghost use Rattle.move_energy.specs.declared.choice.Choice.{Choice};
 ghost use Rattle.move_energy.specs.declared.choice.Choice.TheVariants.{Open};
-ghost use Rattle.move_prices.specs.Assignments.{IsSubmodular, IsOver};
+ghost use Rattle.move_energy.specs.Assignments.{IsSubmodular, IsOver};
 ghost use Rattle.site_bounds.specs.Decisions.{IsSmallestLeast};
 ghost use Rattle.persistency.specs.Fixing.{fixed_value};
 ghost use Rattle.persistency.specs.Agreeing.{Agree, AreOpened};

@@ -3,7 +3,7 @@ ghost use Rattle.std.specs.Prelude.{◌≡◌, ◌<◌, ◌≤◌, ℕ, ℤ, Boo
 ghost use Rattle.std.specs.List.{All};
 ghost use Rattle.move_energy.specs.Choices.{choice_at};
 ghost use Rattle.move_energy.specs.declared.choice.Choice.{Choice as AnyChoice};
-ghost use Rattle.move_prices.specs.Assignments.{IsSubmodular, IsOver};
+ghost use Rattle.move_energy.specs.Assignments.{IsSubmodular, IsOver};
 ghost use Rattle.persistency.specs.Agreeing.{Agree, ChooseMore, or_else as else_of, choices_or};
 ghost use Rattle.persistency.specs.Strips.{Strip, IsStripBounded, choice_of_bounds, told_by};
 ghost use Rattle.persistency.specs.Telling.{IsStripListed};

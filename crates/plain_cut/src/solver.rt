@@ -247,7 +247,7 @@ fn turn_to_given(sinks: &[u64], rooms: &mut [u64])
 
 /// What each arc carries: what its direction back can carry. `firsts` tells where each arc's other
 /// direction stands.
-fn carried_by(alloc: Global, rows: &Rows, firsts: &[u32]) -> Result<Vec<u64>, AllocError>
+fn carried_flows(alloc: Global, rows: &Rows, firsts: &[u32]) -> Result<Vec<u64>, AllocError>
     requires firsts { firsts.now ≡ firsts_of rows.now }
     requires first { (k : ℕ) → k < length firsts.now
         → first_at rows.now k < length rows.now.cells.items }
@@ -283,7 +283,7 @@ fn answer_of(
 {
     let side = least_side(alloc, outline, &work)?;
     let value = cut_capacity(net, side.as_slice());
-    let arc_flow = carried_by(alloc, &work.rows, firsts)?;
+    let arc_flow = carried_flows(alloc, &work.rows, firsts)?;
     let mut sink_flow = work.rooms;
     turn_to_given(net.sinks(), sink_flow.as_mut_slice());
     Ok(Solved {

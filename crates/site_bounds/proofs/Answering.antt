@@ -14,13 +14,13 @@ use Rattle.move_energy.specs.declared.choice.Choice.TheVariants.{Open}
 use Rattle.move_energy.specs.Choices.{bit_of, choice_at}
 use Rattle.move_energy.proofs.PairEnds.{Touches, touching_found}
 use Rattle.site_bounds.specs.declared.bounds.Bounds.{Bounds}
-use Rattle.move_prices.specs.Assignments.{set_bit, rise}
+use Rattle.move_energy.specs.Assignments.{set_bit, rise}
 use Rattle.site_bounds.specs.Decisions.{with_decisions}
-use Rattle.move_prices.specs.MoveValues.{move_value, data_rise, pair_rise}
-use Rattle.move_prices.specs.Ends.{AvoidsSite, HasNoneBefore}
+use Rattle.move_energy.specs.MoveValues.{move_value, data_rise, pair_rise}
+use Rattle.move_energy.specs.Ends.{AvoidsSite, HasNoneBefore}
 use Rattle.site_bounds.specs.Working.{bound_at, open_ends, IsSummed, IsMarked, IsAnswered, TellsValue, AreWaiting, AreWaitingBut, ArePartlyDecided}
-use Rattle.move_prices.proofs.Assignments.{set_at, set_other}
-use Rattle.move_prices.proofs.Rising.{pair_rise-none}
+use Rattle.move_energy.proofs.Assignments.{set_at, set_other}
+use Rattle.move_energy.proofs.Rising.{pair_rise-none}
 use Rattle.site_bounds.proofs.Seeing.{pair_rise-same}
 use Rattle.site_bounds.proofs.Spreading.{pair_in, rise_by_places, passes_of}
 use Rattle.site_bounds.proofs.Left.{left_less}

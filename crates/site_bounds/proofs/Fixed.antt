@@ -9,10 +9,10 @@ use Rattle.label_energies.specs.Moves.{label_after, labelling_made, pair_entry, 
 use Rattle.move_energy.specs.declared.choice.Choice.{Choice}
 use Rattle.move_energy.specs.declared.choice.Choice.TheVariants.{Open, Zero, One}
 use Rattle.move_energy.specs.Choices.{bit_of, choice_at, AreAllOpen}
-use Rattle.move_prices.specs.Assignments.{set_bit}
+use Rattle.move_energy.specs.Assignments.{set_bit}
 use Rattle.site_bounds.specs.Decisions.{Decision, with_decisions, Passes, HavePassed}
-use Rattle.move_prices.specs.MoveValues.{move_value}
-use Rattle.move_prices.proofs.Assignments.{set_at, set_other}
+use Rattle.move_energy.specs.MoveValues.{move_value}
+use Rattle.move_energy.proofs.Assignments.{set_at, set_other}
 
 -- both values of the site's variable make one label
 abbrev pub IsFixed : Move → ℕ → Type 0

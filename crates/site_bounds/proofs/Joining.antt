@@ -8,13 +8,13 @@ use Rattle.label_energies.specs.Moves.{IsAllowed}
 use Rattle.move_energy.specs.declared.choice.Choice.{Choice}
 use Rattle.move_energy.specs.declared.choice.Choice.TheVariants.{Open, Zero, One}
 use Rattle.move_energy.specs.Choices.{bit_of, choice_at}
-use Rattle.move_prices.specs.Assignments.{rise}
+use Rattle.move_energy.specs.Assignments.{rise}
 use Rattle.site_bounds.specs.Decisions.{with_decisions, Passes}
-use Rattle.move_prices.specs.MoveValues.{move_value}
-use Rattle.move_prices.specs.Ends.{decided_or}
+use Rattle.move_energy.specs.MoveValues.{move_value}
+use Rattle.move_energy.specs.Ends.{decided_or}
 use Rattle.site_bounds.specs.Parts.{ArePassedChoices}
-use Rattle.move_prices.proofs.Assignments.{set_at, set_other}
-use Rattle.move_prices.proofs.Rising.{rise_over, move_falls}
+use Rattle.move_energy.proofs.Assignments.{set_at, set_other}
+use Rattle.move_energy.proofs.Rising.{rise_over, move_falls}
 
 -- ---- choices
 

@@ -13,7 +13,7 @@ use Rattle.site_bounds.specs.declared.bounds.Bounds.{Bounds}
 use Rattle.site_bounds.specs.Decisions.{with_decisions}
 use Rattle.site_bounds.specs.Working.{bound_at, budget_of, IsWithinRange, IsLooking, IsMarked, AreWaiting, AreWaitingBut, ArePartlyDecided, CanDecide}
 use Rattle.site_bounds.proofs.Ranges.{range_wider, below_not, tells_same}
-use Rattle.move_prices.proofs.Places.{degree_most}
+use Rattle.move_energy.proofs.Places.{degree_most}
 
 -- the range while places are looked at
 pub range_step : (start place : ℕ) (first old new : Bounds) → start ≤ place → IsLooking 1 old new

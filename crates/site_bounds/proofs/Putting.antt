@@ -2,8 +2,8 @@
 use Rattle.std.proofs.Common.{◌≡◌, ◌⊎◌, ℕ, ◌<◌, Bool, true, false, List, [], ◌∷◌, ℤ, pos, ◌-ℤ◌, ◌≤ℤ◌, ◌<ℤ◌, refl, sym, ap, ◌∙◌, inl, inr, subst, arith}
 use Rattle.std.proofs.lemmas.Int.{ints}
 use Rattle.std.proofs.lemmas.Bool.{cases_eq, cases_Bool}
-use Rattle.move_prices.specs.Assignments.{set_bit, OnesWithin, IsSubmodular}
-use Rattle.move_prices.proofs.Assignments.{set_at, set_other, set_same, value_same}
+use Rattle.move_energy.specs.Assignments.{set_bit, OnesWithin, IsSubmodular}
+use Rattle.move_energy.proofs.Assignments.{set_at, set_other, set_same, value_same}
 use Rattle.site_bounds.specs.Decisions.{Decision, with_decisions, Passes, HavePassed, IsForced, AreForced, IsSmallestLeast}
 
 le_of : (y z : ℤ) → y ≡ z → y ≤ℤ z

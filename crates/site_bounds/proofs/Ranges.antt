@@ -10,7 +10,7 @@ use Rattle.sums.proofs.IntegerSumLemmas.{abs-add}
 use Rattle.move_energy.specs.declared.choice.Choice.TheVariants.{Open}
 use Rattle.move_energy.specs.Choices.{choice_at}
 use Rattle.site_bounds.specs.declared.bounds.Bounds.{Bounds}
-use Rattle.move_prices.proofs.SiteSums.{sum_passed}
+use Rattle.move_energy.proofs.SiteSums.{sum_passed}
 use Rattle.site_bounds.specs.Working.{bound_at, budget_of, CanDecide, IsSummed, IsWithinRange, AddsBounds, AreWaiting, AreWaitingBut, Shifts, least_shift, greatest_shift, CallsUp, IsMarked, IsLooking, greatest_total}
 
 -- ---- written bounds

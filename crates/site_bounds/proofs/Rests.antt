@@ -1,7 +1,7 @@
 -- What is left, and the whole.
 use Rattle.std.proofs.Common.{◌≡◌, ℕ, ◌<◌, Bool, List, ℤ, ◌+ℤ◌, ◌≤ℤ◌, sym, ap, ◌∙◌, inl, inr, arith}
 use Rattle.std.proofs.lemmas.Int.{ints}
-use Rattle.move_prices.specs.Assignments.{IsOver}
+use Rattle.move_energy.specs.Assignments.{IsOver}
 use Rattle.site_bounds.specs.Decisions.{Decision, with_decisions, AreForced, IsSmallestLeast, IsRest}
 use Rattle.site_bounds.proofs.Putting.{put-le, put_ones, cases_put}
 

@@ -9,50 +9,50 @@ use Rattle.label_energies.specs.Moves.{pair_entry}
 use Rattle.move_energy.specs.declared.choice.Choice.TheVariants.{Open}
 use Rattle.move_energy.specs.Choices.{choice_at}
 use Rattle.site_bounds.specs.declared.bounds.Bounds.{Bounds}
-use Rattle.move_prices.specs.Assignments.{set_bit}
-use Rattle.move_prices.specs.MoveValues.{pair_rise}
+use Rattle.move_energy.specs.Assignments.{set_bit}
+use Rattle.move_energy.specs.MoveValues.{pair_rise}
 use Rattle.move_energy.specs.Weights.{surplus_of, pair_table}
-use Rattle.move_prices.specs.Ends.{AreEnds}
+use Rattle.move_energy.specs.Ends.{AreEnds}
 use Rattle.site_bounds.specs.Working.{bound_at, Shifts, SeesPair, least_shift, greatest_shift}
-use Rattle.move_prices.proofs.Assignments.{set_at}
-use Rattle.move_prices.proofs.Rising.{pair_rise-first, pair_rise-second, pair_rise-none}
+use Rattle.move_energy.proofs.Assignments.{set_at}
+use Rattle.move_energy.proofs.Rising.{pair_rise-first, pair_rise-second, pair_rise-none}
 
 -- ---- seen with a value
 
 -- the change of a pair's rise at its other end, by the value of this one
 
-abbrev pub rises_by : Instance → Move → (ℕ → ℕ) → Pair → Bool → Bool → ℤ
-rises_by m move f pair true b = pos (pair_entry m move f pair b true) -ℤ pos (pair_entry m move f pair b false)
-rises_by m move f pair false b = pos (pair_entry m move f pair true b) -ℤ pos (pair_entry m move f pair false b)
+abbrev pub rises_beside : Instance → Move → (ℕ → ℕ) → Pair → Bool → Bool → ℤ
+rises_beside m move f pair true b = pos (pair_entry m move f pair b true) -ℤ pos (pair_entry m move f pair b false)
+rises_beside m move f pair false b = pos (pair_entry m move f pair true b) -ℤ pos (pair_entry m move f pair false b)
 
 least_by_first : (m : Instance) (move : Move) (f : ℕ → ℕ) (pair : Pair) (value : Bool)
-    → rises_by m move f pair true value -ℤ rises_by m move f pair true true ≡ least_shift value (surplus_of (pair_table m move f pair))
+    → rises_beside m move f pair true value -ℤ rises_beside m move f pair true true ≡ least_shift value (surplus_of (pair_table m move f pair))
 least_by_first m move f pair true = omega (arith, ints)
 least_by_first m move f pair false = omega (arith, ints)
 
 least_by_second : (m : Instance) (move : Move) (f : ℕ → ℕ) (pair : Pair) (value : Bool)
-    → rises_by m move f pair false value -ℤ rises_by m move f pair false true ≡ least_shift value (surplus_of (pair_table m move f pair))
+    → rises_beside m move f pair false value -ℤ rises_beside m move f pair false true ≡ least_shift value (surplus_of (pair_table m move f pair))
 least_by_second m move f pair true = omega (arith, ints)
 least_by_second m move f pair false = omega (arith, ints)
 
 greatest_by_first : (m : Instance) (move : Move) (f : ℕ → ℕ) (pair : Pair) (value : Bool)
-    → rises_by m move f pair true value -ℤ rises_by m move f pair true false ≡ greatest_shift value (surplus_of (pair_table m move f pair))
+    → rises_beside m move f pair true value -ℤ rises_beside m move f pair true false ≡ greatest_shift value (surplus_of (pair_table m move f pair))
 greatest_by_first m move f pair true = omega (arith, ints)
 greatest_by_first m move f pair false = omega (arith, ints)
 
 greatest_by_second : (m : Instance) (move : Move) (f : ℕ → ℕ) (pair : Pair) (value : Bool)
-    → rises_by m move f pair false value -ℤ rises_by m move f pair false false ≡ greatest_shift value (surplus_of (pair_table m move f pair))
+    → rises_beside m move f pair false value -ℤ rises_beside m move f pair false false ≡ greatest_shift value (surplus_of (pair_table m move f pair))
 greatest_by_second m move f pair true = omega (arith, ints)
 greatest_by_second m move f pair false = omega (arith, ints)
 
 -- the rise of the second end, where the first has a value; and of the first, where the second has
 pub second_by : (m : Instance) (move : Move) (f : ℕ → ℕ) (u : ℕ) (x : ℕ → Bool) (pair : Pair) (b : Bool) → pair.first ≢ u → pair.second ≡ u → x pair.first ≡ b
-    → pair_rise m move f u x pair ≡ rises_by m move f pair true b
-second_by m move f u x pair b apart here is = pair_rise-second m move f u x pair apart here ∙ ap (rises_by m move f pair true) is
+    → pair_rise m move f u x pair ≡ rises_beside m move f pair true b
+second_by m move f u x pair b apart here is = pair_rise-second m move f u x pair apart here ∙ ap (rises_beside m move f pair true) is
 
 pub first_by : (m : Instance) (move : Move) (f : ℕ → ℕ) (u : ℕ) (x : ℕ → Bool) (pair : Pair) (b : Bool) → pair.first ≡ u → pair.second ≢ u → x pair.second ≡ b
-    → pair_rise m move f u x pair ≡ rises_by m move f pair false b
-first_by m move f u x pair b here apart is = pair_rise-first m move f u x pair here apart ∙ ap (rises_by m move f pair false) is
+    → pair_rise m move f u x pair ≡ rises_beside m move f pair false b
+first_by m move f u x pair b here apart is = pair_rise-first m move f u x pair here apart ∙ ap (rises_beside m move f pair false) is
 
 difference_of : (a b c d e : ℤ) → a ≡ c → b ≡ d → c -ℤ d ≡ e → a -ℤ b ≡ e
 difference_of a b c d e h k l = omega (arith, ints, h, k, l)
@@ -61,8 +61,8 @@ difference_of a b c d e h k l = omega (arith, ints, h, k, l)
 pub seen_change : (m : Instance) (move : Move) (f : ℕ → ℕ) (pair : Pair) (site other : ℕ) (value before : Bool) (x : ℕ → Bool)
     → AreEnds pair site other → site ≢ other → x site ≡ before
     → (shift : Bool → ℤ → ℤ)
-    → ((v : Bool) → rises_by m move f pair true v -ℤ rises_by m move f pair true before ≡ shift v (surplus_of (pair_table m move f pair)))
-    → ((v : Bool) → rises_by m move f pair false v -ℤ rises_by m move f pair false before ≡ shift v (surplus_of (pair_table m move f pair)))
+    → ((v : Bool) → rises_beside m move f pair true v -ℤ rises_beside m move f pair true before ≡ shift v (surplus_of (pair_table m move f pair)))
+    → ((v : Bool) → rises_beside m move f pair false v -ℤ rises_beside m move f pair false before ≡ shift v (surplus_of (pair_table m move f pair)))
     → pair_rise m move f other (set_bit x site value) pair -ℤ pair_rise m move f other x pair ≡ shift value (surplus_of (pair_table m move f pair))
 seen_change m move f pair site other value before x (inl ends) apart is shift by_first by_second =
     let off : pair.first ≢ other = λ same. apart (sym ends.0 ∙ same) in

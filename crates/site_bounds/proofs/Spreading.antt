@@ -17,12 +17,12 @@ use Rattle.move_energy.specs.declared.choice.Choice.{Choice}
 use Rattle.move_energy.specs.declared.choice.Choice.TheVariants.{Open}
 use Rattle.move_energy.specs.Choices.{bit_of, choice_at}
 use Rattle.site_bounds.specs.declared.bounds.Bounds.{Bounds}
-use Rattle.move_prices.specs.Assignments.{set_bit, rise}
+use Rattle.move_energy.specs.Assignments.{set_bit, rise}
 use Rattle.site_bounds.specs.Decisions.{Decision, with_decisions, Passes}
-use Rattle.move_prices.specs.MoveValues.{move_value, data_rise, pair_rise}
+use Rattle.move_energy.specs.MoveValues.{move_value, data_rise, pair_rise}
 use Rattle.site_bounds.specs.Working.{bound_at, TellsValue, IsMarked, ArePartlyDecided, SeesPair}
-use Rattle.move_prices.proofs.Assignments.{set_at, set_other}
-use Rattle.move_prices.proofs.Rising.{rise_parts}
+use Rattle.move_energy.proofs.Assignments.{set_at, set_other}
+use Rattle.move_energy.proofs.Rising.{rise_parts}
 use Rattle.site_bounds.proofs.Seeing.{pair_rise-same}
 use Rattle.move_energy.proofs.PairEnds.{Touches, end_touches, touching_found, apart_pairs}
 

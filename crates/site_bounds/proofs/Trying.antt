@@ -10,9 +10,9 @@ use Rattle.label_energies.specs.Energies.{Instance, IsInstance}
 use Rattle.move_energy.specs.declared.choice.Choice.{Choice}
 use Rattle.move_energy.specs.declared.choice.Choice.TheVariants.{Open, Zero, One}
 use Rattle.move_energy.specs.Choices.{bit_of, choice_at}
-use Rattle.move_prices.specs.Assignments.{rise}
-use Rattle.move_prices.specs.MoveValues.{move_value}
-use Rattle.move_prices.specs.Ends.{decided_or}
+use Rattle.move_energy.specs.Assignments.{rise}
+use Rattle.move_energy.specs.MoveValues.{move_value}
+use Rattle.move_energy.specs.Ends.{decided_or}
 use Rattle.site_bounds.specs.Parts.{ArePassedChoices}
 use Rattle.site_bounds.proofs.Joining.{choices_same, choices_more, passes_low, passes_high}
 

@@ -7,15 +7,15 @@ use Rattle.move_energy.specs.declared.choice.Choice.TheVariants.{Open}
 use Rattle.move_energy.specs.Weights.{AreWeights}
 use Rattle.std.proofs.lemmas.Bool.{cases_eq}
 use Rattle.move_energy.specs.Choices.{bit_of, choice_at}
-use Rattle.move_prices.proofs.Assignments.{set_at, set_other}
-use Rattle.move_prices.proofs.SiteSums.{test_true, test_false}
-use Rattle.move_prices.proofs.Rising.{rise_over, move_over}
+use Rattle.move_energy.proofs.Assignments.{set_at, set_other}
+use Rattle.move_energy.proofs.SiteSums.{test_true, test_false}
+use Rattle.move_energy.proofs.Rising.{rise_over, move_over}
 use Rattle.site_bounds.proofs.Ranges.{AreAdded, least_before, least_at}
 use Rattle.site_bounds.specs.declared.bounds.Bounds.{Bounds}
-use Rattle.move_prices.specs.Assignments.{set_bit, rise}
+use Rattle.move_energy.specs.Assignments.{set_bit, rise}
 use Rattle.site_bounds.specs.Decisions.{with_decisions, Passes}
-use Rattle.move_prices.specs.MoveValues.{move_value}
-use Rattle.move_prices.specs.Ends.{decided_or}
+use Rattle.move_energy.specs.MoveValues.{move_value}
+use Rattle.move_energy.specs.Ends.{decided_or}
 use Rattle.site_bounds.specs.Working.{bound_at, CanDecide, AreUndecided, AreUnsummed, ArePartlyDecided}
 use Rattle.site_bounds.specs.Parts.{ArePassedChoices, site_weight}
 use Rattle.site_bounds.specs.Decided.{AreDecided}

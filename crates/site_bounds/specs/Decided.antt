@@ -13,7 +13,7 @@ use Rattle.move_energy.specs.Problems.{IsPrepareRefusal}
 use Rattle.site_bounds.specs.declared.sites.Deciding.{Deciding}
 use Rattle.site_bounds.specs.Decisions.{Decision, with_decisions, Passes, HavePassed}
 use Rattle.site_bounds.specs.Listed.{AreListed}
-use Rattle.move_prices.specs.MoveValues.{move_value}
+use Rattle.move_energy.specs.MoveValues.{move_value}
 use Rattle.site_bounds.specs.Working.{AreOfSites}
 
 -- the sites were decided one after another, each by the test, and none that is open passes it

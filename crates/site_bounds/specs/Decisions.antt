@@ -3,7 +3,7 @@
 -- and Hammer 2002).
 use Rattle.std.specs.Prelude.{◌≡◌, ℕ, ◌<◌, Bool, true, false, List, [], ◌∷◌, ℤ, pos}
 use Rattle.std.specs.Prelude.{◌+ℤ◌, ◌≤ℤ◌, ◌<ℤ◌}
-use Rattle.move_prices.specs.Assignments.{set_bit, rise}
+use Rattle.move_energy.specs.Assignments.{set_bit, rise}
 
 -- a variable and its value
 pub record Decision : Type 0 where

@@ -9,7 +9,7 @@ use Rattle.move_energy.specs.BySite.{AreBySite}
 use Rattle.move_energy.specs.Choices.{choice_at}
 use Rattle.move_energy.specs.Limits.{surplus_limit}
 use Rattle.move_energy.specs.Weights.{AreWeights}
-use Rattle.move_prices.specs.Ends.{rise_limit}
+use Rattle.move_energy.specs.Ends.{rise_limit}
 use Rattle.site_forms.specs.declared.numbers.SiteForm.{SiteForm}
 use Rattle.site_forms.specs.Lists.{AreFormLists, IsReadOf}
 use Rattle.site_forms.specs.Numbers.{WhereRead}

@@ -6,9 +6,9 @@ use Rattle.label_energies.specs.Energies.{Instance, IsInstance}
 use Rattle.label_energies.specs.Moves.{IsAllowed}
 use Rattle.site_bounds.specs.Decisions.{Decision, with_decisions, Passes, HavePassed, IsForced}
 use Rattle.site_bounds.specs.Decisions.{AreForced}
-use Rattle.move_prices.specs.Assignments.{IsSubmodular, IsOver}
+use Rattle.move_energy.specs.Assignments.{IsSubmodular, IsOver}
 use Rattle.site_bounds.specs.Decisions.{IsSmallestLeast, IsRest}
-use Rattle.move_prices.specs.MoveValues.{move_value}
+use Rattle.move_energy.specs.MoveValues.{move_value}
 
 -- what passes the test is forced, in a function whose rises fall
 abbrev pub PassingIsForced : Type 0

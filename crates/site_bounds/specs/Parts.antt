@@ -8,7 +8,7 @@ use Rattle.move_energy.specs.declared.choice.Choice.TheVariants.{Open}
 use Rattle.move_energy.specs.Choices.{bit_of, choice_at}
 use Rattle.move_energy.specs.Weights.{open_energy}
 use Rattle.site_bounds.specs.Decisions.{Decision, with_decisions, Passes, HavePassed}
-use Rattle.move_prices.specs.MoveValues.{move_value}
+use Rattle.move_energy.specs.MoveValues.{move_value}
 use Rattle.site_forms.specs.declared.numbers.SiteForm.{SiteForm}
 use Rattle.site_forms.specs.Numbers.{IsFormOf, WhereRead}
 

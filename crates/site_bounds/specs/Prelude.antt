@@ -25,8 +25,8 @@ pub use Rattle.move_energy.specs.Choices.{Changes, bit_of, choice_at, AreAllOpen
 pub use Rattle.move_energy.specs.Limits.{surplus_limit, weights_limit}
 pub use Rattle.move_energy.specs.Problems.{IsPrepareRefusal}
 pub use Rattle.move_energy.specs.declared.choice.Choice.TheVariants.{Open, One, Zero}
-pub use Rattle.move_prices.specs.Assignments.{rise}
-pub use Rattle.move_prices.specs.Ends.{decided_or}
-pub use Rattle.move_prices.specs.MoveValues.{move_value}
+pub use Rattle.move_energy.specs.Assignments.{rise}
+pub use Rattle.move_energy.specs.Ends.{decided_or}
+pub use Rattle.move_energy.specs.MoveValues.{move_value}
 pub use Rattle.site_forms.specs.Lists.{AreFormLists, IsReadOf, KnowsCosts, HasNoCosts}
 pub use Rattle.site_forms.specs.Numbers.{IsFormOf, IsOverPairs, WhereRead}

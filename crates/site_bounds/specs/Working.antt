@@ -13,8 +13,8 @@ use Rattle.move_energy.specs.declared.choice.Choice.TheVariants.{Open}
 use Rattle.move_energy.specs.BySite.{degree}
 use Rattle.move_energy.specs.Choices.{bit_of, choice_at, is_open, AreAllOpen}
 use Rattle.move_energy.specs.Limits.{surplus_limit}
-use Rattle.move_prices.specs.Assignments.{set_bit, rise}
-use Rattle.move_prices.specs.MoveValues.{move_value, pair_rise}
+use Rattle.move_energy.specs.Assignments.{set_bit, rise}
+use Rattle.move_energy.specs.MoveValues.{move_value, pair_rise}
 use Rattle.site_bounds.specs.Limits.{bound_limit}
 use Rattle.site_bounds.specs.Decisions.{Decision, with_decisions, HavePassed}
 use Rattle.site_bounds.specs.declared.bounds.Bounds.{Bounds}

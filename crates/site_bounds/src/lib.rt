@@ -12,7 +12,7 @@ mod waiting_sites;
 
 pub use bounds::Bounds;
 pub use lists::Lists;
-pub use move_prices::EndRises;
+pub use move_energy::EndRises;
 pub use site_forms::{FormLists, SiteForm, pair_saving};
 pub use sites::Deciding;
 pub use sweeps::{read_weight, sweep};

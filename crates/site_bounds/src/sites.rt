@@ -10,8 +10,7 @@ use crate::{Bounds, Lists};
 use cost_store::Problem;
 use label_energies::Move;
 use label_field::Pairs;
-use move_energy::{BuildError, Neighbours, group_pairs};
-use move_prices::test_terms;
+use move_energy::{BuildError, Neighbours, group_pairs, test_terms};
 use site_forms::FormLists;
 use std::alloc::{AllocError, Global};
 

@@ -8,8 +8,7 @@ ghost use Rattle.site_bounds.specs.Prelude.{Passes, move_value, IsFormOf, ArePas
 ghost use Rattle.site_bounds.specs.Prelude.{site_weight, WhereRead, KeepsKnown, KeepsPassed};
 ghost use Rattle.site_bounds.specs.Prelude.{IsSwept};
 
-use move_energy::Choice;
-use move_prices::Rises;
+use move_energy::{Choice, Rises};
 use site_forms::{SiteForm, read_rises};
 
 /// What an open site weighs by what is known: by how much the energy rises where the site turns to
@@ -28,7 +27,7 @@ pub fn read_weight(form: &SiteForm, known: &[Choice], site: u32) -> i64
 
 /// What the rises of a site tell of its value: 0 where turning never lowers the energy, 1 where it
 /// always does, else nothing.
-fn told_by(rises: Rises) -> Choice
+fn choice_told(rises: Rises) -> Choice
     ensures zero { result ≡ Zero → pos 0 ≤ℤ rises.least }
     ensures one { result ≡ One → rises.greatest <ℤ pos 0 }
     ensures none { result ≡ Open → (rises.least <ℤ pos 0) × (pos 0 ≤ℤ rises.greatest) }
@@ -57,7 +56,7 @@ fn try_site(form: &SiteForm, known: &mut [Choice], site: u32)
 {
     if known[site as usize].is_open() {
         let rises = read_rises(form, known, site);
-        known[site as usize] = told_by(rises);
+        known[site as usize] = choice_told(rises);
     }
 }
 

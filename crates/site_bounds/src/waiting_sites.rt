@@ -12,8 +12,7 @@ ghost use Rattle.site_bounds.specs.Prelude.{greatest_shift as greatest_shift_of,
 
 use crate::Bounds;
 use label_field::Pair;
-use move_energy::{Choice, pair_beside};
-use move_prices::other_end;
+use move_energy::{Choice, other_end, pair_beside};
 use site_forms::{SiteForm, pair_saving};
 use std::alloc::AllocError;
 

@@ -3,8 +3,8 @@ use Rattle.std.proofs.Common.{◌≡◌, ◌⊎◌, ℕ, ◌+◌, ◌<◌, ◌�
 use Rattle.std.specs.Prelude.{slice_set}
 use Rattle.std.proofs.lemmas.Bool.{cases_eq}
 use Rattle.std.proofs.lemmas.List.{get_or-set_same, get_or-set_other}
-use Rattle.move_prices.specs.declared.table.EndRises.{EndRises}
-use Rattle.move_prices.specs.Rising.{entry_place}
+use Rattle.move_energy.specs.declared.rises.EndRises.{EndRises}
+use Rattle.move_energy.specs.Rising.{entry_place}
 use Rattle.site_forms.specs.Fields.{rises_in}
 
 pub place_within : (first : Bool) (own other : ℕ) → own < 64 → other < 64 → entry_place first own other < 8192

@@ -1,3 +1,5 @@
+pub mod Told
+pub mod Moving
 pub mod Sums
 pub mod Places
 pub mod Entries

@@ -8,7 +8,7 @@ use Rattle.move_energy.specs.declared.by_site.Neighbours.{Neighbours}
 use Rattle.move_energy.specs.BySite.{AreBySite, neighbours_start, neighbour_at, is_first, weight_at, pair_from}
 use Rattle.move_energy.proofs.Parts.{starts_rise, starts_within, beside_has}
 use Rattle.move_energy.proofs.PairEnds.{ends_len}
-use Rattle.move_prices.specs.Ends.{AvoidsSite}
+use Rattle.move_energy.specs.Ends.{AvoidsSite}
 use Rattle.site_forms.specs.Fields.{ArePlaces}
 use Rattle.site_forms.specs.declared.numbers.SiteForm.{SiteForm}
 use Rattle.site_forms.specs.Numbers.{IsSitePlace}

@@ -2,8 +2,8 @@
 use Rattle.std.proofs.Common.{◌≡◌, ℕ, suc, ◌+◌, ◌-◌, ◌*◌, ◌<◌, ◌≤◌, Bool, ℤ, pos, ◌+ℤ◌, unsigned_abs, FitsSigned, w32, w64, to_z, of_z, lit<, sym, ap, ◌∙◌, subst, arith}
 use Rattle.std.proofs.lemmas.Int.{ints, to_z-of_z}
 use Rattle.sums.proofs.IntegerSumLemmas.{within_fits, abs-add}
-use Rattle.move_prices.specs.Assignments.{rise}
-use Rattle.rise_forms.specs.Forms.{Form, TellsRises, places, place_rise, rise_below}
+use Rattle.move_energy.specs.Assignments.{rise}
+use Rattle.site_forms.specs.Forms.{Form, TellsRises, places, place_rise, rise_below}
 
 next_place : (start place : ℕ) → start ≤ place → suc (place - start) ≡ place + 1 - start
 next_place start place l = omega (arith, l)

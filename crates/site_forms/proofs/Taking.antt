@@ -6,7 +6,7 @@ use Rattle.label_energies.specs.Moves.{IsMoveOf, label_after}
 use Rattle.cost_store.specs.declared.problem.Problem.{Problem}
 use Rattle.cost_store.specs.Posed.{Closure, IsMeant, IsAsked}
 use Rattle.move_energy.proofs.Values.{label_below}
-use Rattle.move_prices.specs.MoveValues.{data_rise}
+use Rattle.move_energy.specs.MoveValues.{data_rise}
 use Rattle.site_forms.specs.declared.smooth_costs.AskedCosts.{AskedCosts}
 use Rattle.site_forms.specs.Fields.{own_at, IsMadeLabel, AreReadOf}
 use Rattle.site_forms.specs.Lists.{was_asked, AreAskedCosts, AreMadeAsked}

@@ -5,12 +5,12 @@ use Rattle.label_energies.specs.declared.change.Move.{Move}
 use Rattle.label_energies.specs.Energies.{Instance, labelling}
 use Rattle.label_energies.specs.Moves.{label_after}
 use Rattle.move_energy.specs.BySite.{neighbours_start, neighbour_at, is_first, weight_at, degree}
-use Rattle.move_prices.specs.MoveValues.{move_value}
-use Rattle.move_prices.specs.Rising.{label_rise}
-use Rattle.move_prices.specs.Ends.{end_rise}
-use Rattle.rise_forms.specs.Forms.{place_rise, TellsRises}
-use Rattle.move_forms.specs.MoveForms.{move_form, end_rise_at}
-use Rattle.move_forms.proofs.Moving as moving
+use Rattle.move_energy.specs.MoveValues.{move_value}
+use Rattle.move_energy.specs.Rising.{label_rise}
+use Rattle.move_energy.specs.Ends.{end_rise}
+use Rattle.site_forms.specs.Forms.{place_rise, TellsRises}
+use Rattle.site_forms.specs.MoveForms.{move_form, end_rise_at}
+use Rattle.site_forms.proofs.Moving as moving
 use Rattle.site_forms.specs.Fields.{table_cost, AreReadOf, IsSiteLabel, IsMadeLabel}
 use Rattle.site_forms.specs.declared.numbers.SiteForm.{SiteForm}
 use Rattle.site_forms.specs.Numbers.{form_of, label_by, end_rise_by, rise_at_place, IsFormOf}

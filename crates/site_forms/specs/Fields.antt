@@ -9,9 +9,9 @@ use Rattle.label_energies.specs.Moves.{label_after}
 use Rattle.cost_store.specs.Limits.{site_cost_limit}
 use Rattle.move_energy.specs.declared.by_site.Neighbours.{Neighbours}
 use Rattle.move_energy.specs.BySite.{neighbours_start, neighbour_at, weight_at}
-use Rattle.move_prices.specs.MoveValues.{data_rise}
-use Rattle.move_prices.specs.declared.table.EndRises.{EndRises}
-use Rattle.move_prices.specs.Rising.{entry_place, table_labels}
+use Rattle.move_energy.specs.MoveValues.{data_rise}
+use Rattle.move_energy.specs.declared.rises.EndRises.{EndRises}
+use Rattle.move_energy.specs.Rising.{entry_place, table_labels}
 
 -- what a pair of weight 1 costs by a table of costs, whose first end, or its second, has the one
 -- label and its other end the other

@@ -1,3 +1,5 @@
+pub mod Forms
+pub mod MoveForms
 pub mod Fields
 pub mod Numbers
 pub mod Lists

@@ -8,9 +8,9 @@ use Rattle.label_energies.specs.Moves.{IsAllowed}
 use Rattle.cost_store.specs.Limits.{pair_cost_limit}
 use Rattle.move_energy.specs.BySite.{AreBySite, AreNeighboursOf, neighbours_start, neighbour_at}
 use Rattle.move_energy.specs.BySite.{is_first, weight_at}
-use Rattle.move_prices.specs.MoveValues.{move_value}
-use Rattle.move_prices.specs.declared.table.EndRises.{EndRises}
-use Rattle.rise_forms.specs.Forms.{Form, TellsRises}
+use Rattle.move_energy.specs.MoveValues.{move_value}
+use Rattle.move_energy.specs.declared.rises.EndRises.{EndRises}
+use Rattle.site_forms.specs.Forms.{Form, TellsRises}
 use Rattle.site_forms.specs.Fields.{table_cost, own_at, AreReadOf}
 use Rattle.site_forms.specs.declared.numbers.SiteForm.{SiteForm}
 

@@ -1,6 +1,10 @@
-//! The form of a move as it is read: of each site its own rise and its label, and two rises at each
-//! of its places, by a table of smooth costs. The costs of a move are read once into these lists,
-//! and what comes after asks no closure, so any thread can read it.
+//! A move as a form: of each site its own rise, and at each of its places two rises of the pair
+//! that leads to the neighbour there (a quadratic function, told without what it stands for: Boros
+//! and Hammer 2002, section 4). The form tells the energies of the labellings that the move makes,
+//! but for a fixed number, so what comes after it needs no label and no cost.
+//!
+//! The costs of a move are read once into lists, and what comes after asks no closure, so any
+//! thread can read it.
 #![tactic(auto)]
 
 pub mod laws;

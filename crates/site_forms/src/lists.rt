@@ -8,8 +8,8 @@ ghost use Rattle.label_energies.specs.declared.change.Move.{Move as AnyMove};
 ghost use Rattle.cost_store.specs.Limits.{site_cost_limit};
 ghost use Rattle.cost_store.specs.Posed.{IsPosed, IsAsked, WhereMeant};
 ghost use Rattle.move_energy.specs.BySite.{AreBySite};
-ghost use Rattle.move_prices.specs.MoveValues.{data_rise as data_rise_of};
-ghost use Rattle.move_prices.specs.Rising.{table_labels, entry_place};
+ghost use Rattle.move_energy.specs.MoveValues.{data_rise as data_rise_of};
+ghost use Rattle.move_energy.specs.Rising.{table_labels, entry_place};
 ghost use Rattle.site_forms.specs.Fields.{own_at, unit_rise, AreUnitRises, rises_in};
 ghost use Rattle.site_forms.specs.Fields.{unit_rises_at};
 ghost use Rattle.site_forms.specs.Lists.{AreFormLists, IsReadOf, KnowsCosts, HasNoCosts};
@@ -22,8 +22,7 @@ use crate::smooth_costs::AskedCosts;
 use cost_store::Problem;
 use label_energies::Move;
 use label_field::{LABEL_LIMIT, Pairs};
-use move_energy::Neighbours;
-use move_prices::{EndRises, data_rise};
+use move_energy::{EndRises, Neighbours, data_rise};
 use std::alloc::{AllocError, Global};
 
 /// The most labels of which a move has a table of rises.

@@ -2,8 +2,7 @@
 ghost use Rattle.site_forms.specs.Fields.{AreReadable};
 
 use label_field::Pairs;
-use move_energy::Neighbours;
-use move_prices::EndRises;
+use move_energy::{EndRises, Neighbours};
 
 /// What a move is read of: the pairs and by site the neighbours, each site's own rise and its
 /// label, what each label becomes where the site's value is 0 and where it is 1, and what two

@@ -3,12 +3,12 @@ ghost use Rattle.std.specs.Prelude.{◌≡◌, ◌<◌, ◌≤◌, ◌*◌, leng
 ghost use Rattle.std.specs.Prelude.{pos, ◌-ℤ◌, ◌*ℤ◌};
 ghost use Rattle.label_field.specs.Limits.{weight_limit};
 ghost use Rattle.cost_store.specs.Limits.{pair_cost_limit};
-ghost use Rattle.move_prices.specs.Rising.{table_labels, entry_place};
+ghost use Rattle.move_energy.specs.Rising.{table_labels, entry_place};
 ghost use Rattle.site_forms.specs.Fields.{table_cost, unit_rises_at, IsSiteLabel};
 ghost use Rattle.site_forms.specs.Numbers.{AreEndRises, label_by};
 
 use crate::numbers::SiteForm;
-use move_prices::EndRises;
+use move_energy::EndRises;
 
 /// What a pair of weight 1 costs whose first end, or its second, has the one label, and its other
 /// end the other.

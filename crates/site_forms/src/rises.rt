@@ -7,15 +7,14 @@ ghost use Rattle.move_energy.specs.declared.choice.Choice.TheVariants.{Open};
 ghost use Rattle.move_energy.specs.BySite.{degree, neighbours_start, neighbour_at, pair_beside};
 ghost use Rattle.move_energy.specs.BySite.{is_first as is_first_of, weight_at as weight_of};
 ghost use Rattle.move_energy.specs.Choices.{choice_at};
-ghost use Rattle.move_prices.specs.Assignments.{rise};
-ghost use Rattle.move_prices.specs.Ends.{decided_or, AvoidsSite, HasNoneBefore, rise_limit};
-ghost use Rattle.rise_forms.specs.Forms.{place_rise};
+ghost use Rattle.move_energy.specs.Assignments.{rise};
+ghost use Rattle.move_energy.specs.Ends.{decided_or, AvoidsSite, HasNoneBefore, rise_limit};
+ghost use Rattle.site_forms.specs.Forms.{place_rise};
 ghost use Rattle.site_forms.specs.Numbers.{form_of, Tells, IsSitePlace, AreEndRises};
 
 use crate::numbers::SiteForm;
 use crate::reading::end_rises;
-use move_energy::{Choice, is_first, weight_at};
-use move_prices::{EndRises, Rises, SiteRises, rises_by};
+use move_energy::{Choice, EndRises, Rises, SiteRises, is_first, rises_beside, weight_at};
 
 /// By how much the value rises where a site turns, as far as the neighbour at a place goes: while
 /// the neighbour is at 0, and while it is at 1.
@@ -50,7 +49,7 @@ fn rises_at(form: &SiteForm, known: &[Choice], site: u32, place: u32) -> Rises
         × (unsigned_abs result.greatest ≤ pair_cost_limit) }
 {
     let head = form.ends.heads[place as usize];
-    rises_by(place_rises(form, site, place), known[head as usize])
+    rises_beside(place_rises(form, site, place), known[head as usize])
 }
 
 /// Where the places of a site begin; of the number of sites, where those of the last end.

@@ -8,7 +8,7 @@ ghost use Rattle.site_forms.specs.Numbers.{WhereRead};
 use crate::numbers::SiteForm;
 use crate::reading::end_rises;
 use label_field::Pair;
-use move_prices::surplus_by;
+use move_energy::saving_of;
 
 /// The surplus of a pair: by how much its costs at 01 and 10 are together above those at 00 and 11.
 #[inline]
@@ -21,5 +21,5 @@ pub fn pair_saving(form: &SiteForm, pair: Pair) -> i64
     let own = form.at[pair.first as usize];
     let other = form.at[pair.second as usize];
     let rises = end_rises(form, true, pair.weight, own, other);
-    surplus_by(rises)
+    saving_of(rises)
 }

@@ -22,8 +22,8 @@ use Rattle.move_energy.specs.Weights.{pair_surplus}
 use Rattle.move_energy.proofs.Numbers.{rank_below}
 use Rattle.move_energy.proofs.Opened.{opened_has, opened_place, opened_count, true_open, open_true}
 use Rattle.site_bounds.specs.Decisions.{IsSmallestLeast}
-use Rattle.move_prices.specs.MoveValues.{move_value}
-use Rattle.move_prices.proofs.Rising.{move_falls, move_over}
+use Rattle.move_energy.specs.MoveValues.{move_value}
+use Rattle.move_energy.proofs.Rising.{move_falls, move_over}
 use Rattle.persistency.specs.Fixing.{fixed_value}
 use Rattle.persistency.specs.Agreeing.{Agree, or_else, choices_or}
 use Rattle.persistency.specs.Strips.{Strip, others_at, IsStripBounded, told_by}

@@ -15,12 +15,12 @@ use Rattle.move_energy.specs.declared.choice.Choice.TheVariants.{Open, Zero, One
 use Rattle.move_energy.specs.Choices.{choice_at}
 use Rattle.site_forms.specs.declared.numbers.SiteForm.{SiteForm}
 use Rattle.site_bounds.specs.Decisions.{Passes}
-use Rattle.move_prices.specs.MoveValues.{move_value}
+use Rattle.move_energy.specs.MoveValues.{move_value}
 use Rattle.site_bounds.specs.Parts.{ArePassedChoices}
 use Rattle.site_forms.specs.Numbers.{IsFormOf}
 use Rattle.strips.specs.Parts.{ArePartCodes, IsPartAnswer, OfParts, FillsPart, IsPartJoined, DecidesTold, EndsWithStrip, PartsEndWithStrips, known_or, coded_at, part_start}
 use Rattle.site_bounds.proofs.Putting.{passed_forced}
-use Rattle.move_prices.proofs.Rising.{move_falls}
+use Rattle.move_energy.proofs.Rising.{move_falls}
 use Rattle.persistency.specs.Agreeing.{Agree}
 use Rattle.persistency.proofs.Agreeing.{each_agreed, forced_agree}
 

@@ -14,7 +14,7 @@ use Rattle.move_energy.specs.declared.choice.Choice.{Choice}
 use Rattle.move_energy.specs.declared.choice.Choice.TheVariants.{Zero}
 use Rattle.move_energy.specs.Choices.{choice_at, open_at, AreOpenSites}
 use Rattle.site_bounds.specs.Decisions.{IsSmallestLeast}
-use Rattle.move_prices.specs.MoveValues.{move_value}
+use Rattle.move_energy.specs.MoveValues.{move_value}
 use Rattle.persistency.specs.Agreeing.{Agree, or_else, choices_or}
 use Rattle.persistency.specs.Borders.{is_inside, range_of}
 use Rattle.persistency.specs.Strips.{Strip, told_by}

@@ -4,7 +4,7 @@ use Rattle.std.specs.List.{flat_map}
 use Rattle.std.proofs.lemmas.List.Sums.{sum_by-take-le}
 use Rattle.move_energy.specs.BySite.{degree}
 use Rattle.move_energy.proofs.Opened.{opened_few}
-use Rattle.move_prices.proofs.Places.{degree_most}
+use Rattle.move_energy.proofs.Places.{degree_most}
 use Rattle.strips.specs.declared.material.Material.{Material}
 use Rattle.strips.specs.declared.material.StripSites.{StripSites}
 use Rattle.strips.specs.Building.{CanBuild, AreStripSites, view_by}

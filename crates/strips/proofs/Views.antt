@@ -12,7 +12,7 @@ use Rattle.move_energy.specs.declared.choice.Choice.{Choice}
 use Rattle.move_energy.specs.declared.choice.Choice.TheVariants.{Open, Zero, One}
 use Rattle.move_energy.specs.Choices.{bit_of, choice_at, is_open, openness, open_at, open_rank}
 use Rattle.move_energy.specs.Weights.{AreWeights}
-use Rattle.move_prices.proofs.Rising.{move_over}
+use Rattle.move_energy.proofs.Rising.{move_over}
 use Rattle.persistency.specs.Fixing.{with_choices}
 use Rattle.persistency.specs.Agreeing.{or_else, choices_or}
 use Rattle.persistency.specs.Borders.{range_of, is_inside}

@@ -15,8 +15,8 @@ use Rattle.move_energy.specs.Choices.{choice_at, choice_of, bit_of, is_open, ope
 use Rattle.move_energy.proofs.Numbers.{rank_below}
 use Rattle.move_energy.proofs.Opened.{opened_place, opened_count, cases_open}
 use Rattle.site_bounds.specs.Decisions.{IsSmallestLeast}
-use Rattle.move_prices.specs.MoveValues.{move_value}
-use Rattle.move_prices.proofs.Rising.{move_falls, move_over}
+use Rattle.move_energy.specs.MoveValues.{move_value}
+use Rattle.move_energy.proofs.Rising.{move_falls, move_over}
 use Rattle.persistency.specs.Fixing.{fixed_value, AreLeastZeros}
 use Rattle.persistency.specs.Agreeing.{or_else}
 use Rattle.persistency.specs.Strips.{others_at, lower_value}

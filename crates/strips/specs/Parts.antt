@@ -9,7 +9,7 @@ use Rattle.move_energy.specs.declared.choice.Choice.{Choice}
 use Rattle.move_energy.specs.declared.choice.Choice.TheVariants.{Open, Zero, One}
 use Rattle.move_energy.specs.Choices.{choice_at}
 use Rattle.site_bounds.specs.Decisions.{Passes}
-use Rattle.move_prices.specs.MoveValues.{move_value}
+use Rattle.move_energy.specs.MoveValues.{move_value}
 use Rattle.site_forms.specs.declared.numbers.SiteForm.{SiteForm}
 use Rattle.site_bounds.specs.Parts.{ArePassedChoices}
 use Rattle.site_forms.specs.Numbers.{IsFormOf, WhereRead}

@@ -11,7 +11,7 @@ use Rattle.label_energies.specs.Energies.{Instance}
 use Rattle.plain_cut.specs.declared.both.BothSides.{BothSides}
 use Rattle.move_energy.specs.declared.choice.Choice.{Choice}
 use Rattle.move_energy.specs.Choices.{choice_at}
-use Rattle.move_prices.specs.MoveValues.{move_value}
+use Rattle.move_energy.specs.MoveValues.{move_value}
 
 -- the same form, each weight less by the border of its node
 pub record IsLessBorder (borders : List ℕ) (form less : Quadratic) : Type 0 where

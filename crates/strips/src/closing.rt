@@ -12,7 +12,7 @@ ghost use Rattle.move_energy.specs.declared.choice.Choice.{Choice as AnyChoice};
 ghost use Rattle.move_energy.specs.Limits.{weights_limit};
 ghost use Rattle.move_energy.specs.Problems.{Stands};
 ghost use Rattle.move_energy.specs.Weights.{AreWeights};
-ghost use Rattle.move_prices.specs.MoveValues.{move_value};
+ghost use Rattle.move_energy.specs.MoveValues.{move_value};
 ghost use Rattle.site_forms.specs.Numbers.{IsOverPairs, WhereRead};
 ghost use Rattle.persistency.specs.Agreeing.{Agree};
 ghost use Rattle.persistency.specs.Fixing.{AreLeastZeros};

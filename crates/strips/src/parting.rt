@@ -8,7 +8,7 @@ ghost use Rattle.compile_cut.specs.Weights.{weights_size};
 ghost use Rattle.move_energy.specs.declared.choice.Choice.{Choice as AnyChoice};
 ghost use Rattle.move_energy.specs.Choices.{choice_at, AreOpenSites};
 ghost use Rattle.move_energy.specs.Limits.{weights_limit};
-ghost use Rattle.move_prices.specs.MoveValues.{move_value};
+ghost use Rattle.move_energy.specs.MoveValues.{move_value};
 ghost use Rattle.site_bounds.specs.Parts.{ArePassedChoices, site_weight};
 ghost use Rattle.site_forms.specs.Numbers.{IsOverPairs, WhereRead};
 ghost use Rattle.persistency.specs.Agreeing.{Agree};

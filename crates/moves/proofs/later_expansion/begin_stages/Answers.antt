@@ -4,7 +4,11 @@ use Rattle.label_energies.specs.Energies.{labelling}
 use Rattle.move_energy.specs.declared.choice.Choice.TheVariants.{Zero}
 use Rattle.move_energy.specs.Choices.{choice_at}
 use Rattle.cost_store.proofs.Meaning.{pairs_meant}
-use Rattle.move_prices.specs.MoveValues.{move_value}
+use Rattle.move_energy.specs.MoveValues.{move_value}
+use Rattle.move_energy.specs.BySite.{AreBySite}
+use Rattle.site_forms.specs.Lists.{AreFormLists, IsReadOf, KnowsCosts}
+use Rattle.site_bounds.specs.declared.sites.Deciding.{Deciding}
+use Rattle.one_move.specs.Building.{HasNumbersOf}
 use Rattle.near_changes.specs.Changes.{made_of}
 use Rattle.persistency.specs.Fixing.{AreLeastZeros}
 use Rattle.near_changes.specs.Fresh.{AreFresh}
@@ -46,3 +50,48 @@ returns-clause-zeros g c = λ m meant.
     (AreLeastZeros m.sites (move_value m (Expand a) (labelling at)) (choice_at choices)) c.open_first.result
     (λ zeros. first_zeros m a at choices (pairs_meant _ _ _ m c.requires.asked.posed meant)
     (λ p l is. (zeros p (omega (arith, l, c.requires.asked.asked.sites, meant.sites_are))).0 is)) c.open_first.ensures.zeros
+
+pub returns-then-branch-clause-numbers : goal.returns-then-branch-clause-numbers
+returns-then-branch-clause-numbers g c =
+    let a = c.args in
+    let same = c.open_apart.ensures.same.decided.1 in
+    let L : Deciding → Type 0 = λ d. AreFormLists a.at.now d.numbers in
+    record {
+      sites = c.requires.asked.asked.sites;
+      allowed = λ m meant. c.requires.allowed m meant;
+      lists = subst L (sym same) c.in_ok-read.ensures.lists;
+      read = λ m meant. (let R : Deciding → Type 0 = λ d. IsReadOf m (Expand a.alpha) a.at.now d.numbers in subst R (sym same) (c.in_ok-read.ensures.read m meant));
+    }
+
+pub returns-clause-numbers : goal.returns-clause-numbers
+returns-clause-numbers g c =
+    let a = c.args in
+    let same = c.open_apart.ensures.same.decided.1 in
+    let L : Deciding → Type 0 = λ d. AreFormLists a.at.now d.numbers in
+    on_ok (HasNumbersOf g.F.Fn g.V.Fn a.problem.now a.at.now (Expand a.alpha) c.open_apart.new.space) c.open_first.result record {
+      sites = c.requires.asked.asked.sites;
+      allowed = λ m meant. c.requires.allowed m meant;
+      lists = subst L (sym same) c.in_ok-read.ensures.lists;
+      read = λ m meant. (let R : Deciding → Type 0 = λ d. IsReadOf m (Expand a.alpha) a.at.now d.numbers in subst R (sym same) (c.in_ok-read.ensures.read m meant));
+    }
+
+pub returns-then-branch-clause-of_problem : goal.returns-then-branch-clause-of_problem
+returns-then-branch-clause-of_problem g c =
+    let same = c.open_apart.ensures.same.decided in
+    let E : Deciding → Type 0 = λ d. AreBySite c.args.problem.now.pairs d.ends in
+    let C : Deciding → Type 0 = λ d. KnowsCosts g.F.Fn g.V.Fn c.args.problem.now d.numbers in
+    ((λ grouped. subst E (sym same.1) (c.group.ensures.of_problem.0 (sym same.0 ∙ grouped))), subst C (sym same.1) c.read.ensures.known)
+
+pub returns-clause-of_problem : goal.returns-clause-of_problem
+returns-clause-of_problem g c =
+    let same = c.open_apart.ensures.same.decided in
+    let E : Deciding → Type 0 = λ d. AreBySite c.args.problem.now.pairs d.ends in
+    let C : Deciding → Type 0 = λ d. KnowsCosts g.F.Fn g.V.Fn c.args.problem.now d.numbers in
+    ((λ grouped. subst E (sym same.1) (c.group.ensures.of_problem.0 (sym same.0 ∙ grouped))), subst C (sym same.1) c.read.ensures.known)
+
+pub returns-in_err-open_apart-clause-of_problem : goal.returns-in_err-open_apart-clause-of_problem
+returns-in_err-open_apart-clause-of_problem g c =
+    let same = c.open_apart.ensures.same.decided in
+    let E : Deciding → Type 0 = λ d. AreBySite c.args.problem.now.pairs d.ends in
+    let C : Deciding → Type 0 = λ d. KnowsCosts g.F.Fn g.V.Fn c.args.problem.now d.numbers in
+    ((λ grouped. subst E (sym same.1) (c.group.ensures.of_problem.0 (sym same.0 ∙ grouped))), subst C (sym same.1) c.read.ensures.known)

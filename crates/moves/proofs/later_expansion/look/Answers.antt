@@ -1,18 +1,12 @@
-use Rattle.std.proofs.Common.{◌∙◌, List, Bool, refl, sym, subst, arith}
+use Rattle.std.proofs.Common.{List, Bool, sym, subst}
 use Rattle.label_energies.specs.Energies.{labelling}
 use Rattle.near_changes.specs.Changes.{changed_after}
 use Rattle.near_changes.specs.Fresh.{AreFresh}
 use Rattle.near_changes.specs.Looking.{is_marked}
 use Rattle.one_move.proofs.OfProblem.{still_of_problem}
-use Rattle.cost_store.proofs.Meaning.{pairs_meant, metric_meant}
-use Rattle.moves.proofs.Stages.{metric_allowed}
+use Rattle.one_move.proofs.Forms.{still_numbers}
+use Rattle.label_energies.specs.declared.change.Move.TheVariants.{Expand}
 use Rattle.moves.proofs.later_expansion.look.Goals as goal
-
-pub make_stage-requires-clause-allowed : goal.make_stage-requires-clause-allowed
-make_stage-requires-clause-allowed g c = λ κs lives m meant.
-    metric_allowed m c.args.alpha c.args.problem.now.data_cost.labels c.args.at.now c.args.at.now (pairs_meant _ _ _ m c.requires.asked.posed meant)
-    (metric_meant _ _ _ m c.requires.asked.posed meant c.requires.metric) (omega (arith, c.requires.asked.asked.move_of, meant.labels_are)) (sym meant.labels_are)
-    (c.requires.asked.asked.sites ∙ sym meant.sites_are) refl c.requires.asked.asked.labels
 
 pub loop-stage-preserved : goal.loop-stage-preserved
 loop-stage-preserved g c =
@@ -21,6 +15,7 @@ loop-stage-preserved g c =
     let before = c.loop-stage.invariant in
     record {
       of_problem = still_of_problem _ _ a.problem.now c.loop-stage.space c.make_stage.new.space stage.same before.of_problem;
+      numbers = still_numbers _ _ a.problem.now a.at.now (Expand a.alpha) c.loop-stage.space c.make_stage.new.space stage.same before.numbers;
       ready = stage.open c.in-Open.is;
       fresh = λ m meant.
           let F : List Bool → Type 0 = λ flags. AreFresh m a.alpha (labelling a.at.now) (changed_after a.changes.now a.alpha) (is_marked flags) in

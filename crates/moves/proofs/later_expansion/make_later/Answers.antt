@@ -5,7 +5,7 @@ use Rattle.label_energies.specs.declared.change.Move.TheVariants.{Expand}
 use Rattle.label_energies.specs.Energies.{labelling}
 use Rattle.cost_store.proofs.Meaning.{pairs_meant, metric_meant}
 use Rattle.site_bounds.specs.Decisions.{IsSmallestLeast}
-use Rattle.move_prices.specs.MoveValues.{move_value}
+use Rattle.move_energy.specs.MoveValues.{move_value}
 use Rattle.near_changes.specs.Changes.{changed_after}
 use Rattle.near_changes.specs.Fresh.{WasExpanded}
 use Rattle.near_changes.specs.Looking.{is_marked, AreTaking}
@@ -83,3 +83,12 @@ look-requires-clause-asked g c = λ κs lives.
       few = omega (arith, c.keeps.ensures.sizes.2, u.fits.labels);
       of_problem = u.of_problem;
     }
+
+pub look-requires-clause-allowed : goal.look-requires-clause-allowed
+look-requires-clause-allowed g c = λ κs lives m meant.
+    let u = c.requires.under_way in
+    let at = c.as_slice.result.now in
+    let sizes = c.can_look.ensures.sizes c.if-not-can_look.false in
+    metric_allowed m c.args.alpha c.args.labelling.now.labels at at (pairs_meant _ _ _ m u.posed meant)
+    (metric_meant _ _ _ m u.posed meant (c.can_look.ensures.metric c.if-not-can_look.false)) (omega (arith, sizes.1, u.fits.labels, meant.labels_are))
+    (u.fits.labels ∙ sym meant.labels_are) (ap (λ (xs : List ℕ). length xs) c.as_slice.ensures.value ∙ u.fits.sites ∙ sym meant.sites_are) refl c.as_slice.ensures.below

@@ -1,10 +1,10 @@
-use Rattle.std.proofs.Common.{◌≡◌, List, Bool, false, sym, subst, arith}
+use Rattle.std.proofs.Common.{◌≡◌, List, ℕ, Bool, false, sym, subst, arith}
 use Rattle.label_energies.specs.declared.change.Move.TheVariants.{Expand}
 use Rattle.label_energies.specs.Energies.{labelling}
 use Rattle.move_energy.specs.declared.choice.Choice.{Choice}
 use Rattle.move_energy.specs.Choices.{choice_at, value_of}
-use Rattle.cost_store.proofs.Meaning.{pairs_meant}
-use Rattle.move_prices.specs.MoveValues.{move_value}
+use Rattle.strips.specs.Looking.{IsStageLeast}
+use Rattle.move_energy.specs.MoveValues.{move_value}
 use Rattle.persistency.specs.Fixing.{AreLeastZeros}
 use Rattle.near_changes.specs.Looking.{is_marked, IsClosedIn}
 use Rattle.moves.proofs.Stages.{closed_ends, next_zeros}
@@ -16,12 +16,16 @@ returns-in-Ok-clause-closed g c = λ m meant is changed was fresh zeros.
     let at = c.args.at.now in
     let pairs = c.args.problem.now.pairs in
     let choices = c.cut_stage.new.built.variables.choices.items in
+    let numbers = c.requires.numbers in
+    let form = c.form-form.ensures.of m (Expand a) meant.sites_are meant.pairs_are (numbers.allowed m meant) (numbers.read m meant) in
+    let L : List ℕ → Type 0 = λ f. IsStageLeast m (Expand a) (labelling f) choices c.in_ok-bits.bits.items in
+    let least = subst L c.form-form.ensures.at (c.in_ok-bits.ensures.least m (Expand a) form) in
     let taken = is_marked c.end_stage.new.space.stage.taken.items in
     let marks = is_marked c.args.space.now.stage.fresh.items in
     let C : List Bool → Type 0 = λ bits. IsClosedIn pairs (value_of choices bits) (choice_at choices) taken marks in
     let Z : List Choice → Type 0 = λ cs. AreLeastZeros m.sites (move_value m (Expand a) (labelling at)) (choice_at cs) in
-    closed_ends m a at pairs choices c.in_ok-bits.bits.items taken marks changed (pairs_meant _ _ _ m c.requires.posed meant) meant.sites_are meant.pairs_are
-    (c.requires.allowed m meant) (c.in_ok-bits.ensures.least m meant) (subst C c.deref-2.ensures.value (c.in-Ok.ensures.closed is)) was fresh
+    closed_ends m a at pairs choices c.in_ok-bits.bits.items taken marks changed form.instance meant.sites_are meant.pairs_are
+    (c.requires.numbers.allowed m meant) least (subst C c.deref-2.ensures.value (c.in-Ok.ensures.closed is)) was fresh
     (subst Z (sym c.in_ok-bits.ensures.kept) zeros)
 
 pub returns-in-Ok-clause-zeros : goal.returns-in-Ok-clause-zeros
@@ -29,8 +33,12 @@ returns-in-Ok-clause-zeros g c = λ m meant is zeros.
     let a = c.args.alpha in
     let at = c.args.at.now in
     let choices = c.cut_stage.new.built.variables.choices.items in
+    let numbers = c.requires.numbers in
+    let form = c.form-form.ensures.of m (Expand a) meant.sites_are meant.pairs_are (numbers.allowed m meant) (numbers.read m meant) in
+    let L : List ℕ → Type 0 = λ f. IsStageLeast m (Expand a) (labelling f) choices c.in_ok-bits.bits.items in
+    let least = subst L c.form-form.ensures.at (c.in_ok-bits.ensures.least m (Expand a) form) in
     let Z : List Choice → Type 0 = λ cs. AreLeastZeros m.sites (move_value m (Expand a) (labelling at)) (choice_at cs) in
-    next_zeros m a at choices c.end_stage.new.space.built.variables.choices.items c.in_ok-bits.bits.items (pairs_meant _ _ _ m c.requires.posed meant)
-    (c.requires.allowed m meant) (c.in_ok-bits.ensures.least m meant)
+    next_zeros m a at choices c.end_stage.new.space.built.variables.choices.items c.in_ok-bits.bits.items form.instance
+    (c.requires.numbers.allowed m meant) least
     (λ p l zero. subst (λ (bits : List Bool). value_of choices bits p ≡ false) c.deref-2.ensures.value (c.in-Ok.ensures.zeros is p (omega (arith, l, meant.sites_are)) zero))
     (subst Z (sym c.in_ok-bits.ensures.kept) zeros)

@@ -6,7 +6,7 @@ use Rattle.move_energy.specs.Choices.{choice_at}
 use Rattle.move_energy.specs.Limits.{weights_limit}
 use Rattle.move_energy.specs.Problems.{Stands}
 use Rattle.move_energy.specs.Weights.{AreWeights}
-use Rattle.move_prices.specs.MoveValues.{move_value}
+use Rattle.move_energy.specs.MoveValues.{move_value}
 use Rattle.persistency.specs.Agreeing.{Agree}
 use Rattle.one_move.proofs.Forms.{read_meant}
 use Rattle.one_move.proofs.building.build_strips.Goals as goal
@@ -20,7 +20,7 @@ close_in-requires-clause-begins g c =
     let S : List ℤ → Type 0 = λ ws. weights_size ws ≤ weights_limit in
     record {
       over = c.form-form.ensures.over;
-      starts = ap (λ (xs : List Choice). length xs) start ∙ c.requires.weighed.count ∙ count;
+      starts = ap (λ (xs : List Choice). length xs) start ∙ c.requires.weighed.read.count ∙ count;
       weighed = ap (λ (ws : List ℤ). length ws) weights ∙ c.requires.weighed.sized.0 ∙ count;
       size = subst S (sym weights) c.requires.weighed.sized.1;
     }
@@ -35,7 +35,7 @@ returns-then-space-clause-form g c =
       bounded = built.bounded;
       few = built.few;
       stands = read_meant _ _ a.problem.now a.at.now a.change a.space.now.deciding.numbers c.form-form.result (λ m f. Stands m a.change f c.close_in.new.built)
-          c.requires.allowed c.requires.weighed.read form.at form.of
+          c.requires.weighed.read.numbers.allowed c.requires.weighed.read.numbers.read form.at form.of
           (λ m meant is.
           let F : List ℕ → Type 0 = λ f. AreWeights m a.change (labelling f) (choice_at c.deref.result.now) c.deref-2.result.now in
           let C : List Choice → Type 0 = λ cs. AreWeights m a.change (labelling a.at.now) (choice_at cs) c.deref-2.result.now in
@@ -52,7 +52,7 @@ returns-then-space-clause-agree g c =
     let start = c.deref.ensures.value ∙ ap (λ (v : _). v.items) c.swap.ensures.x_after in
     read_meant _ _ a.problem.now a.at.now a.change a.space.now.deciding.numbers c.form-form.result
     (λ m f. Agree m.sites (move_value m a.change (labelling f)) (choice_at old) → Agree m.sites (move_value m a.change (labelling f)) (choice_at new))
-    c.requires.allowed c.requires.weighed.read form.at form.of
+    c.requires.weighed.read.numbers.allowed c.requires.weighed.read.numbers.read form.at form.of
     (λ m meant is agree.
     let F : List ℕ → Type 0 = λ f. AreWeights m a.change (labelling f) (choice_at c.deref.result.now) c.deref-2.result.now in
     let C : List Choice → Type 0 = λ cs. AreWeights m a.change (labelling a.at.now) (choice_at cs) c.deref-2.result.now in
@@ -71,7 +71,7 @@ returns-else-space-clause-form g c =
       bounded = built.bounded;
       few = built.few;
       stands = read_meant _ _ a.problem.now a.at.now a.change a.space.now.deciding.numbers c.form-form.result (λ m f. Stands m a.change f c.close_in.new.built)
-          c.requires.allowed c.requires.weighed.read form.at form.of
+          c.requires.weighed.read.numbers.allowed c.requires.weighed.read.numbers.read form.at form.of
           (λ m meant is.
           let F : List ℕ → Type 0 = λ f. AreWeights m a.change (labelling f) (choice_at c.deref.result.now) c.deref-2.result.now in
           let C : List Choice → Type 0 = λ cs. AreWeights m a.change (labelling a.at.now) (choice_at cs) c.deref-2.result.now in
@@ -88,7 +88,7 @@ returns-else-space-clause-agree g c =
     let start = c.deref.ensures.value ∙ ap (λ (v : _). v.items) c.swap.ensures.x_after in
     read_meant _ _ a.problem.now a.at.now a.change a.space.now.deciding.numbers c.form-form.result
     (λ m f. Agree m.sites (move_value m a.change (labelling f)) (choice_at old) → Agree m.sites (move_value m a.change (labelling f)) (choice_at new))
-    c.requires.allowed c.requires.weighed.read form.at form.of
+    c.requires.weighed.read.numbers.allowed c.requires.weighed.read.numbers.read form.at form.of
     (λ m meant is agree.
     let F : List ℕ → Type 0 = λ f. AreWeights m a.change (labelling f) (choice_at c.deref.result.now) c.deref-2.result.now in
     let C : List Choice → Type 0 = λ cs. AreWeights m a.change (labelling a.at.now) (choice_at cs) c.deref-2.result.now in

@@ -30,17 +30,21 @@ returns-clause-weighed g c =
     let now = ap (λ (v : _). v.items) c.swap.ensures.y_after in
     let L : List Choice → Type 0 = λ choices. AreListed a.change (labelling a.at.now) choices c.decide.new.self.lists in
     record {
-      posed = c.requires.asked.posed;
-      asked = c.requires.asked.asked;
-      of_problem = ((λ grouped. ends), c.decide.ensures.costs);
-      count = ap (λ (xs : List Choice). length xs) now ∙ known.sized.choices;
-      near = record { by_site = ends; lists = subst L (sym now) known.listed };
+      read = record {
+        numbers = record {
+          sites = c.requires.asked.asked.sites;
+          allowed = λ m meant. (c.in_ok-decide.ensures.decided m meant).0;
+          lists = c.in_ok-decide.ensures.known.lists;
+          read = λ m meant. c.in_ok-decide.ensures.known.read m meant;
+        };
+        of_problem = ((λ grouped. ends), c.decide.ensures.costs);
+        count = ap (λ (xs : List Choice). length xs) now ∙ known.sized.choices;
+        near = record { by_site = ends; lists = subst L (sym now) known.listed };
+      };
       sized = (known.sized.greatest, known.small);
       weights = λ m meant.
           let W : List Choice → Type 0 = λ choices. AreWeights m a.change (labelling a.at.now) (choice_at choices) c.decide.new.self.bounds.greatest.items in
           subst W (sym now) (c.in_ok-decide.ensures.known.weights m meant);
-      lists = c.in_ok-decide.ensures.known.lists;
-      read = λ m meant. c.in_ok-decide.ensures.known.read m meant;
     }
 
 pub decide-requires-clause-asked : goal.decide-requires-clause-asked

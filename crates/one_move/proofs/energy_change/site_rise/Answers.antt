@@ -1,5 +1,5 @@
 use Rattle.std.proofs.Common.{pos, ap, ◌∙◌}
-use Rattle.move_prices.proofs.Numbers.{difference_is}
+use Rattle.move_energy.proofs.RiseNumbers.{difference_is}
 use Rattle.one_move.proofs.energy_change.site_rise.Goals as goal
 
 pub returns-clause-rise : goal.returns-clause-rise

@@ -1,6 +1,6 @@
 use Rattle.site_bounds.proofs.Putting.{passed_forced}
-use Rattle.move_prices.proofs.Rising.{move_falls, move_over}
-use Rattle.move_prices.specs.MoveValues.{move_value}
+use Rattle.move_energy.proofs.Rising.{move_falls, move_over}
+use Rattle.move_energy.specs.MoveValues.{move_value}
 use Rattle.site_bounds.proofs.laws.move_is_submodular.Goals as goal
 
 pub returns : goal.returns

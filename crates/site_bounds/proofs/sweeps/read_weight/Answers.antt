@@ -1,9 +1,9 @@
 use Rattle.std.proofs.Common.{◌+◌, ◌≤◌, ◌∙◌, arith}
 use Rattle.label_energies.specs.Energies.{labelling}
 use Rattle.move_energy.specs.BySite.{degree}
-use Rattle.move_prices.specs.MoveValues.{move_value}
+use Rattle.move_energy.specs.MoveValues.{move_value}
 use Rattle.site_forms.proofs.Telling.{form_tells}
-use Rattle.move_prices.proofs.SiteSums.{sum_passed}
+use Rattle.move_energy.proofs.SiteSums.{sum_passed}
 use Rattle.site_bounds.proofs.Whole.{weight_is}
 use Rattle.site_bounds.proofs.sweeps.read_weight.Goals as goal
 

@@ -3,7 +3,7 @@ use Rattle.std.proofs.lemmas.Bool.{cases_eq}
 use Rattle.label_energies.specs.Energies.{labelling}
 use Rattle.move_energy.specs.Choices.{choice_at}
 use Rattle.site_bounds.specs.Decisions.{Passes}
-use Rattle.move_prices.specs.MoveValues.{move_value}
+use Rattle.move_energy.specs.MoveValues.{move_value}
 use Rattle.site_bounds.specs.Parts.{IsSwept}
 use Rattle.site_bounds.proofs.Joining.{passes_still}
 use Rattle.site_bounds.proofs.sweeps.sweep_up.Goals as goal

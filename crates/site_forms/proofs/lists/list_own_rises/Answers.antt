@@ -1,6 +1,6 @@
 use Rattle.std.proofs.Common.{◌≡◌, ◌≤◌, ℕ, ℤ, ◌∙◌, pos, unsigned_abs, ap, arith}
 use Rattle.label_energies.specs.Energies.{labelling}
-use Rattle.move_prices.specs.MoveValues.{data_rise}
+use Rattle.move_energy.specs.MoveValues.{data_rise}
 use Rattle.site_forms.proofs.Listing.{longer, pushed}
 use Rattle.site_forms.proofs.Sums.{small_passed}
 use Rattle.site_forms.proofs.lists.list_own_rises.Goals as goal

@@ -1,7 +1,7 @@
 use Rattle.std.proofs.Common.{◌≡◌, ◌≤◌, ◌<◌, ℕ, length, unsigned_abs}
 use Rattle.label_energies.specs.Energies.{Instance, labelling}
 use Rattle.cost_store.specs.Posed.{IsMeant}
-use Rattle.move_prices.specs.MoveValues.{data_rise}
+use Rattle.move_energy.specs.MoveValues.{data_rise}
 use Rattle.site_forms.specs.Fields.{own_at}
 use Rattle.site_forms.proofs.lists.list_own_rises.Given as goal
 

@@ -1,5 +1,5 @@
 use Rattle.std.proofs.Common.{◌<◌, ℕ, Bool, arith}
-use Rattle.move_prices.specs.declared.table.EndRises.{EndRises}
+use Rattle.move_energy.specs.declared.rises.EndRises.{EndRises}
 use Rattle.site_forms.specs.Fields.{AreUnitRises}
 use Rattle.site_forms.proofs.Filling.{rows_more}
 use Rattle.site_forms.proofs.lists.write_rises.Goals as goal

@@ -1,5 +1,5 @@
 use Rattle.std.proofs.Common.{◌≡◌, ◌⊎◌, ◌<◌, ◌≤◌, ℕ}
-use Rattle.move_prices.specs.Rising.{entry_place}
+use Rattle.move_energy.specs.Rising.{entry_place}
 use Rattle.site_forms.specs.Fields.{AreUnitRises, rises_in, unit_rises_at}
 use Rattle.site_forms.proofs.lists.write_row.Given as goal
 

@@ -1,5 +1,5 @@
 use Rattle.std.proofs.Common.{refl, ap, ◌∙◌}
-use Rattle.move_prices.specs.declared.table.EndRises.{EndRises}
+use Rattle.move_energy.specs.declared.rises.EndRises.{EndRises}
 use Rattle.site_forms.proofs.Places.{times_is}
 use Rattle.site_forms.proofs.Entries.{small_cost, few_label}
 use Rattle.site_forms.proofs.reading.end_rises.Goals as goal

@@ -1,7 +1,7 @@
 use Rattle.std.proofs.Common.{◌≡◌, ℕ, ◌≤◌, ◌-◌, ◌+◌, w64, to_z, true, false, sym, subst, inl, inr, arith}
 use Rattle.std.proofs.lemmas.Bool.{cases_eq}
 use Rattle.move_energy.specs.BySite.{pair_beside}
-use Rattle.move_prices.specs.Ends.{decided_or, AvoidsSite}
+use Rattle.move_energy.specs.Ends.{decided_or, AvoidsSite}
 use Rattle.site_forms.proofs.Sums.{first_rise, next_rise, last_rise, own_passed, added_is, sum_fits, range_more}
 use Rattle.site_forms.specs.Numbers.{form_of}
 use Rattle.site_forms.proofs.Places.{few_places}

@@ -2,8 +2,8 @@ use Rattle.std.proofs.Common.{◌≡◌, ℕ, ◌+◌, ◌-◌, ◌*◌, ◌<◌
 use Rattle.move_energy.specs.BySite.{neighbours_start, pair_beside}
 use Rattle.move_energy.specs.declared.choice.Choice.TheVariants.{Open}
 use Rattle.move_energy.specs.Choices.{choice_at}
-use Rattle.move_prices.specs.Ends.{decided_or, AvoidsSite}
-use Rattle.rise_forms.specs.Forms.{rise_below}
+use Rattle.move_energy.specs.Ends.{decided_or, AvoidsSite}
+use Rattle.site_forms.specs.Forms.{rise_below}
 use Rattle.site_forms.specs.Numbers.{form_of}
 use Rattle.site_forms.proofs.rises.site_rises.Given as goal
 

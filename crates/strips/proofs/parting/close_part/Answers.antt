@@ -3,7 +3,7 @@ use Rattle.label_energies.specs.Energies.{labelling}
 use Rattle.move_energy.specs.declared.choice.Choice.{Choice}
 use Rattle.move_energy.specs.declared.choice.Choice.TheVariants.{Open}
 use Rattle.move_energy.specs.Choices.{bit_of, choice_at}
-use Rattle.move_prices.specs.MoveValues.{move_value}
+use Rattle.move_energy.specs.MoveValues.{move_value}
 use Rattle.site_bounds.specs.Parts.{ArePassedChoices}
 use Rattle.site_bounds.proofs.Trying.{if_ok_two, written_whole}
 use Rattle.persistency.specs.Agreeing.{Agree}

@@ -3,7 +3,7 @@ use Rattle.label_energies.specs.declared.change.Move.{Move}
 use Rattle.label_energies.specs.Energies.{Instance, IsInstance, labelling}
 use Rattle.move_energy.specs.declared.choice.Choice.{Choice}
 use Rattle.move_energy.specs.Choices.{choice_at, AreOpenSites}
-use Rattle.move_prices.specs.MoveValues.{move_value}
+use Rattle.move_energy.specs.MoveValues.{move_value}
 use Rattle.site_forms.specs.Numbers.{IsFormOf}
 use Rattle.persistency.specs.Agreeing.{Agree}
 use Rattle.strips.specs.Views.{KeepsChosen, strip_view}

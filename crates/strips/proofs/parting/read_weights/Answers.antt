@@ -4,8 +4,8 @@ use Rattle.move_energy.specs.BySite.{degree}
 use Rattle.move_energy.specs.Choices.{choice_at}
 use Rattle.move_energy.proofs.Opened.{opened_has, open_true, true_open}
 use Rattle.site_bounds.specs.Parts.{site_weight}
-use Rattle.move_prices.proofs.Places.{degree_most}
-use Rattle.move_prices.proofs.SiteSums.{sum_passed}
+use Rattle.move_energy.proofs.Places.{degree_most}
+use Rattle.move_energy.proofs.SiteSums.{sum_passed}
 use Rattle.strips.specs.Views.{strip_view}
 use Rattle.strips.proofs.Borders.{list_more}
 use Rattle.strips.proofs.Views.{view_length, open_inside}

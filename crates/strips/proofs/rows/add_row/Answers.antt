@@ -6,7 +6,7 @@ use Rattle.move_energy.specs.Choices.{choice_at, open_at, open_rank}
 use Rattle.move_energy.specs.Weights.{unsaved_surplus}
 use Rattle.move_energy.proofs.Parts.{starts_rise}
 use Rattle.move_energy.proofs.Weighed.{surplus_passed}
-use Rattle.move_prices.proofs.Places.{degree_most}
+use Rattle.move_energy.proofs.Places.{degree_most}
 use Rattle.persistency.specs.Borders.{not_ones, range_of}
 use Rattle.persistency.proofs.Rooms.{total_is, total_all}
 use Rattle.strips.specs.Views.{strip_view}

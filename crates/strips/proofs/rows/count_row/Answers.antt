@@ -1,7 +1,7 @@
 use Rattle.std.proofs.Common.{◌≡◌, ◌<◌, ◌≤◌, ◌+◌, ◌-◌, ◌++◌, ◌∙◌, ℕ, List, length, sym, subst, length-append, arith}
 use Rattle.move_energy.specs.BySite.{degree, neighbours_start}
 use Rattle.move_energy.proofs.Parts.{starts_rise}
-use Rattle.move_prices.proofs.Places.{degree_most}
+use Rattle.move_energy.proofs.Places.{degree_most}
 use Rattle.sink_distances.specs.declared.laying.Laying.{Laying}
 use Rattle.sink_distances.specs.Laying.{AreEndsCounted}
 use Rattle.strips.specs.Meeting.{ends_below}

@@ -8,7 +8,7 @@ use Rattle.move_energy.proofs.Parts.{start_read, starts_rise}
 use Rattle.site_bounds.proofs.Left.{left_less}
 use Rattle.site_bounds.proofs.Ranges.{range_wider, decided_waits, total_same}
 use Rattle.site_bounds.proofs.Spreading.{IsSpread, spread_start, spread_step, spread_end, pair_in}
-use Rattle.move_prices.proofs.Places.{meant_grouped}
+use Rattle.move_energy.proofs.Places.{meant_grouped}
 use Rattle.site_bounds.proofs.Places.{range_start, range_step, range_enough, site_free}
 use Rattle.std.proofs.lemmas.Result.{err_from_is_err_and}
 use Rattle.site_bounds.proofs.bounds.Bounds.decide.Goals as goal

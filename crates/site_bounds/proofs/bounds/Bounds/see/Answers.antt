@@ -3,7 +3,7 @@ use Rattle.std.proofs.lemmas.Result.{on_ok_weaker}
 use Rattle.label_energies.specs.Energies.{labelling}
 use Rattle.move_energy.specs.declared.choice.Choice.TheVariants.{Open}
 use Rattle.move_energy.specs.Choices.{choice_at}
-use Rattle.move_prices.proofs.Numbers.{passed_on}
+use Rattle.move_energy.proofs.RiseNumbers.{passed_on}
 use Rattle.site_bounds.proofs.Seeing.{sees_open, sees_none, ends_apart, other_inside}
 use Rattle.site_bounds.proofs.bounds.Bounds.see.Goals as goal
 

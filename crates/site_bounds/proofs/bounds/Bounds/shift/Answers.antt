@@ -1,7 +1,7 @@
 use Rattle.std.proofs.Common.{◌+◌, ◌≤◌, ℤ, ap, subst, refl, length, arith}
 use Rattle.std.proofs.lemmas.Result.{on_ok_weaker}
 use Rattle.site_bounds.specs.Working.{Shifts}
-use Rattle.move_prices.proofs.Numbers.{passed_on}
+use Rattle.move_energy.proofs.RiseNumbers.{passed_on}
 use Rattle.site_bounds.proofs.Ranges.{looking_of, shifts_same, shifted_waits, still_waits, called_waits}
 use Rattle.site_bounds.proofs.bounds.Bounds.shift.Goals as goal
 

@@ -1,6 +1,6 @@
 use Rattle.std.proofs.Common.{◌∙◌, ap, arith}
 use Rattle.site_bounds.specs.Working.{least_shift, greatest_shift}
-use Rattle.move_prices.proofs.Numbers.{passed_on, passed_range}
+use Rattle.move_energy.proofs.RiseNumbers.{passed_on, passed_range}
 use Rattle.site_bounds.proofs.Ranges.{raised_shifts, raised_range, raised_total}
 use Rattle.site_bounds.proofs.bounds.Bounds.shift_bounds.Goals as goal
 

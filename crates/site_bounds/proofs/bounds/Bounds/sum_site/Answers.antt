@@ -4,14 +4,14 @@ use Rattle.move_energy.specs.BySite.{degree}
 use Rattle.label_energies.specs.Energies.{labelling}
 use Rattle.move_energy.specs.Choices.{choice_at}
 use Rattle.move_energy.specs.declared.choice.Choice.{Choice}
-use Rattle.move_prices.specs.Assignments.{rise}
-use Rattle.move_prices.specs.MoveValues.{move_value}
-use Rattle.move_prices.specs.Ends.{decided_or, HasNoneBefore}
+use Rattle.move_energy.specs.Assignments.{rise}
+use Rattle.move_energy.specs.MoveValues.{move_value}
+use Rattle.move_energy.specs.Ends.{decided_or, HasNoneBefore}
 use Rattle.site_bounds.specs.Working.{open_ends, budget_of}
 use Rattle.site_bounds.proofs.Answering.{answered_bounds, answered_summed, answered_waits, answered_left, answered_decides}
-use Rattle.move_prices.proofs.Places.{degree_most}
+use Rattle.move_energy.proofs.Places.{degree_most}
 use Rattle.site_bounds.proofs.Ranges.{added_of, added_summed, added_range, added_waits, range_same, added_total, total_same, sum_room}
-use Rattle.move_prices.proofs.SiteSums.{sum_passed}
+use Rattle.move_energy.proofs.SiteSums.{sum_passed}
 use Rattle.site_forms.proofs.Telling.{form_tells}
 use Rattle.site_bounds.proofs.Whole.{partly_more}
 use Rattle.site_bounds.proofs.bounds.Bounds.sum_site.Goals as goal

@@ -1,5 +1,5 @@
 use Rattle.std.proofs.Common.{sym, subst, length}
-use Rattle.move_prices.proofs.Places.{meant_pairs, meant_beside}
+use Rattle.move_energy.proofs.Places.{meant_pairs, meant_beside}
 use Rattle.site_forms.specs.Fields.{AreReadableLists, AreReadOf}
 use Rattle.site_forms.proofs.Places.{pairs_places}
 use Rattle.site_forms.proofs.lists.FormLists.form.Goals as goal

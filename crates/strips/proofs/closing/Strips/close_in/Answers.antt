@@ -3,7 +3,7 @@ use Rattle.label_energies.specs.Energies.{labelling}
 use Rattle.move_energy.specs.declared.choice.Choice.{Choice}
 use Rattle.move_energy.specs.Choices.{choice_at, AreOpenSites, StandsFor, open_rank}
 use Rattle.move_energy.specs.Weights.{weight_at}
-use Rattle.move_prices.specs.MoveValues.{move_value}
+use Rattle.move_energy.specs.MoveValues.{move_value}
 use Rattle.persistency.specs.Agreeing.{Agree}
 use Rattle.strips.specs.Views.{strip_view}
 use Rattle.move_energy.proofs.Opened.{opened_within}

@@ -1,7 +1,7 @@
 use Rattle.std.proofs.Common.{◌≤◌, ◌-◌}
 use Rattle.move_energy.specs.Choices.{choice_at, AreOpenSites}
 use Rattle.move_energy.specs.Weights.{AreWeights}
-use Rattle.move_prices.specs.MoveValues.{move_value}
+use Rattle.move_energy.specs.MoveValues.{move_value}
 use Rattle.site_forms.specs.Numbers.{WhereRead}
 use Rattle.persistency.specs.Agreeing.{Agree}
 use Rattle.strips.specs.Closing.{CanClose}

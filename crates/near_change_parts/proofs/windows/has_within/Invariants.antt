@@ -1,7 +1,0 @@
-use Rattle.std.proofs.Common.{◌≡◌, take, false}
-use Rattle.std.specs.List.{list_any}
-use Rattle.near_change_parts.specs.Parts.{is_of}
-use Rattle.near_change_parts.proofs.windows.has_within.Given as goal
-
-abbrev pub invariant-loop-index : goal.invariant-loop-index
-invariant-loop-index l = list_any (is_of l.window) (take l.index l.sites) ≡ false
