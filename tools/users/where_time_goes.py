@@ -28,10 +28,7 @@ PARTS = [
     ("costs", ("cost_store", "vision", "run_options", "label_energies", "rayon")),
     (
         "site_bounds",
-        (
-            "move_prices", "rise_forms", "move_forms", "site_forms", "site_bounds", "near_changes",
-            "near_change_parts", "persistency",
-        ),
+        ("site_forms", "site_bounds", "near_changes", "persistency"),
     ),
     (
         "building",
