@@ -1,5 +1,5 @@
 //! Ways to cut a net, and the way on the thread of the caller.
-ghost use Rattle.std.specs.Prelude.{◌≡◌, ◌<◌, ◌≤◌, IfOk, IfErr, length};
+ghost use Rattle.std.specs.Prelude.{◌≡◌, ◌≤◌, IfOk, IfErr, length};
 ghost use Rattle.flow_network.specs.Answer.{side_of, IsRightCut};
 ghost use Rattle.flow_network.specs.Cut.{nodes, set_of, IsSmallestLeastCut};
 ghost use Rattle.flow_network.specs.Limits.{capacity_limit};
@@ -7,7 +7,6 @@ ghost use Rattle.cut_ways.specs.declared.solve_error.SolveError.{SolveError};
 ghost use Rattle.cut_ways.specs.declared.solve_error.SolveError.TheVariants.{OutOfMemory};
 
 use crate::SolveError;
-use crate::fork::{Fork, InOrder};
 use flow_network::{Net, Solved};
 use plain_cut::Workspace;
 use std::alloc::Global;
@@ -15,9 +14,6 @@ use std::alloc::Global;
 /// A way to cut a net: `ready` is what it asks of its caller, and `refuses` says which refusals may
 /// come.
 pub trait How {
-    /// What does the parts of a move.
-    type Fork: Fork;
-
     ghost ready: { Self → Type 0 };
 
     ghost refuses: { Self → SolveError → Type 0 };
@@ -61,44 +57,13 @@ pub trait How {
     {
         self.side(alloc, net)
     }
-
-    /// Whether a move decides sites before its net is made. Its answer is the same either way, so
-    /// only a test says no.
-    fn decides_first(&self) -> bool {
-        true
-    }
-
-    /// How many open sites a move closes in at once, each time by two cuts, before it asks for its
-    /// last net; 0 where all that is open is one net. The answers are the same, whatever the
-    /// number.
-    fn strip_sites(&self) -> usize {
-        0
-    }
-
-    /// In how many parts a move of so many sites is closed in at first, side by side: on the thread
-    /// of the caller one. The answers are the same, whatever the number.
-    fn parts(&self, _sites: usize) -> usize
-        ensures { 0 < result }
-    {
-        1
-    }
-
-    /// What does the parts of a move.
-    fn fork(&self) -> Self::Fork
-        requires ready { ready self.now }
-        ensures { Self.Fork.can_do result };
 }
-
-/// The rows, labels and lists of so many open sites stand in a cache of one to two million bytes.
-const STRIP_SITES: usize = 1 << 14;
 
 /// On the thread of the caller alone. It refuses only where memory runs out.
 #[derive(Clone, Copy, Debug)]
 pub struct Alone;
 
 impl How for Alone {
-    type Fork = InOrder;
-
     ghost ready = { λ _. Unit {0} };
 
     ghost refuses = { λ _ e. e ≡ OutOfMemory };
@@ -108,14 +73,6 @@ impl How for Alone {
             Ok(solved) => Ok(solved),
             Err(_) => Err(SolveError::OutOfMemory),
         }
-    }
-
-    fn strip_sites(&self) -> usize {
-        STRIP_SITES
-    }
-
-    fn fork(&self) -> InOrder {
-        InOrder
     }
 
     fn side(&self, alloc: Global, net: Net) -> Result<Vec<bool>, SolveError> {

@@ -6,7 +6,7 @@ pub use compile_cut::{Compiled, compile};
 pub use cost_store::{
     CostError, DataCost, LabelCostError, Problem, SmoothCost, check_table, is_metric, laws as costs,
 };
-pub use cut_ways::{Alone, Fork, How, InOrder, SolveError};
+pub use cut_ways::{Alone, Fork, How, InOrder, Sharing, SolveError};
 pub use dual_bound::{BoundError, LowerBound, laws as duality, lower_bound, search_bytes};
 pub use flow_network::{Arc, Net, Solved, check_cut};
 pub use label_energies::{Move, Moves};

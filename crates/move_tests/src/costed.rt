@@ -11,7 +11,7 @@ use crate::random::{
 };
 use cost_store::{DataCost, Problem, SmoothCost, check_table, is_metric};
 use label_field::Labelling;
-use moves::{Alone, How, MoveError, expansion_bound};
+use moves::{Alone, MoveError, Sharing, expansion_bound};
 use std::alloc::{AllocError, Global};
 use std::process::Abort;
 use std::test::Fail;
@@ -93,7 +93,7 @@ fn is_bounded<F: Fn(u32, u32) -> i64 + Sync, V: Fn(u32, u32) -> i64 + Sync>(
 
 /// Whether the move or the run of a row is answered as the row says, and is within its bound. The
 /// first bytes of the row are given once more.
-fn is_told<F: Fn(u32, u32) -> i64 + Sync, V: Fn(u32, u32) -> i64 + Sync, H: How>(
+fn is_told<F: Fn(u32, u32) -> i64 + Sync, V: Fn(u32, u32) -> i64 + Sync, H: Sharing>(
     problem: &Problem<F, V>,
     alloc: Global,
     labelling: &mut Labelling,
@@ -112,7 +112,7 @@ fn is_told<F: Fn(u32, u32) -> i64 + Sync, V: Fn(u32, u32) -> i64 + Sync, H: How>
 }
 
 /// Whether a row is right.
-fn is_right<H: How>(
+fn is_right<H: Sharing>(
     rt: &impl Abort,
     alloc: Global,
     row: &[u8; COSTED_BYTES],

@@ -9,7 +9,7 @@ use crate::random::CutAlone;
 use cost_store::{DataCost, Problem, SmoothCost};
 use label_energies::Move;
 use label_field::{Labelling, Pairs};
-use moves::{Alone, How, expand, swap};
+use moves::{Alone, Sharing, expand, swap};
 use std::alloc::Global;
 use std::process::Abort;
 use std::test::Fail;
@@ -83,7 +83,7 @@ fn change_of(row: &[u8; BYTES], labels: u32) -> Move
 
 /// Whether a move ends with the wanted labels, and says that a label changes just where one does in
 /// the row.
-fn ends_right<F: Fn(u32, u32) -> i64 + Sync, V: Fn(u32, u32) -> i64 + Sync, H: How>(
+fn ends_right<F: Fn(u32, u32) -> i64 + Sync, V: Fn(u32, u32) -> i64 + Sync, H: Sharing>(
     problem: &Problem<F, V>,
     alloc: Global,
     labelling: &mut Labelling,

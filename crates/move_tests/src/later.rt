@@ -12,7 +12,7 @@ use cost_store::{DataCost, Problem, SMOOTH_LIMIT, SmoothCost, check_table, is_me
 use cut_ways::InOrder;
 use flow_network::{Net, Solved};
 use label_field::{Labelling, Pairs};
-use moves::{Alone, How, SolveError, run_expansion};
+use moves::{Alone, How, Sharing, SolveError, run_expansion};
 use std::alloc::{AllocError, Global};
 use std::process::Abort;
 use std::sync::atomic::{AtomicUsize, Ordering};
@@ -39,7 +39,7 @@ const UNLIKE: &[i64] = &[2, 5];
 const PIXELS: usize = 4096;
 
 /// As `Alone`, but it counts the nets that it is given, and their nodes. A later expansion looks by
-/// so many parts. A whole move has one, and so has the largest of all, so that each net comes here.
+/// so many parts, and a whole move has one. No net is too small to come here.
 #[derive(Drop)]
 struct Counting {
     parts: usize,
@@ -48,8 +48,6 @@ struct Counting {
 }
 
 impl How for Counting {
-    type Fork = InOrder;
-
     ghost ready = { λ _. Unit {0} };
 
     ghost refuses = { λ _ e. e ≡ OutOfMemory };
@@ -59,9 +57,17 @@ impl How for Counting {
         self.nodes.fetch_add(net.nodes(), Ordering::SeqCst);
         Alone.solve(alloc, net)
     }
+}
+
+impl Sharing for Counting {
+    type Fork = InOrder;
+
+    fn strip_sites(&self) -> usize {
+        0
+    }
 
     fn parts(&self, sites: usize) -> usize {
-        if sites == PIXELS || sites == usize::MAX {
+        if sites == PIXELS {
             return 1;
         }
         self.parts.max(1)
@@ -89,7 +95,7 @@ fn smooth_of(rt: &impl Abort, alloc: Global, unlike: i64) -> Result<Vec<i64>, Al
 }
 
 /// Runs expansions of the picture. It answers whether it was not refused.
-fn expands<H: How>(
+fn expands<H: Sharing>(
     alloc: Global,
     pairs: Pairs,
     labelling: &mut Labelling,
@@ -128,7 +134,7 @@ fn expands<H: How>(
 
 /// The labels where a run of expansions of the picture ends that starts from label 0 everywhere;
 /// none where it is refused.
-fn labels_after<H: How>(
+fn labels_after<H: Sharing>(
     rt: &impl Abort,
     alloc: Global,
     unlike: i64,

@@ -9,7 +9,7 @@ use cut_ways::InOrder;
 use flow_network::{Net, Solved};
 use label_energies::Move;
 use label_field::{Labelling, Pairs};
-use moves::{Alone, How, MoveError, SolveError, expand, swap};
+use moves::{Alone, How, MoveError, Sharing, SolveError, expand, swap};
 use std::alloc::Global;
 use std::process::Abort;
 use std::test::Fail;
@@ -22,8 +22,6 @@ struct InParts {
 }
 
 impl How for InParts {
-    type Fork = InOrder;
-
     ghost ready = { λ _. Unit {0} };
 
     ghost refuses = { λ _ e. e ≡ OutOfMemory };
@@ -31,6 +29,10 @@ impl How for InParts {
     fn solve(&self, alloc: Global, net: &Net) -> Result<Solved, SolveError> {
         Alone.solve(alloc, net)
     }
+}
+
+impl Sharing for InParts {
+    type Fork = InOrder;
 
     fn strip_sites(&self) -> usize {
         self.strip
@@ -140,7 +142,7 @@ fn start_of(rt: &impl Abort, alloc: Global, picture: u32) -> Result<Labelling, F
 }
 
 /// What a move answers, and the labels after it.
-fn told_by<F: Fn(u32, u32) -> i64 + Sync, V: Fn(u32, u32) -> i64 + Sync, H: How>(
+fn told_by<F: Fn(u32, u32) -> i64 + Sync, V: Fn(u32, u32) -> i64 + Sync, H: Sharing>(
     rt: &impl Abort,
     alloc: Global,
     problem: &Problem<F, V>,

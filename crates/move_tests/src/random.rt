@@ -10,7 +10,7 @@ use cost_store::{DataCost, Problem, SmoothCost};
 use cut_ways::InOrder;
 use flow_network::{Net, Solved};
 use label_field::{Labelling, Pairs};
-use moves::{Alone, How, MoveError, SolveError, expand, run_expansion, run_swap, swap};
+use moves::{Alone, How, MoveError, Sharing, SolveError, expand, run_expansion, run_swap, swap};
 use std::alloc::Global;
 use std::process::Abort;
 
@@ -35,8 +35,6 @@ const WEIGHT: u32 = 1_000;
 pub struct CutAlone;
 
 impl How for CutAlone {
-    type Fork = InOrder;
-
     ghost ready = { λ _. Unit {0} };
 
     ghost refuses = { λ _ e. e ≡ OutOfMemory };
@@ -44,6 +42,10 @@ impl How for CutAlone {
     fn solve(&self, alloc: Global, net: &Net) -> Result<Solved, SolveError> {
         Alone.solve(alloc, net)
     }
+}
+
+impl Sharing for CutAlone {
+    type Fork = InOrder;
 
     fn decides_first(&self) -> bool {
         false
@@ -63,8 +65,6 @@ pub struct InStrips {
 }
 
 impl How for InStrips {
-    type Fork = InOrder;
-
     ghost ready = { λ _. Unit {0} };
 
     ghost refuses = { λ _ e. e ≡ OutOfMemory };
@@ -72,6 +72,10 @@ impl How for InStrips {
     fn solve(&self, alloc: Global, net: &Net) -> Result<Solved, SolveError> {
         Alone.solve(alloc, net)
     }
+}
+
+impl Sharing for InStrips {
+    type Fork = InOrder;
 
     fn strip_sites(&self) -> usize {
         self.sites
@@ -201,7 +205,7 @@ pub fn answer_wanted(row: &[u8; BYTES]) -> Result<(bool, u32), MoveError> {
 }
 
 /// Makes the move or the run of a row, and answers as `wanted` does.
-fn answer_of<F: Fn(u32, u32) -> i64 + Sync, V: Fn(u32, u32) -> i64 + Sync, H: How>(
+fn answer_of<F: Fn(u32, u32) -> i64 + Sync, V: Fn(u32, u32) -> i64 + Sync, H: Sharing>(
     problem: &Problem<F, V>,
     alloc: Global,
     labelling: &mut Labelling,
@@ -253,7 +257,7 @@ pub fn is_after<F: Fn(u32, u32) -> i64 + Sync, V: Fn(u32, u32) -> i64 + Sync>(
 /// Makes the move or the run of a row; whether what it says, the labels and the energies are those
 /// of the row. Where a growth is refused, the labels are those before or, in a run, stand in its
 /// chain, and the move is made once more.
-pub fn is_answered<F: Fn(u32, u32) -> i64 + Sync, V: Fn(u32, u32) -> i64 + Sync, H: How>(
+pub fn is_answered<F: Fn(u32, u32) -> i64 + Sync, V: Fn(u32, u32) -> i64 + Sync, H: Sharing>(
     problem: &Problem<F, V>,
     alloc: Global,
     labelling: &mut Labelling,
@@ -279,7 +283,7 @@ pub fn is_answered<F: Fn(u32, u32) -> i64 + Sync, V: Fn(u32, u32) -> i64 + Sync,
 }
 
 /// Whether a row is right, where no label costs anything by itself.
-pub fn is_right<H: How>(
+pub fn is_right<H: Sharing>(
     rt: &impl Abort,
     alloc: Global,
     row: &[u8; BYTES],

@@ -10,7 +10,7 @@ use crate::steps::{RUNS_MADE, STEPS};
 use cost_store::{DataCost, Problem, SmoothCost};
 use label_energies::{Move, Moves};
 use label_field::Labelling;
-use moves::{Alone, Ended, How, MoveError, RunUnderWay, Step};
+use moves::{Alone, Ended, MoveError, RunUnderWay, Sharing, Step};
 use std::alloc::Global;
 use std::process::Abort;
 
@@ -65,7 +65,7 @@ fn answer_of_run(ended: Option<Ended>) -> Option<(bool, u32)> {
 
 /// Makes the run of a row step by step. Whether each step is that of the chain, with its labels,
 /// and the run ends as the row says.
-fn is_stepped<F: Fn(u32, u32) -> i64 + Sync, V: Fn(u32, u32) -> i64 + Sync, H: How>(
+fn is_stepped<F: Fn(u32, u32) -> i64 + Sync, V: Fn(u32, u32) -> i64 + Sync, H: Sharing>(
     problem: &Problem<F, V>,
     alloc: Global,
     labelling: &mut Labelling,
@@ -105,7 +105,7 @@ fn is_stepped<F: Fn(u32, u32) -> i64 + Sync, V: Fn(u32, u32) -> i64 + Sync, H: H
 }
 
 /// Whether the run of a row is right step by step.
-fn is_right<H: How>(
+fn is_right<H: Sharing>(
     rt: &impl Abort,
     alloc: Global,
     row: &[u8; BYTES],

@@ -12,7 +12,7 @@ ghost use Rattle.moves.specs.Prelude.{IsAllowedFrom};
 
 use crate::opening_apart::open_apart;
 use crate::stage_cut::{Standing, make_stage};
-use crate::{How, MoveError};
+use crate::{MoveError, Sharing};
 use cost_store::{Problem, costs_of, has_cost};
 use label_energies::Move;
 use label_field::Labelling;
@@ -68,7 +68,7 @@ fn can_look<F: Fn(u32, u32) -> i64 + Sync, V: Fn(u32, u32) -> i64 + Sync>(
 
 /// Reads the numbers of the expansion, and makes the first stage ready: by parts of the sites that
 /// look by themselves first, where the way to cut asks for parts.
-fn begin_stages<F: Fn(u32, u32) -> i64 + Sync, V: Fn(u32, u32) -> i64 + Sync, H: How>(
+fn begin_stages<F: Fn(u32, u32) -> i64 + Sync, V: Fn(u32, u32) -> i64 + Sync, H: Sharing>(
     problem: &Problem<F, V>,
     space: &mut Workspace,
     at: &[u8],
@@ -116,7 +116,7 @@ fn begin_stages<F: Fn(u32, u32) -> i64 + Sync, V: Fn(u32, u32) -> i64 + Sync, H:
 }
 
 /// Finds the sites that take the label, stage by stage. It answers no where that is given up.
-fn look<F: Fn(u32, u32) -> i64 + Sync, V: Fn(u32, u32) -> i64 + Sync, H: How>(
+fn look<F: Fn(u32, u32) -> i64 + Sync, V: Fn(u32, u32) -> i64 + Sync, H: Sharing>(
     problem: &Problem<F, V>,
     space: &mut Workspace,
     at: &[u8],
@@ -177,7 +177,7 @@ fn take(labelling: &mut Labelling, alpha: u32, sites: &[u32]) -> bool
 /// those and at what is near them, and at more, stage by stage, until nothing that was not looked
 /// at can matter. It answers nothing, and changes nothing, where the expansion is to be made whole.
 /// Refused as an expansion is, the labels as they were.
-pub(crate) fn make_later<F: Fn(u32, u32) -> i64 + Sync, V: Fn(u32, u32) -> i64 + Sync, H: How>(
+pub(crate) fn make_later<F: Fn(u32, u32) -> i64 + Sync, V: Fn(u32, u32) -> i64 + Sync, H: Sharing>(
     problem: &Problem<F, V>,
     space: &mut Workspace,
     labelling: &mut Labelling,

@@ -7,10 +7,9 @@ ghost use Rattle.move_energy.specs.Choices.{AreOpenSites};
 ghost use Rattle.moves.specs.Prelude.{Expand, WhereMeant, AreStageZeros, KeepsFreshSites};
 ghost use Rattle.moves.specs.Prelude.{HasNumbersOf};
 
-use crate::How;
+use crate::Sharing;
 use cost_store::Problem;
-use near_changes::{PartSizes, find_zeros};
-use near_changes::{Window, choose_first};
+use near_changes::{PartSizes, Window, choose_first, find_zeros};
 use one_move::Workspace;
 use std::alloc::{AllocError, Global};
 
@@ -34,7 +33,7 @@ fn part_sizes(sites: usize, parts: usize) -> PartSizes
 
 /// Opens the sites of the first stage after so many parts of the sites looked by themselves, side
 /// by side.
-fn open_by_parts<F: Fn(u32, u32) -> i64 + Sync, V: Fn(u32, u32) -> i64 + Sync, H: How>(
+fn open_by_parts<F: Fn(u32, u32) -> i64 + Sync, V: Fn(u32, u32) -> i64 + Sync, H: Sharing>(
     alloc: Global,
     problem: &Problem<F, V>,
     space: &mut Workspace,
@@ -83,7 +82,7 @@ fn open_by_parts<F: Fn(u32, u32) -> i64 + Sync, V: Fn(u32, u32) -> i64 + Sync, H
 
 /// Opens the sites of the first stage after parts of the sites looked by themselves, where the way
 /// to cut asks for parts. It answers whether they did.
-pub(crate) fn open_apart<F: Fn(u32, u32) -> i64 + Sync, V: Fn(u32, u32) -> i64 + Sync, H: How>(
+pub(crate) fn open_apart<F: Fn(u32, u32) -> i64 + Sync, V: Fn(u32, u32) -> i64 + Sync, H: Sharing>(
     alloc: Global,
     problem: &Problem<F, V>,
     space: &mut Workspace,

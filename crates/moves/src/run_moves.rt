@@ -8,7 +8,7 @@ ghost use Rattle.moves.specs.Prelude.{AreStampsOf};
 
 use crate::later_expansion::make_later;
 use crate::under_way::RunUnderWay;
-use crate::{How, MoveError};
+use crate::{MoveError, Sharing};
 use cost_store::{Problem, costs_of, has_cost};
 use label_energies::{Move, Moves};
 use label_field::Labelling;
@@ -79,7 +79,11 @@ fn note_later<F: Fn(u32, u32) -> i64 + Sync, V: Fn(u32, u32) -> i64 + Sync>(
 impl RunUnderWay {
     /// The next move of a run, where its labels are those of the last. Of swaps nothing is
     /// remembered.
-    pub(crate) fn make_next<F: Fn(u32, u32) -> i64 + Sync, V: Fn(u32, u32) -> i64 + Sync, H: How>(
+    pub(crate) fn make_next<
+        F: Fn(u32, u32) -> i64 + Sync,
+        V: Fn(u32, u32) -> i64 + Sync,
+        H: Sharing,
+    >(
         &mut self,
         problem: &Problem<F, V>,
         labelling: &mut Labelling,
@@ -111,7 +115,7 @@ impl RunUnderWay {
 
     /// An expansion of a run, near what changed since its label's last where that is known, and
     /// else whole.
-    fn make_expansion<F: Fn(u32, u32) -> i64 + Sync, V: Fn(u32, u32) -> i64 + Sync, H: How>(
+    fn make_expansion<F: Fn(u32, u32) -> i64 + Sync, V: Fn(u32, u32) -> i64 + Sync, H: Sharing>(
         &mut self,
         problem: &Problem<F, V>,
         labelling: &mut Labelling,

@@ -9,7 +9,7 @@ ghost use Rattle.moves.specs.Prelude.{IsClosedIn, AreTaking, HasNumbersOf, Keeps
 ghost use Rattle.moves.specs.Prelude.{IsCutRefusal, IsStageLeast, IsStageReady, AreStageZeros};
 ghost use Rattle.moves.specs.Prelude.{EndsMove};
 
-use crate::{How, MoveError};
+use crate::{MoveError, Sharing};
 use compile_cut::Quadratic;
 use cost_store::Problem;
 use label_field::Pairs;
@@ -30,7 +30,7 @@ pub(crate) enum Standing {
 }
 
 /// The cut of a partly fixed move, over the listed open sites: a bit for each.
-pub(crate) fn cut_stage<H: How>(
+pub(crate) fn cut_stage<H: Sharing>(
     form: &SiteForm,
     strips: &mut Strips,
     built: &mut MoveEnergy,
@@ -54,7 +54,7 @@ pub(crate) fn cut_stage<H: How>(
     let alloc = *built.form.weights.allocator();
     strips.build_read(form, opened, built)?;
     let left = replace(&mut built.form, Quadratic::new(alloc));
-    let small = least_nodes(how.parts(usize::MAX), form.at.len(), true).max(how.strip_sites());
+    let small = least_nodes(how.shares_nets(), form.at.len(), true).max(how.strip_sites());
     cut_small(alloc, left, small, how, cutting)
 }
 
@@ -105,7 +105,7 @@ fn end_stage(space: &mut Workspace, pairs: &Pairs, bits: &[bool]) -> Result<Stan
 }
 
 /// One stage: its cut, and what is done with what that shows.
-pub(crate) fn make_stage<F: Fn(u32, u32) -> i64 + Sync, V: Fn(u32, u32) -> i64 + Sync, H: How>(
+pub(crate) fn make_stage<F: Fn(u32, u32) -> i64 + Sync, V: Fn(u32, u32) -> i64 + Sync, H: Sharing>(
     problem: &Problem<F, V>,
     space: &mut Workspace,
     at: &[u8],

@@ -8,7 +8,7 @@ ghost use Rattle.moves.specs.Prelude.{Keeps, entry_at, IsBoundOf, IsInstanceOf, 
 ghost use Rattle.moves.specs.Prelude.{instance_of, ArePrices, IsRunRefusal, TellsPairNotRegular};
 ghost use Rattle.moves.specs.Prelude.{IsRefusalOver, AnswersRun, IsRunInRange, MayMake};
 
-use crate::{Bound, Ended, How, MoveError, expansion_bound, run};
+use crate::{Bound, Ended, MoveError, Sharing, expansion_bound, run};
 use cost_store::{DataCost, Problem, SmoothCost, is_metric};
 use label_energies::Moves;
 use label_field::{Labelling, Pairs};
@@ -62,7 +62,7 @@ pub struct Run {
 /// not regular, which never happens where the table is a metric; what `how` refuses; and out of
 /// memory. The contract speaks of every instance whose data costs the closure answers: who knows
 /// them names it.
-pub fn run_with_table<F: Fn(u32, u32) -> i64 + Sync, H: How>(
+pub fn run_with_table<F: Fn(u32, u32) -> i64 + Sync, H: Sharing>(
     alloc: Global,
     pairs: Pairs,
     data_cost: DataCost<F>,
@@ -115,7 +115,7 @@ pub fn run_with_table<F: Fn(u32, u32) -> i64 + Sync, H: How>(
 /// costs: the costs of the first site, label by label, then those of the next, each from 0 to
 /// `DATA_LIMIT`. Over a metric, moves that may be made are refused for memory or a cut alone
 /// (`over_metric`).
-pub fn run_tables<H: How>(
+pub fn run_tables<H: Sharing>(
     alloc: Global,
     pairs: Pairs,
     data: &[u32],
@@ -162,7 +162,7 @@ pub fn run_tables<H: How>(
 }
 
 /// Makes the moves of a request over a problem, and tells the energy where they end.
-fn run_problem<F: Fn(u32, u32) -> i64 + Sync, V: Fn(u32, u32) -> i64 + Sync, H: How>(
+fn run_problem<F: Fn(u32, u32) -> i64 + Sync, V: Fn(u32, u32) -> i64 + Sync, H: Sharing>(
     alloc: Global,
     problem: &Problem<F, V>,
     request: Request,

@@ -13,7 +13,7 @@ ghost use Rattle.moves.specs.Prelude.{ended_of, cycles_of, left_of, labels_chang
 use crate::course::Course;
 use crate::run_moves::begin_changes;
 use crate::runs::Ended;
-use crate::{How, MoveError};
+use crate::{MoveError, Sharing};
 use cost_store::Problem;
 use label_energies::{Move, Moves};
 use label_field::Labelling;
@@ -87,7 +87,7 @@ impl RunUnderWay {
     /// and nothing changes, once the run has ended. Refused as the move is (`expand`, `swap`): the
     /// labels are then as they were, and the run is still under way. The labels are always where a
     /// beginning of the chain ends, so a run may be left after any step.
-    pub fn step<F: Fn(u32, u32) -> i64 + Sync, V: Fn(u32, u32) -> i64 + Sync, H: How>(
+    pub fn step<F: Fn(u32, u32) -> i64 + Sync, V: Fn(u32, u32) -> i64 + Sync, H: Sharing>(
         &mut self,
         problem: &Problem<F, V>,
         labelling: &mut Labelling,
@@ -128,7 +128,7 @@ impl RunUnderWay {
 
     /// Makes all moves that are left, and tells how the run ended. Refused as the move that is
     /// refused: the run is then still under way, before that move.
-    pub fn finish<F: Fn(u32, u32) -> i64 + Sync, V: Fn(u32, u32) -> i64 + Sync, H: How>(
+    pub fn finish<F: Fn(u32, u32) -> i64 + Sync, V: Fn(u32, u32) -> i64 + Sync, H: Sharing>(
         &mut self,
         problem: &Problem<F, V>,
         labelling: &mut Labelling,
@@ -164,7 +164,7 @@ impl RunUnderWay {
     }
 
     /// Makes the next move of the chain.
-    fn advance<F: Fn(u32, u32) -> i64 + Sync, V: Fn(u32, u32) -> i64 + Sync, H: How>(
+    fn advance<F: Fn(u32, u32) -> i64 + Sync, V: Fn(u32, u32) -> i64 + Sync, H: Sharing>(
         &mut self,
         problem: &Problem<F, V>,
         labelling: &mut Labelling,

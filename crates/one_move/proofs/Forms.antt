@@ -79,6 +79,6 @@ plain_built {F} {V} f v problem at move old new posed read same kept form agree 
         few = form.few;
       };
       built = agreed_built f v problem at move new posed read.numbers.allowed form (λ m meant.
-      let A : List Choice → Type 0 = λ choices. Agree m.sites (move_value m move (labelling at)) (choice_at choices) in
-      subst A (sym kept) (agree m meant));
+          let A : List Choice → Type 0 = λ choices. Agree m.sites (move_value m move (labelling at)) (choice_at choices) in
+          subst A (sym kept) (agree m meant));
     }

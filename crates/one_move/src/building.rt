@@ -10,7 +10,7 @@ ghost use Rattle.one_move.specs.PlainBuilding.{IsPlainBuilding};
 
 use crate::workspace::Workspace;
 use cost_store::{Problem, costs_of, has_cost};
-use cut_ways::How;
+use cut_ways::Sharing;
 use label_cost_terms::add_label_costs;
 use label_energies::Move;
 use move_energy::BuildError;
@@ -112,7 +112,7 @@ fn build_strips<F: Fn(u32, u32) -> i64 + Sync, V: Fn(u32, u32) -> i64 + Sync>(
 
 /// Decides and closes in the sites of a move by parts, side by side, where the way to cut asks for
 /// parts. It answers whether it did.
-fn close_apart<F: Fn(u32, u32) -> i64 + Sync, V: Fn(u32, u32) -> i64 + Sync, H: How>(
+fn close_apart<F: Fn(u32, u32) -> i64 + Sync, V: Fn(u32, u32) -> i64 + Sync, H: Sharing>(
     alloc: Global,
     problem: &Problem<F, V>,
     space: &mut Workspace,
@@ -193,7 +193,7 @@ fn build_rest<F: Fn(u32, u32) -> i64 + Sync, V: Fn(u32, u32) -> i64 + Sync>(
 
 /// How many open sites a move closes in at once: all, where the way to cut takes all that is open
 /// as one net.
-fn strip_size<H: How>(how: &H) -> usize
+fn strip_size<H: Sharing>(how: &H) -> usize
     ensures { 0 < result }
 {
     match how.strip_sites() {
@@ -204,7 +204,7 @@ fn strip_size<H: How>(how: &H) -> usize
 
 /// The energy of a move whose sites were decided first. Where it was closed in by parts, it is that
 /// of the rest, and where more sites are open than one net takes, that of the last strip.
-fn build_decided<F: Fn(u32, u32) -> i64 + Sync, V: Fn(u32, u32) -> i64 + Sync, H: How>(
+fn build_decided<F: Fn(u32, u32) -> i64 + Sync, V: Fn(u32, u32) -> i64 + Sync, H: Sharing>(
     alloc: Global,
     problem: &Problem<F, V>,
     space: &mut Workspace,
@@ -246,7 +246,7 @@ fn build_whole<F: Fn(u32, u32) -> i64 + Sync, V: Fn(u32, u32) -> i64 + Sync>(
 }
 
 /// The energy of a move where no label costs anything by itself, its sites decided first or not.
-fn build_plain<F: Fn(u32, u32) -> i64 + Sync, V: Fn(u32, u32) -> i64 + Sync, H: How>(
+fn build_plain<F: Fn(u32, u32) -> i64 + Sync, V: Fn(u32, u32) -> i64 + Sync, H: Sharing>(
     alloc: Global,
     problem: &Problem<F, V>,
     space: &mut Workspace,
@@ -300,7 +300,7 @@ fn build_costed<F: Fn(u32, u32) -> i64 + Sync, V: Fn(u32, u32) -> i64 + Sync>(
 
 /// The energy of a move: with label costs nothing is decided, and without them its sites are
 /// decided first or not.
-pub(crate) fn build_move<F: Fn(u32, u32) -> i64 + Sync, V: Fn(u32, u32) -> i64 + Sync, H: How>(
+pub(crate) fn build_move<F: Fn(u32, u32) -> i64 + Sync, V: Fn(u32, u32) -> i64 + Sync, H: Sharing>(
     alloc: Global,
     problem: &Problem<F, V>,
     space: &mut Workspace,

@@ -18,7 +18,7 @@ use crate::taking::take_best;
 use crate::workspace::{Workspace, give_numbers_back};
 use compile_cut::{Quadratic, net_of};
 use cost_store::{Problem, costs_of, has_cost};
-use cut_ways::{Alone, How};
+use cut_ways::{Alone, Sharing};
 use label_energies::Move;
 use label_field::Labelling;
 use move_energy::BuildError;
@@ -29,24 +29,23 @@ use std::mem::replace;
 /// thread cuts smaller ones in less time than several take to share them.
 const LATER_NODES: usize = 1 << 16;
 
-/// How many nodes a net of a move over so many sites has at least that is left to a way which
-/// closes in the largest moves in so many parts. Such a way gets the net of a move of which no site
-/// was decided before: the first of a run, and later ones if they are large. What is left of others
-/// is cut on the thread of the caller. A way that has no parts gets all nets. The number says who
-/// cuts a net, never what its cut is.
-pub fn least_nodes(parts: usize, sites: usize, later: bool) -> usize
-    ensures all { parts < 2 → result ≡ 0 }
-    ensures first { 2 ≤ parts → IsFalse later → result ≡ sites }
-    ensures large { 2 ≤ parts → IsTrue later → result ≡ max sites later_nodes }
+/// How many nodes a net of a move over so many sites has at least that is left to a way to cut. A
+/// way whose threads share nets gets that of a move of which no site was decided before: the first
+/// of a run, and later ones if they are large. What is left of others is cut on the thread of the
+/// caller. Another way gets all nets. The number says who cuts a net, never what its cut is.
+pub fn least_nodes(shared: bool, sites: usize, later: bool) -> usize
+    ensures all { IsFalse shared → result ≡ 0 }
+    ensures first { IsTrue shared → IsFalse later → result ≡ sites }
+    ensures large { IsTrue shared → IsTrue later → result ≡ max sites later_nodes }
 {
-    if parts < 2 {
+    if !shared {
         return 0;
     }
     if later { sites.max(LATER_NODES) } else { sites }
 }
 
 /// The least assignment of a form with the fewest ones, a bit for each node.
-fn minimise<H: How>(
+fn minimise<H: Sharing>(
     alloc: Global,
     form: Quadratic,
     how: &H,
@@ -70,7 +69,7 @@ fn minimise<H: How>(
 /// the thread of the caller: workers would take longer to share it than one takes to cut it. Of
 /// nodes there are at most as many as sites and labels together. Refused: what `how` refuses, and
 /// `OutOfMemory`.
-pub fn cut_small<H: How>(
+pub fn cut_small<H: Sharing>(
     alloc: Global,
     form: Quadratic,
     small: usize,
@@ -99,7 +98,7 @@ pub fn cut_small<H: How>(
 /// `PairNotRegular`, the first pair of the list whose term is not regular; what `how` refuses.
 /// `OutOfMemory` may come at any growth. A refused move leaves the labels as they were. The
 /// workspace is of one problem: its pairs, once they are grouped, are that problem's.
-pub fn make_move<F: Fn(u32, u32) -> i64 + Sync, V: Fn(u32, u32) -> i64 + Sync, H: How>(
+pub fn make_move<F: Fn(u32, u32) -> i64 + Sync, V: Fn(u32, u32) -> i64 + Sync, H: Sharing>(
     alloc: Global,
     problem: &Problem<F, V>,
     space: &mut Workspace,
@@ -141,7 +140,7 @@ pub fn make_move<F: Fn(u32, u32) -> i64 + Sync, V: Fn(u32, u32) -> i64 + Sync, H
     );
     let form = replace(&mut space.built.form, Quadratic::new(alloc));
     let sites = labelling.sites() as usize;
-    let small = least_nodes(how.parts(usize::MAX), sites, space.shared);
+    let small = least_nodes(how.shares_nets(), sites, space.shared);
     space.shared = space.shared || form.weights.len() >= small;
     let bits = cut_small(alloc, form, small, how, &mut space.cutting)?;
     space.assign(&bits);

@@ -5,7 +5,7 @@ use crate::by_workers::TWO;
 use crate::rows::expect;
 use cost_store::{DataCost, Problem, SmoothCost};
 use label_field::{Labelling, Pairs};
-use moves::{Alone, Ended, How, MoveError, expand, run_expansion};
+use moves::{Alone, Ended, MoveError, Sharing, expand, run_expansion};
 use rounds::{Open, Workers};
 use std::alloc::Global;
 use std::sync::Wait;
@@ -22,7 +22,7 @@ const POTTS: [u8; 9] = [0, 1, 1, 1, 0, 1, 1, 1, 0];
 
 /// What an expansion and a run of expansions after it come to, from the label 0 at each site of a
 /// grid of 3 by 3.
-fn expand_and_run<H: How>(alloc: Global, how: &H) -> Result<(bool, Ended, Vec<u8>), MoveError>
+fn expand_and_run<H: Sharing>(alloc: Global, how: &H) -> Result<(bool, Ended, Vec<u8>), MoveError>
     requires { H.ready how.now }
 {
     let problem = Problem {

@@ -4,7 +4,7 @@ ghost use Rattle.std.specs.Prelude.{◌<◌};
 use crate::by_workers::{Counter, Kept};
 use byte_streams::Watched;
 use label_energies::Moves;
-use moves::{Alone, How};
+use moves::{Alone, Sharing};
 use rounds::Workers;
 use run_options::{Neighbours, RestoreOptions, Shape};
 use std::alloc::{AllocError, Global};
@@ -111,7 +111,7 @@ fn options_of_workers(dice: &mut Dice) -> Options {
 }
 
 /// What a restoring answers, and what it writes.
-fn restore_by<H: How>(
+fn restore_by<H: Sharing>(
     rt: &impl Abort,
     alloc: Global,
     picture: &[u8],

@@ -7,7 +7,7 @@ use cost_store::{DataCost, Problem, SmoothCost};
 use cut_ways::InOrder;
 use flow_network::{Net, Solved};
 use label_field::{Labelling, Pairs};
-use moves::{Alone, Ended, How, MoveError, SolveError, run_expansion};
+use moves::{Alone, Ended, How, MoveError, Sharing, SolveError, run_expansion};
 use std::alloc::Global;
 use std::process::Abort;
 use std::sync::atomic::{AtomicU32, Ordering};
@@ -30,8 +30,6 @@ impl Refusing {
 }
 
 impl How for Refusing {
-    type Fork = InOrder;
-
     ghost ready = { λ _. Unit {0} };
 
     ghost refuses = { λ _ _. Unit {0} };
@@ -42,6 +40,14 @@ impl How for Refusing {
         }
         self.left.fetch_sub(1, Ordering::SeqCst);
         Alone.solve(alloc, net)
+    }
+}
+
+impl Sharing for Refusing {
+    type Fork = InOrder;
+
+    fn strip_sites(&self) -> usize {
+        0
     }
 
     fn fork(&self) -> InOrder {
@@ -85,7 +91,7 @@ const CHAIN: [[u8; 3]; 9] = [
 ];
 
 /// How a run of expansions from all 0 ends, and at which labels.
-fn run_from_zero<H: How>(
+fn run_from_zero<H: Sharing>(
     alloc: Global,
     how: &H,
 ) -> Result<(Result<Ended, MoveError>, Vec<u8>), MoveError>

@@ -18,7 +18,7 @@ ghost use Rattle.program_tasks.specs.Inputs.{OfSomeInput};
 use crate::bounds::near_of_bound;
 use crate::library_faults::move_fault;
 use byte_streams::{Source, read_input};
-use cut_ways::How;
+use cut_ways::Sharing;
 use moves::{MoveError, Request, Run, run_tables};
 use problem_files::{LabelProblem, read_label};
 use program_texts::{Answer, EnergyParts, Fault, Line, label_text};
@@ -26,7 +26,7 @@ use std::alloc::{AllocError, Global};
 
 /// Where the moves of the problem that the input is end, and how near that is to the least energy
 /// where it is asked for. Nothing is said beside it.
-pub fn answer_label<H: How, R: Source>(
+pub fn answer_label<H: Sharing, R: Source>(
     alloc: Global,
     bound: bool,
     how: &H,
@@ -60,7 +60,7 @@ fn read_problem<R: Source>(alloc: Global, source: &mut R) -> Result<LabelProblem
 }
 
 // The text of the answer to a problem.
-fn answer_problem<H: How>(
+fn answer_problem<H: Sharing>(
     alloc: Global,
     problem: LabelProblem,
     bound: bool,
@@ -83,7 +83,7 @@ fn answer_problem<H: How>(
 // Refused: `LabelCostInSwap`, before any move, exactly where swaps are asked for and some label
 // costs something by itself; `PairNotRegular` where the next move of the chain has a term that is
 // not regular; what `how` refuses; and out of memory.
-fn run_named<H: How>(alloc: Global, problem: LabelProblem, how: &H) -> Result<Run, MoveError>
+fn run_named<H: Sharing>(alloc: Global, problem: LabelProblem, how: &H) -> Result<Run, MoveError>
     requires limits { IsInLimits (problem_view problem) }
     requires ready { H.ready how.now }
     ensures run { AnswersRun (instance_named (problem_view problem))

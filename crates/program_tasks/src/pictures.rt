@@ -18,14 +18,14 @@ use crate::bounds::near_of_bound;
 use crate::library_faults::picture_fault;
 use byte_streams::{Sink, Source, read_input};
 use command_line::PictureOptions;
-use cut_ways::How;
+use cut_ways::Sharing;
 use program_texts::{EnergyParts, Fault, Line, picture_lines};
 use std::alloc::Global;
 use vision::{Report, VisionError, run_restore, run_segment, run_stereo};
 
 /// Writes the picture that an image command makes of the input, and answers the line of its energy,
 /// and that of the bound where it is asked for.
-pub fn picture<H: How, R: Source, W: Sink>(
+pub fn picture<H: Sharing, R: Source, W: Sink>(
     alloc: Global,
     options: PictureOptions,
     how: &H,
@@ -50,7 +50,7 @@ pub fn picture<H: How, R: Source, W: Sink>(
 }
 
 // The call of the command.
-fn run_picture<H: How, W: Sink>(
+fn run_picture<H: Sharing, W: Sink>(
     alloc: Global,
     input: &[u8],
     options: &PictureOptions,

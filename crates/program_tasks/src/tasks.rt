@@ -10,12 +10,12 @@ use crate::label::answer_label;
 use crate::pictures::picture;
 use byte_streams::{Sink, Source};
 use command_line::Task;
-use cut_ways::How;
+use cut_ways::Sharing;
 use program_texts::{Fault, Line, write_text};
 use std::alloc::Global;
 
 /// One command over its input. Nothing is written before the whole answer is there.
-pub fn run_task<H: How, R: Source, W: Sink>(
+pub fn run_task<H: Sharing, R: Source, W: Sink>(
     alloc: Global,
     task: Task,
     how: &H,

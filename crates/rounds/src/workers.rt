@@ -13,7 +13,7 @@ ghost use Rattle.rounds.specs.SolveErrors.{MayFailToSolve, of_parallel};
 
 use crate::gates::Lent;
 use crate::{ParallelError, side_parallel, solve_parallel};
-use cut_ways::{Alone, How, SolveError};
+use cut_ways::{Alone, How, Sharing, SolveError};
 use flow_network::{Arc, Net, Solved};
 use part_threads::ByThreads;
 use std::alloc::Global;
@@ -153,16 +153,37 @@ fn refusal_of(error: ParallelError) -> SolveError
 }
 
 impl<'a, R: Threads + Wait + Sync> How for Workers<'a, R, &'a (dyn Gate + Sync)> {
-    type Fork = ByThreads<'a, R>;
-
     ghost ready = { λ _. IsSync R.row };
 
     ghost refuses = { λ how e. MayFailToSolve how.options e };
 
-    /// As on one thread. Workers share the net that the strips of a move leave, if it is large.
-    fn strip_sites(&self) -> usize {
-        Alone.strip_sites()
+    fn solve(&self, alloc: Global, net: &Net) -> Result<Solved, SolveError> {
+        if is_alone(net, &self.options) {
+            return Alone.solve(alloc, net);
+        }
+        let gate = Lent { gate: *self.gate };
+        let options = options_for(net.nodes(), &self.options);
+        match solve_parallel(self.rt, alloc, net, &options, &gate) {
+            Ok(solved) => Ok(solved),
+            Err(error) => Err(refusal_of(error)),
+        }
     }
+
+    fn side(&self, alloc: Global, net: Net) -> Result<Vec<bool>, SolveError> {
+        if is_alone(&net, &self.options) {
+            return Alone.side(alloc, net);
+        }
+        let gate = Lent { gate: *self.gate };
+        let options = options_for(net.nodes(), &self.options);
+        match side_parallel(self.rt, alloc, net, &options, &gate) {
+            Ok(side) => Ok(side),
+            Err(error) => Err(refusal_of(error)),
+        }
+    }
+}
+
+impl<'a, R: Threads + Wait + Sync> Sharing for Workers<'a, R, &'a (dyn Gate + Sync)> {
+    type Fork = ByThreads<'a, R>;
 
     /// Two parts a thread, of two threads one, and one part in all where there is one thread or
     /// where there are few sites: one thread closes these in before others have started.
@@ -191,27 +212,11 @@ impl<'a, R: Threads + Wait + Sync> How for Workers<'a, R, &'a (dyn Gate + Sync)>
         }
     }
 
-    fn solve(&self, alloc: Global, net: &Net) -> Result<Solved, SolveError> {
-        if is_alone(net, &self.options) {
-            return Alone.solve(alloc, net);
-        }
-        let gate = Lent { gate: *self.gate };
-        let options = options_for(net.nodes(), &self.options);
-        match solve_parallel(self.rt, alloc, net, &options, &gate) {
-            Ok(solved) => Ok(solved),
-            Err(error) => Err(refusal_of(error)),
-        }
-    }
-
-    fn side(&self, alloc: Global, net: Net) -> Result<Vec<bool>, SolveError> {
-        if is_alone(&net, &self.options) {
-            return Alone.side(alloc, net);
-        }
-        let gate = Lent { gate: *self.gate };
-        let options = options_for(net.nodes(), &self.options);
-        match side_parallel(self.rt, alloc, net, &options, &gate) {
-            Ok(side) => Ok(side),
-            Err(error) => Err(refusal_of(error)),
-        }
+    /// Workers share the net that the strips of a move leave, if it is large and there are two or
+    /// more.
+    fn shares_nets(&self) -> bool
+        ensures { IsTrue result ↔ (1 < self.now.options.threads) }
+    {
+        self.options.threads > 1
     }
 }

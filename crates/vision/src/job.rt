@@ -24,7 +24,7 @@ use byte_streams::Sink;
 use cost_store::{DataCost, is_metric};
 use label_energies::Moves;
 use label_field::{Labelling, Pairs};
-use moves::{Bound, How, LabelPrices, Request, Run, run_with_table};
+use moves::{Bound, LabelPrices, Request, Run, Sharing, run_with_table};
 use pgm_image::{Image, put_image};
 use run_options::{Shape, smooth_table};
 use std::alloc::{AllocError, Global};
@@ -48,7 +48,7 @@ pub(crate) struct Finished {
 
 /// Makes the moves of a problem on the pixels of a picture, from the label 0 everywhere, and the
 /// picture of the last labels, which are its samples.
-pub(crate) fn run_job<F: Fn(u32, u32) -> i64 + Sync, H: How>(
+pub(crate) fn run_job<F: Fn(u32, u32) -> i64 + Sync, H: Sharing>(
     alloc: Global,
     picture: &Image,
     plan: Plan,

@@ -18,7 +18,7 @@ use crate::pairs::pairs_of;
 use crate::{Report, VisionError};
 use byte_streams::Sink;
 use cost_store::DataCost;
-use moves::{How, LabelPrices};
+use moves::{LabelPrices, Sharing};
 use pgm_image::Image;
 use run_options::RestoreOptions;
 use std::alloc::Global;
@@ -42,7 +42,7 @@ const LEVEL_LIMIT: u32 = 255;
 /// picture's written form, as many as are told. `OutOfMemory` may come before the first byte is
 /// written. `Potts` and `Linear` costs are a metric: with them no move is refused for a pair. The
 /// options are to be in their ranges, which `fits` tells.
-pub fn run_restore<H: How, S: Sink>(
+pub fn run_restore<H: Sharing, S: Sink>(
     alloc: Global,
     input: &[u8],
     options: &RestoreOptions,
@@ -65,7 +65,7 @@ pub fn run_restore<H: How, S: Sink>(
 }
 
 /// The restored picture of the input.
-fn restore_input<H: How>(
+fn restore_input<H: Sharing>(
     alloc: Global,
     input: &[u8],
     options: &RestoreOptions,
@@ -86,7 +86,7 @@ fn restore_input<H: How>(
 }
 
 /// The restored picture of another.
-fn restore<H: How>(
+fn restore<H: Sharing>(
     alloc: Global,
     picture: &Image,
     options: &RestoreOptions,

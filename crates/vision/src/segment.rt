@@ -16,7 +16,7 @@ use crate::{Report, VisionError};
 use byte_streams::Sink;
 use cost_store::DataCost;
 use label_energies::Moves;
-use moves::{How, LabelPrices};
+use moves::{LabelPrices, Sharing};
 use pgm_image::Image;
 use run_options::{SegmentOptions, Shape};
 use std::alloc::Global;
@@ -44,7 +44,7 @@ const SEED_COST: u32 = 10_000_000;
 /// never for a pair, `Write` where the sink failed, which then took the first bytes of the
 /// picture's written form, as many as are told. `OutOfMemory` may come before the first byte is
 /// written. The options are to be in their ranges, which `fits` tells.
-pub fn run_segment<H: How, S: Sink>(
+pub fn run_segment<H: Sharing, S: Sink>(
     alloc: Global,
     input: &[u8],
     options: &SegmentOptions,
@@ -67,7 +67,7 @@ pub fn run_segment<H: How, S: Sink>(
 }
 
 /// The picture of the labels of the input.
-fn part_input<H: How>(
+fn part_input<H: Sharing>(
     alloc: Global,
     input: &[u8],
     options: &SegmentOptions,
@@ -100,7 +100,7 @@ fn bad_seed(seeds: &[u16]) -> Option<usize>
 }
 
 /// The picture of the labels of a picture and its seeds.
-fn part<H: How>(
+fn part<H: Sharing>(
     alloc: Global,
     picture: &Image,
     seeds: &Image,

@@ -15,7 +15,7 @@ use crate::pairs::pairs_of;
 use crate::{Report, VisionError};
 use byte_streams::Sink;
 use cost_store::DataCost;
-use moves::{How, LabelPrices};
+use moves::{LabelPrices, Sharing};
 use pgm_image::Image;
 use run_options::StereoOptions;
 use std::alloc::{AllocError, Global};
@@ -38,7 +38,7 @@ use std::alloc::{AllocError, Global};
 /// then took the first bytes of the picture's written form, as many as are told. `OutOfMemory` may
 /// come before the first byte is written. `Potts` and `Linear` costs are a metric: with them no
 /// move is refused for a pair. The options are to be in their ranges, which `fits` tells.
-pub fn run_stereo<H: How, S: Sink>(
+pub fn run_stereo<H: Sharing, S: Sink>(
     alloc: Global,
     input: &[u8],
     options: &StereoOptions,
@@ -61,7 +61,7 @@ pub fn run_stereo<H: How, S: Sink>(
 }
 
 /// The picture of the shifts of the input.
-fn match_input<H: How>(
+fn match_input<H: Sharing>(
     alloc: Global,
     input: &[u8],
     options: &StereoOptions,
@@ -79,7 +79,7 @@ fn match_input<H: How>(
 }
 
 /// The picture of the shifts of two pictures of one size.
-fn match_pictures<H: How>(
+fn match_pictures<H: Sharing>(
     alloc: Global,
     left: &Image,
     right: &Image,
