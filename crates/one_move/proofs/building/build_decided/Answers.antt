@@ -3,6 +3,7 @@ use Rattle.label_energies.specs.Energies.{labelling}
 use Rattle.move_energy.specs.Choices.{choice_at}
 use Rattle.cost_store.proofs.Meaning.{pairs_meant}
 use Rattle.persistency.proofs.Borders.{decided_agree}
+use Rattle.one_move.proofs.OfProblem.{still_of_problem}
 use Rattle.one_move.proofs.Forms.{agreed_built, plain_built}
 use Rattle.one_move.proofs.building.build_decided.Goals as goal
 
@@ -48,3 +49,21 @@ returns-then-branch g c =
     plain_built _ _ c.args.problem.now c.args.at.now c.args.change c.close_apart.new.space c.build_rest.new.space c.requires.asked.posed
     (c.in_ok-close_apart.ensures.read c.if-branch.true) c.build_rest.ensures.same c.build_rest.ensures.kept c.in_ok-build_rest.ensures.form
     (λ m meant. c.in_ok-close_apart.ensures.agree m meant c.if-branch.true)
+
+pub returns-in_err-build_rest : goal.returns-in_err-build_rest
+returns-in_err-build_rest g c =
+    let p = err_from_is_err_and c.from_residual-in_err-build_rest.result c.from_residual-in_err-build_rest.ensures.1 in
+    record {
+      of_problem = still_of_problem _ _ c.args.problem.now c.close_apart.new.space c.build_rest.new.space c.build_rest.ensures.same c.in_ok-close_apart.ensures.of_problem;
+      left = rw (p.1) tt;
+      built = λ m meant. rw (p.1, p.2) tt;
+    }
+
+pub returns-then-space-size : goal.returns-then-space-size
+returns-then-space-size g c =
+    plain_built _ _ c.args.problem.now c.args.at.now c.args.change c.decide.new.space c.build_open.new.space c.requires.asked.posed
+    c.in_ok-decide.ensures.weighed.read c.build_open.ensures.same c.build_open.ensures.kept c.in_ok-build_open.ensures.form
+    (λ m meant.
+    let decided = c.in_ok-decide.ensures.decided m meant in
+    decided_agree m c.args.change (labelling c.args.at.now) (choice_at c.decide.new.space.built.variables.choices.items) (pairs_meant _ _ _ m c.requires.asked.posed meant)
+    decided.0 decided.1)

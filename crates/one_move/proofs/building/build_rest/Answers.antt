@@ -25,11 +25,11 @@ returns-then-space-clause-form g c =
           c.requires.read.numbers.allowed c.requires.read.numbers.read c.form-form.ensures.at c.form-form.ensures.of (λ m meant is. built.stands m a.change is);
     }
 
-pub build_read-2-requires-clause-count : goal.build_read-2-requires-clause-count
-build_read-2-requires-clause-count g c = c.requires.read.count ∙ ap (λ (f : List ℕ). length f) (sym c.form-form.ensures.at)
+pub build_read-requires-2-clause-count : goal.build_read-requires-2-clause-count
+build_read-requires-2-clause-count g c = c.requires.read.count ∙ ap (λ (f : List ℕ). length f) (sym c.form-form.ensures.at)
 
-pub build_read-2-requires-clause-opened : goal.build_read-2-requires-clause-opened
-build_read-2-requires-clause-opened g c =
+pub build_read-requires-2-clause-opened : goal.build_read-requires-2-clause-opened
+build_read-requires-2-clause-opened g c =
     let choices = c.args.space.now.built.variables.choices.items in
     let O : List ℕ → Type 0 = λ sites. AreOpenSites choices sites in
     let V : Vec ℕ → Type 0 = λ v. AreOpenSites choices v.items in
