@@ -17,5 +17,5 @@ mod smooth_costs;
 
 pub use lists::FormLists;
 pub use numbers::SiteForm;
-pub use rises::{read_rises, site_rises};
+pub use rises::{place_rises, read_rises, site_rises};
 pub use savings::pair_saving;

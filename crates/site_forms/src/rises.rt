@@ -19,7 +19,7 @@ use move_energy::{Choice, EndRises, Rises, SiteRises, is_first, rises_beside, we
 /// By how much the value rises where a site turns, as far as the neighbour at a place goes: while
 /// the neighbour is at 0, and while it is at 1.
 #[inline]
-fn place_rises(form: &SiteForm, site: u32, place: u32) -> EndRises
+pub fn place_rises(form: &SiteForm, site: u32, place: u32) -> EndRises
     requires place { IsSitePlace form.now site place }
     ensures { AreEndRises form.now (weight_of form.now.ends.now place)
         (is_first_of form.now.ends.now site place) (labelling form.now.at.now site)

@@ -321,6 +321,7 @@ impl Strips {
             built.new.variables.of_sites.items) }
         ensures bounded { OnOk result (IsQuadraticBounded term_limit built.new.form) }
         ensures few { OnOk result (vec_len built.new.form.weights ≤ site_limit) }
+        ensures nodes { OnOk result (vec_len built.new.form.weights ≡ length opened.now) }
         ensures stands { WhereRead form.now
             (λ m move f. OnOk result (Stands m move form.now.at.now built.new)) }
     {

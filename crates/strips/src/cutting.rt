@@ -73,6 +73,7 @@ pub(crate) fn write_open(
     ensures numbering { OnOk result (IsNumbering material.now.known.now numbers.new.items) }
     ensures bounded { OnOk result (IsQuadraticBounded term_limit written.new) }
     ensures few { OnOk result (vec_len written.new.weights ≤ site_limit) }
+    ensures nodes { OnOk result (vec_len written.new.weights ≡ length opened.now) }
     ensures stands { WhereRead material.now.form (λ m move f.
         weights.now ≡ map (site_weight m move f (choice_at material.now.start.now)) opened.now →
         OnOk result (StandsFor m move f (choice_at material.now.known.now) written.new

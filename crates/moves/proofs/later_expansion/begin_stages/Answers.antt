@@ -68,7 +68,7 @@ returns-clause-numbers g c =
     let a = c.args in
     let same = c.open_apart.ensures.same.decided.1 in
     let L : Deciding → Type 0 = λ d. AreFormLists a.at.now d.numbers in
-    on_ok (HasNumbersOf g.F.Fn g.V.Fn a.problem.now a.at.now (Expand a.alpha) c.open_apart.new.space) c.open_first.result record {
+    on_ok _ c.open_first.result record {
       sites = c.requires.asked.asked.sites;
       allowed = λ m meant. c.requires.allowed m meant;
       lists = subst L (sym same) c.in_ok-read.ensures.lists;

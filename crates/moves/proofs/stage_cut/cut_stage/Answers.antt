@@ -1,9 +1,11 @@
-use Rattle.std.proofs.Common.{sym, subst, vec_len}
+use Rattle.std.proofs.Common.{◌≡◌, ◌∙◌, List, length, ap, sym, subst, vec_len}
 use Rattle.label_energies.specs.Energies.{labelling}
 use Rattle.pseudo_bool.specs.Energies.{assignment}
 use Rattle.compile_cut.specs.declared.quadratic.Quadratic.{Quadratic}
 use Rattle.compile_cut.specs.Quadratics.{quadratic_value}
-use Rattle.move_energy.specs.Choices.{choice_at, open_rank, StandsFor}
+use Rattle.move_energy.specs.Choices.{choice_at, open_count, open_rank, StandsFor}
+use Rattle.move_energy.specs.declared.choice.Choice.{Choice}
+use Rattle.move_energy.proofs.Opened.{opened_count}
 use Rattle.site_bounds.specs.Decisions.{IsSmallestLeast}
 use Rattle.strips.specs.Looking.{IsStageLeast}
 use Rattle.moves.proofs.Stages.{stage_least, if_ok_map}
@@ -18,3 +20,12 @@ returns-clause-least g c = λ m move is.
     let stands = subst S (sym c.replace-left.ensures.value) (c.in_ok-build_read.ensures.stands m move is) in
     if_ok_map (λ bits. IsSmallestLeast (vec_len left.weights) (quadratic_value left) (assignment bits.items)) (λ bits. IsStageLeast m move f choices bits.items)
     c.cut_small.result (λ bits least. stage_least m move f choices left bits.items is.instance stands least) c.cut_small.ensures.least
+
+pub returns-clause-count : goal.returns-clause-count
+returns-clause-count g c =
+    let old = c.args.built.now.variables.choices.items in
+    let left = c.replace-left.result in
+    let nodes : vec_len left.weights ≡ length c.args.opened.now = ap (λ (q : Quadratic). vec_len q.weights) c.replace-left.ensures.value ∙ c.in_ok-build_read.ensures.nodes in
+    let count = nodes ∙ opened_count old c.args.opened.now c.requires.opened ∙ ap (λ (ks : List Choice). open_count ks) (sym c.build_read.ensures.kept) in
+    if_ok_map (λ bits. length bits.items ≡ vec_len left.weights) (λ bits. length bits.items ≡ open_count c.build_read.new.built.variables.choices.items)
+    c.cut_small.result (λ bits is. is ∙ count) c.cut_small.ensures.count
