@@ -32,7 +32,7 @@ const TABLE_LABELS: u32 = 64;
 /// each label of its neighbour.
 const ENTRIES: usize = 8192;
 
-/// The lists of a form. They keep their memory from move to move: 4 bytes a site, 256 KB, and 64 KB
+/// The lists of a form. They keep their memory from move to move: 4 bytes a site, 128 KB, and 64 KB
 /// where there are at most 64 labels. They keep the smooth costs too, so that a run asks each two
 /// labels once.
 #[derive(Drop)]
@@ -71,22 +71,22 @@ fn list_labels(list: &mut Vec<u8>, change: Move, bit: bool, labels: u32) -> Resu
 
 /// By how much a pair of weight 1 rises whose first end, or its second, has the one label and
 /// turns, while its other end has a label.
-fn unit_rise_of(stays: &[u8], turns: &[u8], smooth: &[u32], first: bool, own: u8, other: u8) -> i32
+fn unit_rise_of(stays: &[u8], turns: &[u8], smooth: &[u16], first: bool, own: u8, other: u8) -> i32
     requires stays { length stays.now ≡ label_limit }
     requires turns { length turns.now ≡ label_limit }
     requires size { length smooth.now ≡ 65536 }
     requires small { AreCostsSmall smooth.now }
     ensures { result ≡ unit_rise stays.now turns.now smooth.now first own other }
 {
-    smooth_of(smooth, first, turns[own as usize], other) as i32
-        - smooth_of(smooth, first, stays[own as usize], other) as i32
+    i32::from(smooth_of(smooth, first, turns[own as usize], other))
+        - i32::from(smooth_of(smooth, first, stays[own as usize], other))
 }
 
 /// The rises of a pair of weight 1, by the labels of its ends.
 fn unit_rises_of(
     stays: &[u8],
     turns: &[u8],
-    smooth: &[u32],
+    smooth: &[u16],
     first: bool,
     own: u8,
     other: u8,
@@ -111,7 +111,7 @@ fn write_row(
     table: &mut [EndRises],
     stays: &[u8],
     turns: &[u8],
-    smooth: &[u32],
+    smooth: &[u16],
     first: bool,
     own: u8,
     labels: u32,
@@ -135,7 +135,7 @@ fn write_row(
 }
 
 /// Writes the rises of pairs of weight 1 by the labels of their ends, of which there are so many.
-fn write_rises(table: &mut [EndRises], stays: &[u8], turns: &[u8], smooth: &[u32], labels: u32)
+fn write_rises(table: &mut [EndRises], stays: &[u8], turns: &[u8], smooth: &[u16], labels: u32)
     requires stays { length stays.now ≡ label_limit }
     requires turns { length turns.now ≡ label_limit }
     requires size { length smooth.now ≡ 65536 }

@@ -16,7 +16,7 @@ pub struct SiteForm<'a> {
     pub at: &'a [u8],
     pub stays: &'a [u8],
     pub turns: &'a [u8],
-    pub smooth: &'a [u32],
+    pub smooth: &'a [u16],
     pub few: bool,
     pub table: &'a [EndRises],
     pub ghost form: { AreReadable ends.now own.now at.now stays.now turns.now smooth.now few

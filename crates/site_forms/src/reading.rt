@@ -13,7 +13,7 @@ use move_energy::EndRises;
 /// What a pair of weight 1 costs whose first end, or its second, has the one label, and its other
 /// end the other.
 #[inline]
-pub(crate) fn smooth_of(smooth: &[u32], first: bool, own: u8, other: u8) -> u32
+pub(crate) fn smooth_of(smooth: &[u16], first: bool, own: u8, other: u8) -> u16
     requires size { length smooth.now ≡ 65536 }
     ensures { result ≡ table_cost smooth.now first own other }
 {
@@ -28,14 +28,14 @@ pub(crate) fn smooth_of(smooth: &[u32], first: bool, own: u8, other: u8) -> u32
 
 /// What a pair of this weight costs by the table.
 #[inline]
-fn pair_cost(smooth: &[u32], first: bool, weight: u32, own: u8, other: u8) -> i32
+fn pair_cost(smooth: &[u16], first: bool, weight: u32, own: u8, other: u8) -> i32
     requires size { length smooth.now ≡ 65536 }
     requires weight { weight ≤ weight_limit }
     requires cost { table_cost smooth.now first own other ≤ 10000 }
     ensures cost { result ≡ pos (weight * table_cost smooth.now first own other) }
     ensures small { unsigned_abs result ≤ pair_cost_limit }
 {
-    (weight * smooth_of(smooth, first, own, other)) as i32
+    (weight * u32::from(smooth_of(smooth, first, own, other))) as i32
 }
 
 /// By how much the cost of a pair of this weight rises where its end of one label turns, while its

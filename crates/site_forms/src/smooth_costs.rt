@@ -20,13 +20,13 @@ const LABELS: usize = 256;
 const COSTS: usize = 65536;
 
 /// What labels cost beside one another. A label is asked where it is first in use, beside each that
-/// was asked before: so each two labels are asked once a run. It takes 256 KB once a label was.
+/// was asked before: so each two labels are asked once a run. It takes 128 KB once a label was.
 #[derive(Drop)]
 pub(crate) struct AskedCosts {
     /// Of each label whether it was asked.
     pub labels: Vec<bool>,
     /// What a pair of weight 1 costs: a row for each label of its first end.
-    pub costs: Vec<u32>,
+    pub costs: Vec<u16>,
 }
 
 /// What a pair of weight 1 costs whose first end has the one label and its second the other.
@@ -34,19 +34,19 @@ fn cost_of<F: Fn(u32, u32) -> i64 + Sync, V: Fn(u32, u32) -> i64 + Sync>(
     problem: &Problem<F, V>,
     one: u32,
     other: u32,
-) -> u32
+) -> u16
     requires posed { IsPosed F.Fn V.Fn problem.now }
     requires labels { (one < problem.now.data_cost.labels)
         × (other < problem.now.data_cost.labels) }
     ensures cost { WhereMeant F.Fn V.Fn problem.now (λ m. result ≡ m.smooth_cost one other) }
     ensures small { result ≤ 10000 }
 {
-    problem.smooth_cost.cost(one, other) as u32
+    problem.smooth_cost.cost(one, other) as u16
 }
 
 /// Asks for that cost.
 fn ask_cost<F: Fn(u32, u32) -> i64 + Sync, V: Fn(u32, u32) -> i64 + Sync>(
-    costs: &mut [u32],
+    costs: &mut [u16],
     problem: &Problem<F, V>,
     one: u32,
     other: u32,
@@ -66,7 +66,7 @@ fn ask_cost<F: Fn(u32, u32) -> i64 + Sync, V: Fn(u32, u32) -> i64 + Sync>(
 
 /// Asks what a label costs beside another, with either at the first end, if that was asked.
 fn ask_both<F: Fn(u32, u32) -> i64 + Sync, V: Fn(u32, u32) -> i64 + Sync>(
-    costs: &mut [u32],
+    costs: &mut [u16],
     labels: &[bool],
     problem: &Problem<F, V>,
     label: u32,
@@ -92,7 +92,7 @@ fn ask_both<F: Fn(u32, u32) -> i64 + Sync, V: Fn(u32, u32) -> i64 + Sync>(
 
 /// Asks what a label costs beside each that was asked.
 fn ask_beside<F: Fn(u32, u32) -> i64 + Sync, V: Fn(u32, u32) -> i64 + Sync>(
-    costs: &mut [u32],
+    costs: &mut [u16],
     labels: &[bool],
     problem: &Problem<F, V>,
     label: u32,
@@ -122,7 +122,7 @@ fn grow_labels(labels: &mut Vec<bool>) -> Result<(), AllocError>
 }
 
 /// Makes room for their costs. Those that were listed stay.
-fn grow_costs(costs: &mut Vec<u32>) -> Result<(), AllocError>
+fn grow_costs(costs: &mut Vec<u16>) -> Result<(), AllocError>
     ensures same { (k : ℕ) → k < 65536 →
         slice_index costs.new.items k ≡ slice_index costs.old.items k }
     ensures small { AreCostsSmall costs.old.items → AreCostsSmall costs.new.items }
