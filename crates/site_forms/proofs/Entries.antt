@@ -1,10 +1,13 @@
 -- What the lists of a form hold, and where.
-use Rattle.std.proofs.Common.{◌≡◌, ℕ, ◌+◌, ◌*◌, ◌<◌, ◌≤◌, Bool, true, false, List, All, length, slice_index, ℤ, pos, ◌-ℤ◌, unsigned_abs, inl, inr, arith}
+use Rattle.std.proofs.Common.{◌≡◌, ℕ, ◌+◌, ◌*◌, ◌<◌, ◌≤◌, Bool, true, false, List, sym, ◌∙◌, All, length, slice_index, ℤ, pos, ◌-ℤ◌, unsigned_abs, inl, inr, arith}
 use Rattle.std.proofs.lemmas.Int.{ints}
 use Rattle.std.proofs.lemmas.Bool.{cases_lt}
 use Rattle.std.proofs.lemmas.List.{get_or_past}
 use Rattle.std.proofs.lemmas.List.Elements.{All-get_or}
-use Rattle.site_forms.specs.Fields.{table_cost, unit_rise, own_at, IsSiteLabel}
+use Rattle.move_energy.specs.declared.rises.EndRises.{EndRises}
+use Rattle.site_forms.specs.Fields.{table_cost, unit_rise, own_at, IsSiteLabel, AreSymmetric}
+use Rattle.site_forms.specs.declared.numbers.SiteForm.{SiteForm}
+use Rattle.site_forms.specs.Numbers.{label_by, end_rise_by, AreEndRises}
 
 pub label_within : (at : List ℕ) (u k : ℕ) → u < length at → All (λ label. label < k) at → slice_index at u < k
 label_within at u k l all = All-get_or (λ label. label < k) at u 0 l all
@@ -41,3 +44,26 @@ pub unit_small : (stays turns smooth : List ℕ) (first : Bool) (own label : ℕ
 unit_small stays turns smooth first own label z each is =
     difference_small (table_cost smooth first (slice_index turns own) label) (table_cost smooth first (slice_index stays own) label) z is
     (small_cost smooth first (slice_index turns own) label each) (small_cost smooth first (slice_index stays own) label each)
+
+-- ---- costs that are the same in both orders
+
+label_by_below : (form : SiteForm) (old : ℕ) (bit : Bool) → label_by form old bit < 256
+label_by_below form old true = form.form.numbers.turns_below old
+label_by_below form old false = form.form.numbers.stays_below old
+
+either_rise : (form : SiteForm) (weight : ℕ) (own other : ℕ) (bit : Bool) → AreSymmetric form.smooth.now
+    → end_rise_by form weight true own other bit ≡ end_rise_by form weight false own other bit
+either_rise form weight own other bit same =
+    let at = λ (b : Bool). same (label_by form own b) (label_by form other bit) (label_by_below form own b) (label_by_below form other bit) in
+    (λ i. pos (weight * at true i) -ℤ pos (weight * at false i))
+
+-- the rises of a first end are those of a second end
+pub either_end : (form : SiteForm) (weight : ℕ) (first : Bool) (own other : ℕ) (rises : EndRises) → AreSymmetric form.smooth.now
+    → AreEndRises form weight true own other rises → AreEndRises form weight first own other rises
+either_end form weight true own other rises same are = are
+either_end form weight false own other rises same are = record {
+  low = are.low ∙ either_rise form weight own other false same;
+  high = are.high ∙ either_rise form weight own other true same;
+  low_small = are.low_small;
+  high_small = are.high_small;
+}

@@ -41,6 +41,11 @@ pub record AreUnitRises (stays turns smooth : List ℕ) (first : Bool) (own othe
   pub low : rises.low ≡ unit_rise stays turns smooth first own (slice_index stays other)
   pub high : rises.high ≡ unit_rise stays turns smooth first own (slice_index turns other)
 
+-- each two of 256 labels cost the same in both orders
+abbrev pub AreSymmetric : List ℕ → Type 0
+AreSymmetric smooth = (one other : ℕ) → one < label_limit → other < label_limit
+    → slice_index smooth (one * label_limit + other) ≡ slice_index smooth (other * label_limit + one)
+
 -- some site has this label
 abbrev pub IsSiteLabel : List ℕ → ℕ → Type 0
 IsSiteLabel at label = (u : ℕ) × (u < length at) × (labelling at u ≡ label)
@@ -70,16 +75,19 @@ pub record ArePlaces (n : ℕ) (ends : Neighbours) : Type 0 where
       → place < neighbours_start ends (u + 1) → weight_at ends place ≤ weight_limit
 
 -- a label and an own rise for each site, two labels for each label, and a cost for each two of 256
--- labels; and where there are few labels, a table of what a pair of weight 1 rises by whose ends
--- have labels of sites. None is large
-pub record AreReadableLists (own : List ℤ) (at stays turns smooth : List ℕ) (few : Bool)
+-- labels, the same in both orders if it is said so; and where there are few labels, a table of what
+-- a pair of weight 1 rises by whose ends have labels of sites. None is large
+pub record AreReadableLists (own : List ℤ) (at stays turns smooth : List ℕ) (symmetric few : Bool)
     (table : List EndRises) : Type 0 where
   pub own_len : length own ≡ length at
   pub own_small : (u : ℕ) → unsigned_abs (own_at own u) ≤ site_cost_limit
   pub stays_len : length stays ≡ label_limit
   pub turns_len : length turns ≡ label_limit
+  pub stays_below : (old : ℕ) → slice_index stays old < label_limit
+  pub turns_below : (old : ℕ) → slice_index turns old < label_limit
   pub smooth_len : length smooth ≡ 65536
   pub costs : (place : ℕ) → slice_index smooth place ≤ 10000
+  pub mirrored : symmetric ≡ true → AreSymmetric smooth
   pub table_len : few ≡ true → length table ≡ 8192
   pub few_labels : few ≡ true → (u : ℕ) → u < length at → slice_index at u < table_labels
   pub rises : few ≡ true → (first : Bool) (own other : ℕ) → IsSiteLabel at own
@@ -88,9 +96,9 @@ pub record AreReadableLists (own : List ℤ) (at stays turns smooth : List ℕ) 
 
 -- the lists are of these sites and their places
 pub record AreReadable (ends : Neighbours) (own : List ℤ) (at stays turns smooth : List ℕ)
-    (few : Bool) (table : List EndRises) : Type 0 where
+    (symmetric few : Bool) (table : List EndRises) : Type 0 where
   pub places : ArePlaces (length at) ends
-  pub numbers : AreReadableLists own at stays turns smooth few table
+  pub numbers : AreReadableLists own at stays turns smooth symmetric few table
 
 -- they were read of a move from these labels: what each label becomes, what the labels that the
 -- move makes cost beside one another, and what each site's own rise is

@@ -8,7 +8,7 @@ use Rattle.label_energies.specs.Energies.{Instance, labelling}
 use Rattle.label_energies.specs.Moves.{label_after}
 use Rattle.cost_store.specs.declared.problem.Problem.{Problem}
 use Rattle.cost_store.specs.Posed.{Closure, WhereMeant}
-use Rattle.site_forms.specs.Fields.{AreReadableLists, AreReadOf}
+use Rattle.site_forms.specs.Fields.{AreReadableLists, AreReadOf, AreSymmetric}
 use Rattle.site_forms.specs.declared.lists.FormLists.{FormLists}
 use Rattle.site_forms.specs.declared.smooth_costs.AskedCosts.{AskedCosts}
 
@@ -37,11 +37,12 @@ pub record GetsCostOf (m : Instance) (one other : ℕ) (old new : List ℕ) : Ty
   pub cost : HasCostOf m new one other
   pub kept : KeepsCostsOf m old new
 
--- what each two labels that were asked cost a pair is what they cost in the problem, and no cost is
--- large
+-- what each two labels that were asked cost a pair is what they cost in the problem, the same in both
+-- orders if it is said so, and no cost is large
 pub record AreAskedCosts {F V : Type 0} (f : Closure F) (v : Closure V) (problem : Problem F V)
     (asked : AskedCosts) : Type 0 where
   pub small : AreCostsSmall asked.costs.items
+  pub mirrored : asked.symmetric ≡ true → AreSymmetric asked.costs.items
   pub costs : WhereMeant f v problem (λ m. (one other : ℕ) → one < m.labels → other < m.labels
       → was_asked asked one ≡ true → was_asked asked other ≡ true
       → HasCostOf m asked.costs.items one other)
@@ -85,7 +86,7 @@ HasNoCosts lists = (lists.smooth.labels.items ≡ []) × (lists.smooth.costs.ite
 -- the lists have numbers for each site, label and two labels, none of them large
 abbrev pub AreFormLists : List ℕ → FormLists → Type 0
 AreFormLists at lists = AreReadableLists lists.own.items at lists.stays.items lists.turns.items
-    lists.smooth.costs.items lists.few lists.table.items
+    lists.smooth.costs.items lists.smooth.symmetric lists.few lists.table.items
 
 -- they were read of a move from these labels
 abbrev pub IsReadOf : Instance → Move → List ℕ → FormLists → Type 0

@@ -61,7 +61,9 @@ fn list_labels(list: &mut Vec<u8>, change: Move, bit: bool, labels: u32) -> Resu
     ensures count { OnOk result (length list.new.items ≡ label_limit) }
     ensures each { OnOk result ((old : ℕ) → old < labels →
         slice_index list.new.items old ≡ label_after change old bit) }
+    ensures below { OnOk result ((old : ℕ) → slice_index list.new.items old < label_limit) }
 {
+    list.clear();
     list.resize(256, 0)?;
     for label in 0..labels {
         list[label as usize] = change.label(label, bit) as u8;
@@ -287,6 +289,7 @@ impl FormLists {
             stays: &self.stays,
             turns: &self.turns,
             smooth: &self.smooth.costs,
+            symmetric: self.smooth.symmetric,
             few: self.few,
             table: &self.table,
         }

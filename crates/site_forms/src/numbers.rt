@@ -6,8 +6,8 @@ use move_energy::{EndRises, Neighbours};
 
 /// What a move is read of: the pairs and by site the neighbours, each site's own rise and its
 /// label, what each label becomes where the site's value is 0 and where it is 1, and what two
-/// labels cost a pair of weight 1. Where there are few labels, a table has the rises of such a pair
-/// by the labels of its ends.
+/// labels cost a pair of weight 1, and whether that is the same in both orders. Where there are few
+/// labels, a table has the rises of such a pair by the labels of its ends.
 #[derive(Clone, Copy)]
 pub struct SiteForm<'a> {
     pub pairs: &'a Pairs,
@@ -17,8 +17,9 @@ pub struct SiteForm<'a> {
     pub stays: &'a [u8],
     pub turns: &'a [u8],
     pub smooth: &'a [u16],
+    pub symmetric: bool,
     pub few: bool,
     pub table: &'a [EndRises],
-    pub ghost form: { AreReadable ends.now own.now at.now stays.now turns.now smooth.now few
-        table.now },
+    pub ghost form: { AreReadable ends.now own.now at.now stays.now turns.now smooth.now
+        symmetric few table.now },
 }

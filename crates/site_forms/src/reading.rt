@@ -91,7 +91,7 @@ fn times(weight: u32, rise: i32) -> i32
 /// By how much the cost of a pair of this weight rises where its first end, or its second, turns:
 /// while the value of its other end is 0, and while it is 1. The ends have these labels.
 #[inline]
-pub(crate) fn end_rises(form: &SiteForm, first: bool, weight: u32, own: u8, other: u8) -> EndRises
+fn ordered_rises(form: &SiteForm, first: bool, weight: u32, own: u8, other: u8) -> EndRises
     requires weight { weight ≤ weight_limit }
     requires own { IsSiteLabel form.now.at.now own }
     requires other { IsSiteLabel form.now.at.now other }
@@ -108,4 +108,19 @@ pub(crate) fn end_rises(form: &SiteForm, first: bool, weight: u32, own: u8, othe
         low: end_rise(form, first, weight, own, form.stays[other as usize]),
         high: end_rise(form, first, weight, own, form.turns[other as usize]),
     }
+}
+
+/// The same. Where each two labels cost the same in both orders, the first end is read for the
+/// second, so that a row of costs is chosen once a site.
+#[inline]
+pub(crate) fn end_rises(form: &SiteForm, first: bool, weight: u32, own: u8, other: u8) -> EndRises
+    requires weight { weight ≤ weight_limit }
+    requires own { IsSiteLabel form.now.at.now own }
+    requires other { IsSiteLabel form.now.at.now other }
+    ensures { AreEndRises form.now weight first own other result }
+{
+    if form.symmetric {
+        return ordered_rises(form, true, weight, own, other);
+    }
+    ordered_rises(form, first, weight, own, other)
 }

@@ -1,10 +1,11 @@
 //! What labels cost beside one another, asked once.
-ghost use Rattle.std.specs.Prelude.{◌≡◌, ◌<◌, ◌≤◌, ℕ, true, false, [], All, length, OnOk};
-ghost use Rattle.std.specs.Prelude.{slice_index, slice_index_or};
+ghost use Rattle.std.specs.Prelude.{◌≡◌, ◌<◌, ◌≤◌, ◌+◌, ◌*◌, ℕ, true, false, [], All, length, OnOk};
+ghost use Rattle.std.specs.Prelude.{slice_index, slice_index_or, slice_set};
 ghost use Rattle.label_field.specs.Limits.{label_limit};
 ghost use Rattle.label_energies.specs.Energies.{labelling};
 ghost use Rattle.label_energies.specs.Moves.{IsMoveOf};
 ghost use Rattle.cost_store.specs.Posed.{IsPosed, IsAsked, WhereMeant};
+ghost use Rattle.site_forms.specs.Fields.{AreSymmetric};
 ghost use Rattle.site_forms.specs.Lists.{was_asked, AreCostsSmall, HasCostOf};
 ghost use Rattle.site_forms.specs.Lists.{AreAskedCosts, HasCostRoom, AsksLabel, AreMadeAsked};
 ghost use Rattle.site_forms.specs.Lists.{GetsCostOf, KeepsCostsOf, KeepsAsked};
@@ -27,6 +28,15 @@ pub(crate) struct AskedCosts {
     pub labels: Vec<bool>,
     /// What a pair of weight 1 costs: a row for each label of its first end.
     pub costs: Vec<u16>,
+    /// Whether each two labels that were asked cost the same in both orders.
+    pub symmetric: bool,
+}
+
+/// Whether both hold.
+fn both(one: bool, other: bool) -> bool
+    ensures { result ≡ true → (one ≡ true) × (other ≡ true) }
+{
+    one && other
 }
 
 /// What a pair of weight 1 costs whose first end has the one label and its second the other.
@@ -44,13 +54,13 @@ fn cost_of<F: Fn(u32, u32) -> i64 + Sync, V: Fn(u32, u32) -> i64 + Sync>(
     problem.smooth_cost.cost(one, other) as u16
 }
 
-/// Asks for that cost.
+/// Asks for that cost, and answers it.
 fn ask_cost<F: Fn(u32, u32) -> i64 + Sync, V: Fn(u32, u32) -> i64 + Sync>(
     costs: &mut [u16],
     problem: &Problem<F, V>,
     one: u32,
     other: u32,
-)
+) -> u16
     requires posed { IsPosed F.Fn V.Fn problem.now }
     requires few { problem.now.data_cost.labels ≤ label_limit }
     requires labels { (one < problem.now.data_cost.labels)
@@ -59,19 +69,22 @@ fn ask_cost<F: Fn(u32, u32) -> i64 + Sync, V: Fn(u32, u32) -> i64 + Sync>(
     ensures cost { WhereMeant F.Fn V.Fn problem.now
         (λ m. GetsCostOf m one other costs.old costs.new) }
     ensures small { AreCostsSmall costs.old → AreCostsSmall costs.new }
+    ensures written { costs.new ≡ slice_set costs.old (one * label_limit + other) result }
 {
     let cost = cost_of(problem, one, other);
     costs[one as usize * LABELS + other as usize] = cost;
+    cost
 }
 
 /// Asks what a label costs beside another, with either at the first end, if that was asked.
+/// It answers whether both cost the same.
 fn ask_both<F: Fn(u32, u32) -> i64 + Sync, V: Fn(u32, u32) -> i64 + Sync>(
     costs: &mut [u16],
     labels: &[bool],
     problem: &Problem<F, V>,
     label: u32,
     other: u32,
-)
+) -> bool
     requires posed { IsPosed F.Fn V.Fn problem.now }
     requires few { problem.now.data_cost.labels ≤ label_limit }
     requires labels { (label < problem.now.data_cost.labels)
@@ -82,21 +95,24 @@ fn ask_both<F: Fn(u32, u32) -> i64 + Sync, V: Fn(u32, u32) -> i64 + Sync>(
         HasCostOf m costs.new label other × HasCostOf m costs.new other label) }
     ensures kept { WhereMeant F.Fn V.Fn problem.now (λ m. KeepsCostsOf m costs.old costs.new) }
     ensures small { AreCostsSmall costs.old → AreCostsSmall costs.new }
+    ensures symmetric { result ≡ true → AreSymmetric costs.old → AreSymmetric costs.new }
 {
     if !labels[other as usize] {
-        return;
+        return true;
     }
-    ask_cost(costs, problem, label, other);
-    ask_cost(costs, problem, other, label);
+    let cost = ask_cost(costs, problem, label, other);
+    let mirrored = ask_cost(costs, problem, other, label);
+    cost == mirrored
 }
 
-/// Asks what a label costs beside each that was asked.
+/// Asks what a label costs beside each that was asked. It answers whether all cost the
+/// same in both orders.
 fn ask_beside<F: Fn(u32, u32) -> i64 + Sync, V: Fn(u32, u32) -> i64 + Sync>(
     costs: &mut [u16],
     labels: &[bool],
     problem: &Problem<F, V>,
     label: u32,
-)
+) -> bool
     requires posed { IsPosed F.Fn V.Fn problem.now }
     requires few { problem.now.data_cost.labels ≤ label_limit }
     requires label { label < problem.now.data_cost.labels }
@@ -106,10 +122,14 @@ fn ask_beside<F: Fn(u32, u32) -> i64 + Sync, V: Fn(u32, u32) -> i64 + Sync>(
         HasCostOf m costs.new label other × HasCostOf m costs.new other label) }
     ensures kept { WhereMeant F.Fn V.Fn problem.now (λ m. KeepsCostsOf m costs.old costs.new) }
     ensures small { AreCostsSmall costs.old → AreCostsSmall costs.new }
+    ensures symmetric { result ≡ true → AreSymmetric costs.old → AreSymmetric costs.new }
 {
+    let mut symmetric = true;
     for other in 0..problem.data_cost.labels {
-        ask_both(costs, labels, problem, label, other);
+        let mirrored = ask_both(costs, labels, problem, label, other);
+        symmetric = both(symmetric, mirrored);
     }
+    symmetric
 }
 
 /// Makes room for 256 labels. Those that were asked stay so.
@@ -126,6 +146,7 @@ fn grow_costs(costs: &mut Vec<u16>) -> Result<(), AllocError>
     ensures same { (k : ℕ) → k < 65536 →
         slice_index costs.new.items k ≡ slice_index costs.old.items k }
     ensures small { AreCostsSmall costs.old.items → AreCostsSmall costs.new.items }
+    ensures symmetric { AreSymmetric costs.old.items → AreSymmetric costs.new.items }
     ensures size { OnOk result (length costs.new.items ≡ 65536) }
 {
     costs.resize(COSTS, 0)
@@ -139,6 +160,7 @@ impl AskedCosts {
         AskedCosts {
             labels: Vec::new(alloc),
             costs: Vec::new(alloc),
+            symmetric: true,
         }
     }
 
@@ -171,7 +193,8 @@ impl AskedCosts {
         ensures asks { AsksLabel label self.old self.new }
     {
         self.labels[label as usize] = true;
-        ask_beside(self.costs.as_mut_slice(), &self.labels, problem, label);
+        let mirrored = ask_beside(self.costs.as_mut_slice(), &self.labels, problem, label);
+        self.symmetric = both(self.symmetric, mirrored);
     }
 
     /// Asks a label, unless it was asked.

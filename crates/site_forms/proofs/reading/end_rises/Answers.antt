@@ -1,26 +1,7 @@
-use Rattle.std.proofs.Common.{refl, ap, ◌∙◌}
-use Rattle.move_energy.specs.declared.rises.EndRises.{EndRises}
-use Rattle.site_forms.proofs.Places.{times_is}
-use Rattle.site_forms.proofs.Entries.{small_cost, few_label}
+use Rattle.site_forms.proofs.Entries.{either_end}
 use Rattle.site_forms.proofs.reading.end_rises.Goals as goal
-
-pub unit_rises-rises-requires-clause-few : goal.unit_rises-rises-requires-clause-few
-unit_rises-rises-requires-clause-few c =
-    let form = c.args.form.now in
-    let few = form.form.numbers.few_labels c.if-form.true in
-    (few_label form.at.now c.args.own few c.requires.own, few_label form.at.now c.args.other few c.requires.other)
 
 pub returns-then-form : goal.returns-then-form
 returns-then-form c =
     let a = c.args in
-    let form = a.form.now in
-    let f = form.form.numbers in
-    let rises = c.unit_rises-rises.ensures in
-    let told = f.rises c.if-form.true a.first a.own a.other c.requires.own c.requires.other in
-    let low = times_is a.weight a.weight _ _ c.unit_rises-rises.result.low c.times.result refl
-    (ap (λ (r : EndRises). r.low) rises ∙ told.low)
-    (small_cost form.smooth.now a.first _ _ f.costs) (small_cost form.smooth.now a.first _ _ f.costs) c.times.ensures.product c.times.ensures.small in
-    let high = times_is a.weight a.weight _ _ c.unit_rises-rises.result.high c.times-then-form.result refl
-    (ap (λ (r : EndRises). r.high) rises ∙ told.high)
-    (small_cost form.smooth.now a.first _ _ f.costs) (small_cost form.smooth.now a.first _ _ f.costs) c.times-then-form.ensures.product c.times-then-form.ensures.small in
-    record { low = low.0; high = high.0; low_small = low.1; high_small = high.1 }
+    either_end a.form.now a.weight a.first a.own a.other c.ordered_rises.result (a.form.now.form.numbers.mirrored c.if-form.true) c.ordered_rises.ensures

@@ -8,9 +8,9 @@ pub loop-other-preserved : goal.loop-other-preserved
 loop-other-preserved g c =
     let a = c.args in
     let i = c.loop-other.invariant in
-    let e = c.ask_both.ensures in
+    let e = c.ask_both-mirrored.ensures in
     let n = c.loop-other.other in
-    let new = c.ask_both.new.costs in
+    let new = c.ask_both-mirrored.new.costs in
     let few = c.requires.few in
     record {
       beside = λ m meant other l marked. elim (cases_eq other n) [
@@ -26,6 +26,7 @@ loop-other-preserved g c =
       ];
       kept = λ m meant one other l had. e.kept m meant one other l (i.kept m meant one other l had);
       small = λ each. e.small (i.small each);
+      mirrored = λ all each. (let two = c.both-symmetric.ensures all in e.symmetric two.1 (i.mirrored two.0 each));
     }
 
 pub returns-clause-beside : goal.returns-clause-beside

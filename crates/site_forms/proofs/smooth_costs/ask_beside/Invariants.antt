@@ -2,6 +2,7 @@ use Rattle.std.proofs.Common.{◌≡◌, ◌<◌, ℕ, true, false}
 use Rattle.std.specs.Prelude.{slice_index_or}
 use Rattle.label_energies.specs.Energies.{Instance}
 use Rattle.cost_store.specs.Posed.{IsMeant}
+use Rattle.site_forms.specs.Fields.{AreSymmetric}
 use Rattle.site_forms.specs.Lists.{HasCostOf, KeepsCostsOf, AreCostsSmall}
 use Rattle.site_forms.proofs.smooth_costs.ask_beside.Given as goal
 
@@ -11,4 +12,5 @@ invariant-loop-other g l = record {
       → HasCostOf m l.costs l.label other × HasCostOf m l.costs other l.label;
   kept : (m : Instance) → IsMeant g.F.Fn g.V.Fn l.problem m → KeepsCostsOf m l.fn.costs l.costs;
   small : AreCostsSmall l.fn.costs → AreCostsSmall l.costs;
+  mirrored : l.symmetric ≡ true → AreSymmetric l.fn.costs → AreSymmetric l.costs;
 }

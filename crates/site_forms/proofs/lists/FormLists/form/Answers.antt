@@ -11,7 +11,7 @@ invariant_of-result c =
       form = record {
         places = pairs_places a.pairs.now a.ends.now (length a.at.now) c.requires.sites c.keeps.ensures c.requires.by_site;
         numbers = subst (λ (X : Type 0). X)
-            (λ i. AreReadableLists (sym c.deref.ensures.value i) a.at.now (sym c.deref-2.ensures.value i) (sym c.deref-3.ensures.value i) (sym c.deref-4.ensures.value i) a.self.now.few (sym c.deref-5.ensures.value i))
+            (λ i. AreReadableLists (sym c.deref.ensures.value i) a.at.now (sym c.deref-2.ensures.value i) (sym c.deref-3.ensures.value i) (sym c.deref-4.ensures.value i) a.self.now.smooth.symmetric a.self.now.few (sym c.deref-5.ensures.value i))
             c.requires.lists;
       };
     }
