@@ -1,5 +1,6 @@
 -- What was read for a move tells the rises of its energies.
-use Rattle.std.proofs.Common.{◌≡◌, ℕ, ◌+◌, ◌*◌, ◌<◌, Bool, true, false, cond, pos, ◌+ℤ◌, ◌-ℤ◌, refl, sym, ◌∙◌, arith, length}
+use Rattle.std.proofs.Common.{◌≡◌, ℕ, ◌+◌, ◌*◌, ◌<◌, Bool, true, false, cond, ℤ, pos, ◌+ℤ◌, ◌-ℤ◌, refl, sym, ◌∙◌, arith, length}
+use Rattle.std.proofs.lemmas.Int.{ints}
 use Rattle.sums.proofs.IntegerSumLemmas.{int_sum_below-same}
 use Rattle.label_energies.specs.declared.change.Move.{Move}
 use Rattle.label_energies.specs.Energies.{Instance, labelling}
@@ -13,7 +14,11 @@ use Rattle.site_forms.specs.MoveForms.{move_form, end_rise_at}
 use Rattle.site_forms.proofs.Moving as moving
 use Rattle.site_forms.specs.Fields.{table_cost, AreReadOf, IsSiteLabel, IsMadeLabel}
 use Rattle.site_forms.specs.declared.numbers.SiteForm.{SiteForm}
-use Rattle.site_forms.specs.Numbers.{form_of, label_by, end_rise_by, rise_at_place, IsFormOf}
+use Rattle.move_energy.specs.BySite.{pair_from}
+use Rattle.move_energy.specs.declared.rises.EndRises.{EndRises}
+use Rattle.move_energy.specs.Weights.{surplus_of, pair_table}
+use Rattle.label_energies.specs.Moves.{pair_entry}
+use Rattle.site_forms.specs.Numbers.{form_of, label_by, end_rise_by, rise_at_place, IsFormOf, AreEndRises}
 use Rattle.site_forms.proofs.Entries.{site_label_within}
 
 -- the costs of the table are those of the problem
@@ -60,3 +65,29 @@ form_tells form m move is u x l =
     ∙ (λ i. sym (is.read.own_are u l) i +ℤ int_sum_below-same (degree ends u) (λ k. place_rise (move_form m move f ends) x u (neighbours_start ends u + k)) (λ k. place_rise (form_of form) x u (neighbours_start ends u + k))
     (λ k b. place_same m move form x u (neighbours_start ends u + k) is.read l
     (places.inside u (neighbours_start ends u + k) l (omega arith) (omega (arith, b)))) i)
+
+-- ---- what the two ends of a pair save together, by the rises of one of them
+
+by_first : (low high a b c d : ℤ) → low ≡ c -ℤ a → high ≡ d -ℤ b → low -ℤ high ≡ (b +ℤ c) -ℤ (a +ℤ d)
+by_first low high a b c d l h = omega (arith, ints, l, h)
+
+by_second : (low high a b c d : ℤ) → low ≡ b -ℤ a → high ≡ d -ℤ c → low -ℤ high ≡ (b +ℤ c) -ℤ (a +ℤ d)
+by_second low high a b c d l h = omega (arith, ints, l, h)
+
+pub told_saving : (m : Instance) (move : Move) (form : SiteForm) (u head w : ℕ) (first : Bool) (rises : EndRises) → AreReadOf m move form.own.now form.at.now form.stays.now form.turns.now form.smooth.now
+    → u < length form.at.now → head < length form.at.now → AreEndRises form w first (labelling form.at.now u) (labelling form.at.now head) rises
+    → rises.low -ℤ rises.high ≡ surplus_of (pair_table m move (labelling form.at.now) (pair_from first u head w))
+told_saving m move form u head w true rises is inside other are =
+    let f = labelling form.at.now in
+    let pair = pair_from true u head w in
+    by_first rises.low rises.high (pos (pair_entry m move f pair false false)) (pos (pair_entry m move f pair false true))
+    (pos (pair_entry m move f pair true false)) (pos (pair_entry m move f pair true true))
+    (are.low ∙ labels_rise m move form w true (f u) (f head) false is (u, inside, refl) (head, other, refl))
+    (are.high ∙ labels_rise m move form w true (f u) (f head) true is (u, inside, refl) (head, other, refl))
+told_saving m move form u head w false rises is inside other are =
+    let f = labelling form.at.now in
+    let pair = pair_from false u head w in
+    by_second rises.low rises.high (pos (pair_entry m move f pair false false)) (pos (pair_entry m move f pair false true))
+    (pos (pair_entry m move f pair true false)) (pos (pair_entry m move f pair true true))
+    (are.low ∙ labels_rise m move form w false (f u) (f head) false is (u, inside, refl) (head, other, refl))
+    (are.high ∙ labels_rise m move form w false (f u) (f head) true is (u, inside, refl) (head, other, refl))

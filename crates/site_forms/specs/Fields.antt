@@ -74,6 +74,12 @@ pub record ArePlaces (n : ℕ) (ends : Neighbours) : Type 0 where
   pub weights : (u place : ℕ) → u < n → neighbours_start ends u ≤ place
       → place < neighbours_start ends (u + 1) → weight_at ends place ≤ weight_limit
 
+-- what the neighbours say of all places at once
+pub record AreFlagsOf (ends : Neighbours) (rising even : Bool) (weight : ℕ) : Type 0 where
+  pub rising_is : rising ≡ ends.rising
+  pub even_is : even ≡ ends.even
+  pub weight_is : weight ≡ ends.weight
+
 -- a label and an own rise for each site, two labels for each label, and a cost for each two of 256
 -- labels, the same in both orders if it is said so; and where there are few labels, a table of what
 -- a pair of weight 1 rises by whose ends have labels of sites. None is large

@@ -7,6 +7,7 @@
 //! thread can read it.
 #![tactic(auto)]
 
+mod ends;
 pub mod laws;
 mod lists;
 mod numbers;
@@ -15,7 +16,8 @@ mod rises;
 mod savings;
 mod smooth_costs;
 
+pub use ends::is_first_end;
 pub use lists::FormLists;
 pub use numbers::SiteForm;
 pub use rises::{place_rises, read_rises, site_rises};
-pub use savings::pair_saving;
+pub use savings::{pair_saving, saving_beside};

@@ -292,6 +292,9 @@ impl FormLists {
             symmetric: self.smooth.symmetric,
             few: self.few,
             table: &self.table,
+            rising: ends.rising,
+            even: ends.even,
+            weight: ends.weight,
         }
     }
 }

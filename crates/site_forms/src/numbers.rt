@@ -1,5 +1,5 @@
 //! The numbers of a move.
-ghost use Rattle.site_forms.specs.Fields.{AreReadable};
+ghost use Rattle.site_forms.specs.Fields.{AreReadable, AreFlagsOf};
 
 use label_field::Pairs;
 use move_energy::{EndRises, Neighbours};
@@ -20,6 +20,11 @@ pub struct SiteForm<'a> {
     pub symmetric: bool,
     pub few: bool,
     pub table: &'a [EndRises],
+    /// `rising`, `even` and `weight` of the neighbours, which are the same at all places.
+    pub rising: bool,
+    pub even: bool,
+    pub weight: u32,
     pub ghost form: { AreReadable ends.now own.now at.now stays.now turns.now smooth.now
         symmetric few table.now },
+    pub ghost flags: { AreFlagsOf ends.now rising even weight },
 }

@@ -1,46 +1,72 @@
 //! By how much a function of the sites rises where one of them turns, read of a form.
 ghost use Rattle.std.specs.Prelude.{◌≡◌, ◌≢◌, ◌+◌, ◌*◌, ◌<◌, ◌≤◌, ℕ, true, false, length};
-ghost use Rattle.std.specs.Prelude.{unsigned_abs};
+ghost use Rattle.std.specs.Prelude.{unsigned_abs, cond};
 ghost use Rattle.cost_store.specs.Limits.{site_cost_limit, pair_cost_limit};
 ghost use Rattle.label_energies.specs.Energies.{labelling};
 ghost use Rattle.move_energy.specs.declared.choice.Choice.TheVariants.{Open};
 ghost use Rattle.move_energy.specs.BySite.{degree, neighbours_start, neighbour_at, pair_beside};
 ghost use Rattle.move_energy.specs.BySite.{is_first as is_first_of, weight_at as weight_of};
-ghost use Rattle.move_energy.specs.Choices.{choice_at};
+ghost use Rattle.move_energy.specs.Choices.{choice_at, bit_of};
 ghost use Rattle.move_energy.specs.Assignments.{rise};
 ghost use Rattle.move_energy.specs.Ends.{decided_or, AvoidsSite, HasNoneBefore, rise_limit};
 ghost use Rattle.site_forms.specs.Forms.{place_rise};
 ghost use Rattle.site_forms.specs.Numbers.{form_of, Tells, IsSitePlace, AreEndRises};
 
+use crate::ends::{is_first_end, weight_beside};
 use crate::numbers::SiteForm;
 use crate::reading::end_rises;
-use move_energy::{Choice, EndRises, Rises, SiteRises, is_first, rises_beside, weight_at};
+use move_energy::{Choice, EndRises, Rises, SiteRises};
 
 /// By how much the value rises where a site turns, as far as the neighbour at a place goes: while
 /// the neighbour is at 0, and while it is at 1.
 #[inline]
-pub fn place_rises(form: &SiteForm, site: u32, place: u32) -> EndRises
+pub fn place_rises(form: &SiteForm, site: u32, place: u32, head: u32) -> EndRises
     requires place { IsSitePlace form.now site place }
+    requires head { head ≡ neighbour_at form.now.ends.now place }
     ensures { AreEndRises form.now (weight_of form.now.ends.now place)
         (is_first_of form.now.ends.now site place) (labelling form.now.at.now site)
         (labelling form.now.at.now (neighbour_at form.now.ends.now place)) result }
 {
-    let place = place as usize;
-    let head = form.ends.heads[place];
     end_rises(
         form,
-        is_first(form.ends, site, place, head),
-        weight_at(form.ends, place),
+        is_first_end(form, site, place, head),
+        weight_beside(form, site, place),
         form.at[site as usize],
         form.at[head as usize],
     )
 }
 
+/// The neighbour at a place of a site.
+#[inline]
+fn head_at(form: &SiteForm, site: u32, place: u32) -> u32
+    requires place { IsSitePlace form.now site place }
+    ensures head { result ≡ neighbour_at form.now.ends.now place }
+    ensures inside { result < length form.now.at.now }
+{
+    form.ends.heads[place as usize]
+}
+
+/// The rises of a pair at least and at most, where this is known of its other end. Each is chosen
+/// without a branch, since no run of choices is like the last.
+#[inline]
+fn bounds_beside(rises: EndRises, choice: Choice) -> Rises
+    ensures least { result.least ≡ cond (bit_of choice true) rises.high rises.low }
+    ensures greatest { result.greatest ≡ cond (bit_of choice false) rises.high rises.low }
+{
+    let low = i64::from(rises.low);
+    let high = i64::from(rises.high);
+    Rises {
+        least: if choice.bit(true) { high } else { low },
+        greatest: if choice.bit(false) { high } else { low },
+    }
+}
+
 /// The same at least and at most, by what is known of the neighbour.
 #[inline]
-fn rises_at(form: &SiteForm, known: &[Choice], site: u32, place: u32) -> Rises
+fn rises_at(form: &SiteForm, known: &[Choice], site: u32, place: u32, head: u32) -> Rises
     requires known { length known.now ≡ length form.now.at.now }
     requires place { IsSitePlace form.now site place }
+    requires head { head ≡ neighbour_at form.now.ends.now place }
     ensures least { result.least
         ≡ place_rise (form_of form.now) (decided_or known.now true) site place }
     ensures greatest { result.greatest
@@ -48,8 +74,7 @@ fn rises_at(form: &SiteForm, known: &[Choice], site: u32, place: u32) -> Rises
     ensures small { (unsigned_abs result.least ≤ pair_cost_limit)
         × (unsigned_abs result.greatest ≤ pair_cost_limit) }
 {
-    let head = form.ends.heads[place as usize];
-    rises_beside(place_rises(form, site, place), known[head as usize])
+    bounds_beside(place_rises(form, site, place, head), known[head as usize])
 }
 
 /// Where the places of a site begin; of the number of sites, where those of the last end.
@@ -72,13 +97,14 @@ fn is_open_before(known: &[Choice], site: u32, head: u32) -> bool
 
 /// Whether the neighbour at a place is.
 #[inline]
-fn meets_open(form: &SiteForm, known: &[Choice], site: u32, place: u32) -> bool
+fn meets_open(form: &SiteForm, known: &[Choice], site: u32, place: u32, head: u32) -> bool
     requires known { length known.now ≡ length form.now.at.now }
     requires place { IsSitePlace form.now site place }
+    requires head { head ≡ neighbour_at form.now.ends.now place }
     ensures { result ≡ false → (u : ℕ) → u < site → choice_at known.now u ≡ Open →
         AvoidsSite u (pair_beside form.now.ends.now site place) }
 {
-    is_open_before(known, site, form.ends.heads[place as usize])
+    is_open_before(known, site, head)
 }
 
 /// Whether one of the two holds.
@@ -106,10 +132,11 @@ pub fn site_rises(form: &SiteForm, known: &[Choice], site: u32) -> SiteRises
     let mut greatest = least;
     let mut beside = false;
     for place in start(form, site)..start(form, site + 1) {
-        let rises = rises_at(form, known, site, place);
+        let head = head_at(form, site, place);
+        let rises = rises_at(form, known, site, place, head);
         least += rises.least;
         greatest += rises.greatest;
-        beside = either(beside, meets_open(form, known, site, place));
+        beside = either(beside, meets_open(form, known, site, place, head));
     }
     SiteRises {
         least,

@@ -1,12 +1,14 @@
 //! What the two ends of a pair save together, read of a form.
 ghost use Rattle.std.specs.Prelude.{◌≡◌, ◌≤◌, length, unsigned_abs};
 ghost use Rattle.label_field.specs.PairLists.{IsPair};
+ghost use Rattle.move_energy.specs.BySite.{neighbour_at, pair_beside};
 ghost use Rattle.move_energy.specs.Limits.{surplus_limit};
 ghost use Rattle.move_energy.specs.Weights.{surplus_of, pair_table};
-ghost use Rattle.site_forms.specs.Numbers.{WhereRead};
+ghost use Rattle.site_forms.specs.Numbers.{WhereRead, IsSitePlace};
 
 use crate::numbers::SiteForm;
 use crate::reading::end_rises;
+use crate::rises::place_rises;
 use label_field::Pair;
 use move_energy::saving_of;
 
@@ -21,5 +23,18 @@ pub fn pair_saving(form: &SiteForm, pair: Pair) -> i64
     let own = form.at[pair.first as usize];
     let other = form.at[pair.second as usize];
     let rises = end_rises(form, true, pair.weight, own, other);
+    saving_of(rises)
+}
+
+/// The same of the pair that a site has with the neighbour at a place.
+#[inline]
+pub fn saving_beside(form: &SiteForm, site: u32, place: u32, head: u32) -> i64
+    requires place { IsSitePlace form.now site place }
+    requires head { head ≡ neighbour_at form.now.ends.now place }
+    ensures value { WhereRead form.now (λ m move f. result
+        ≡ surplus_of (pair_table m move f (pair_beside form.now.ends.now site place))) }
+    ensures range { unsigned_abs result ≤ surplus_limit }
+{
+    let rises = place_rises(form, site, place, head);
     saving_of(rises)
 }

@@ -1,7 +1,6 @@
-use Rattle.std.proofs.Common.{refl, ap}
+use Rattle.std.proofs.Common.{refl, ap, sym}
 use Rattle.label_energies.specs.Energies.{labelling}
 use Rattle.move_energy.specs.BySite.{neighbour_at}
-use Rattle.site_forms.proofs.Places.{head_read}
 use Rattle.site_forms.proofs.rises.place_rises.Goals as goal
 
 pub end_rises-requires-clause-own : goal.end_rises-requires-clause-own
@@ -10,4 +9,4 @@ end_rises-requires-clause-own c = (c.args.site, c.requires.place.inside, refl)
 pub end_rises-requires-clause-other : goal.end_rises-requires-clause-other
 end_rises-requires-clause-other c =
     let form = c.args.form.now in
-    (neighbour_at form.ends.now c.args.place, form.form.places.inside c.args.site c.args.place c.requires.place.inside c.requires.place.from c.requires.place.to, ap (labelling form.at.now) (head_read form c.args.site c.args.place c.index-head.result.now c.requires.place c.index-head.ensures))
+    (neighbour_at form.ends.now c.args.place, form.form.places.inside c.args.site c.args.place c.requires.place.inside c.requires.place.from c.requires.place.to, ap (labelling form.at.now) (sym c.requires.head))

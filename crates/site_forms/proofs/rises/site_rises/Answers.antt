@@ -84,3 +84,6 @@ returns-clause-alone c = λ none p u lower before below opened.
 
 pub meets_open-requires-clause-place : goal.meets_open-requires-clause-place
 meets_open-requires-clause-place c = record { inside = c.requires.site; from = omega (arith, c.loop-place.auto.place, c.start-place.ensures); to = omega (arith, c.loop-place-test.true, c.start-place-end.ensures) }
+
+pub head_at-head-requires : goal.head_at-head-requires
+head_at-head-requires c = record { place = record { inside = c.requires.site; from = omega (arith, c.loop-place.auto.place, c.start-place.ensures); to = omega (arith, c.loop-place-test.true, c.start-place-end.ensures) } }

@@ -1,4 +1,4 @@
-use Rattle.std.proofs.Common.{sym, subst, length}
+use Rattle.std.proofs.Common.{refl, sym, subst, length}
 use Rattle.move_energy.proofs.Places.{meant_pairs, meant_beside}
 use Rattle.site_forms.specs.Fields.{AreReadableLists, AreReadOf}
 use Rattle.site_forms.proofs.Places.{pairs_places}
@@ -14,6 +14,7 @@ invariant_of-result c =
             (λ i. AreReadableLists (sym c.deref.ensures.value i) a.at.now (sym c.deref-2.ensures.value i) (sym c.deref-3.ensures.value i) (sym c.deref-4.ensures.value i) a.self.now.smooth.symmetric a.self.now.few (sym c.deref-5.ensures.value i))
             c.requires.lists;
       };
+      flags = record { rising_is = refl; even_is = refl; weight_is = refl };
     }
 
 pub returns-clause-of : goal.returns-clause-of

@@ -1,0 +1,34 @@
+//! The places of a site, read of a form.
+ghost use Rattle.std.specs.Prelude.{◌≡◌};
+ghost use Rattle.move_energy.specs.BySite.{neighbour_at, weight_at};
+ghost use Rattle.move_energy.specs.BySite.{is_first as is_first_of};
+ghost use Rattle.site_forms.specs.Numbers.{IsSitePlace};
+
+use crate::numbers::SiteForm;
+
+/// Whether a site is the first of the pair that it has with a neighbour.
+#[inline]
+pub fn is_first_end(form: &SiteForm, site: u32, place: u32, head: u32) -> bool
+    requires place { IsSitePlace form.now site place }
+    requires head { head ≡ neighbour_at form.now.ends.now place }
+    ensures { result ≡ is_first_of form.now.ends.now site place }
+{
+    if form.rising {
+        site < head
+    } else {
+        form.ends.firsts[place as usize]
+    }
+}
+
+/// The weight of the pair at a place of a site.
+#[inline]
+pub(crate) fn weight_beside(form: &SiteForm, site: u32, place: u32) -> u32
+    requires place { IsSitePlace form.now site place }
+    ensures { result ≡ weight_at form.now.ends.now place }
+{
+    if form.even {
+        form.weight
+    } else {
+        form.ends.weights[place as usize]
+    }
+}
