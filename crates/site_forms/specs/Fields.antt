@@ -44,7 +44,8 @@ pub record AreUnitRises (stays turns smooth : List ℕ) (first : Bool) (own othe
 -- each two of 256 labels cost the same in both orders
 abbrev pub AreSymmetric : List ℕ → Type 0
 AreSymmetric smooth = (one other : ℕ) → one < label_limit → other < label_limit
-    → slice_index smooth (one * label_limit + other) ≡ slice_index smooth (other * label_limit + one)
+    → slice_index smooth (one * label_limit + other)
+    ≡ slice_index smooth (other * label_limit + one)
 
 -- some site has this label
 abbrev pub IsSiteLabel : List ℕ → ℕ → Type 0

@@ -37,8 +37,8 @@ pub record GetsCostOf (m : Instance) (one other : ℕ) (old new : List ℕ) : Ty
   pub cost : HasCostOf m new one other
   pub kept : KeepsCostsOf m old new
 
--- what each two labels that were asked cost a pair is what they cost in the problem, the same in both
--- orders if it is said so, and no cost is large
+-- what each two labels that were asked cost a pair is what they cost in the problem, the same in
+-- both orders if it is said so, and no cost is large
 pub record AreAskedCosts {F V : Type 0} (f : Closure F) (v : Closure V) (problem : Problem F V)
     (asked : AskedCosts) : Type 0 where
   pub small : AreCostsSmall asked.costs.items
