@@ -1,6 +1,6 @@
 -- What is said of a form that is lent of the workspace's numbers, and of a move that is built of
 -- it.
-use Rattle.std.proofs.Common.{◌≡◌, ◌∙◌, ℕ, List, Ok, length, ap, sym, subst}
+use Rattle.std.proofs.Common.{◌≡◌, ◌∙◌, ℕ, List, Result, Ok, Err, OnOk, length, ap, sym, subst}
 use Rattle.pseudo_bool.specs.Energies.{assignment}
 use Rattle.label_energies.specs.declared.change.Move.{Move}
 use Rattle.label_energies.specs.Energies.{Instance, labelling}
@@ -9,6 +9,9 @@ use Rattle.cost_store.specs.declared.problem.Problem.{Problem}
 use Rattle.cost_store.specs.Posed.{Closure, IsPosed, IsMeant, WhereMeant}
 use Rattle.cost_store.proofs.Meaning.{pairs_meant}
 use Rattle.move_energy.specs.declared.choice.Choice.{Choice}
+use Rattle.move_energy.specs.declared.building.MoveEnergy.{MoveEnergy}
+use Rattle.move_energy.specs.declared.error.BuildError.{BuildError}
+use Rattle.move_energy.specs.declared.by_site.Neighbours.{Neighbours}
 use Rattle.move_energy.specs.BySite.{AreBySite}
 use Rattle.move_energy.specs.Choices.{choice_at, open_rank}
 use Rattle.move_energy.specs.MoveValues.{move_value}
@@ -20,7 +23,7 @@ use Rattle.site_bounds.specs.declared.sites.Deciding.{Deciding}
 use Rattle.site_bounds.specs.Listed.{AreListed}
 use Rattle.persistency.specs.Agreeing.{Agree}
 use Rattle.one_move.specs.declared.workspace.Workspace.{Workspace}
-use Rattle.one_move.specs.Building.{HasNumbersOf, IsReadMove, IsOpenForm, KeepsDecided, KeepsChoices, IsBuiltPlain}
+use Rattle.one_move.specs.Building.{HasNumbersOf, HasFormOf, IsReadMove, IsOpenForm, KeepsDecided, KeepsChoices, IsBuiltPlain}
 use Rattle.one_move.specs.PlainBuilding.{IsPlainBuilding}
 use Rattle.one_move.proofs.Least.{agreed_least}
 use Rattle.one_move.proofs.Changes.{near_rest}
@@ -43,9 +46,43 @@ still_numbers {F} {V} f v problem at move old new same numbers =
     record {
       sites = numbers.sites;
       allowed = numbers.allowed;
-      lists = subst L (sym same.1) numbers.lists;
-      read = λ m meant. (let R : Deciding → Type 0 = λ d. IsReadOf m move at d.numbers in subst R (sym same.1) (numbers.read m meant));
+      lists = subst L (sym same) numbers.lists;
+      read = λ m meant. (let R : Deciding → Type 0 = λ d. IsReadOf m move at d.numbers in subst R (sym same) (numbers.read m meant));
     }
+
+-- so does the form
+pub still_form : {F V : Type 0} (f : Closure F) (v : Closure V) (problem : Problem F V) (at : List ℕ) (move : Move) (old new : Workspace) → KeepsDecided old new
+    → HasFormOf f v problem at move old → HasFormOf f v problem at move new
+still_form {F} {V} f v problem at move old new same form =
+    let E : Deciding → Type 0 = λ d. AreBySite problem.pairs d.ends in
+    record { numbers = still_numbers f v problem at move old new same form.numbers; by_site = subst E (sym same) form.by_site }
+
+-- the form stays where the neighbours and the numbers do
+pub form_kept : {F V : Type 0} (f : Closure F) (v : Closure V) (problem : Problem F V) (at : List ℕ) (move : Move) (old new : Workspace) → new.deciding.ends ≡ old.deciding.ends
+    → new.deciding.numbers ≡ old.deciding.numbers → IsReadMove f v problem at move old → HasFormOf f v problem at move new
+form_kept {F} {V} f v problem at move old new ends lists read =
+    let E : Neighbours → Type 0 = λ e. AreBySite problem.pairs e in
+    let L : FormLists → Type 0 = λ l. AreFormLists at l in
+    record {
+      numbers = record {
+        sites = read.numbers.sites;
+        allowed = read.numbers.allowed;
+        lists = subst L (sym lists) read.numbers.lists;
+        read = λ m meant. (let R : FormLists → Type 0 = λ l. IsReadOf m move at l in subst R (sym lists) (read.numbers.read m meant));
+      };
+      by_site = subst E (sym ends) read.near.by_site;
+    }
+
+-- a move of which nothing is decided, and whose numbers were read
+pub whole_form : {F V : Type 0} (f : Closure F) (v : Closure V) (problem : Problem F V) (at : List ℕ) (move : Move) (space : Workspace) (made : MoveEnergy) (result : Result Unit BuildError)
+    → length at ≡ problem.pairs.sites → AreBySite problem.pairs space.deciding.ends → AreFormLists at space.deciding.numbers
+    → WhereMeant f v problem (λ m. IsReadOf m move at space.deciding.numbers) → WhereMeant f v problem (λ m. IsBuiltPlain m move at made result)
+    → OnOk result (HasFormOf f v problem at move space)
+whole_form {F} {V} f v problem at move space made (Ok done) sites by_site lists read built = record {
+  numbers = record { sites = sites; allowed = λ m meant. (built m meant).0; lists = lists; read = read };
+  by_site = by_site;
+}
+whole_form {F} {V} f v problem at move space made (Err e) sites by_site lists read built = tt
 
 -- the form of a move whose choices agree is that of its least values
 pub agreed_built : {F V : Type 0} (f : Closure F) (v : Closure V) (problem : Problem F V) (at : List ℕ) (move : Move) (space : Workspace) → IsPosed f v problem
@@ -71,9 +108,10 @@ plain_built {F} {V} f v problem at move old new posed read same kept form agree 
     let C : List Choice → Type 0 = λ choices. AreListed move (labelling at) choices old.deciding.lists in
     record {
       of_problem = still_of_problem f v problem old new same read.of_problem;
+      form = still_form f v problem at move old new same (record { numbers = read.numbers; by_site = read.near.by_site });
       left = record {
         near = near_rest problem.pairs move at new count
-            (record { by_site = subst E (sym same.1) read.near.by_site; lists = subst L (sym same.1) (subst C (sym kept) read.near.lists) });
+            (record { by_site = subst E (sym same) read.near.by_site; lists = subst L (sym same) (subst C (sym kept) read.near.lists) });
         choices = count;
         bounded = form.bounded;
         few = form.few;

@@ -5,3 +5,4 @@ pub mod Relabelled
 pub mod Changes
 pub mod OfProblem
 pub mod Forms
+pub mod Turning

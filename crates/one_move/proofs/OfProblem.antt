@@ -1,5 +1,5 @@
 -- Workspaces of a problem.
-use Rattle.std.proofs.Common.{◌≡◌, ◌∙◌, false, sym, subst}
+use Rattle.std.proofs.Common.{◌≡◌, ◌≢◌, [], sym, subst}
 use Rattle.cost_store.specs.declared.problem.Problem.{Problem}
 use Rattle.cost_store.specs.Posed.{Closure}
 use Rattle.move_energy.specs.BySite.{AreBySite}
@@ -10,14 +10,13 @@ use Rattle.one_move.specs.declared.workspace.Workspace.{Workspace}
 use Rattle.one_move.specs.Building.{IsOfProblem, KeepsDecided}
 
 -- one of which nothing was taken is of any problem
-pub new_of_problem : {F V : Type 0} (f : Closure F) (v : Closure V) (problem : Problem F V) (space : Workspace) → space.grouped ≡ false
+pub new_of_problem : {F V : Type 0} (f : Closure F) (v : Closure V) (problem : Problem F V) (space : Workspace) → space.deciding.ends.starts.items ≡ []
     → HasNoCosts space.deciding.numbers → IsOfProblem f v problem space
-new_of_problem {F} {V} f v problem space fresh none = ((λ grouped. absurd (cc (grouped, fresh))), none_known f v problem space.deciding.numbers none)
+new_of_problem {F} {V} f v problem space fresh none = ((λ some. absurd (some fresh)), none_known f v problem space.deciding.numbers none)
 
 -- where nothing was grouped or decided since, it is still of the problem
 pub still_of_problem : {F V : Type 0} (f : Closure F) (v : Closure V) (problem : Problem F V) (old new : Workspace) → KeepsDecided old new
     → IsOfProblem f v problem old → IsOfProblem f v problem new
 still_of_problem {F} {V} f v problem old new same was =
-    let E : Deciding → Type 0 = λ d. AreBySite problem.pairs d.ends in
-    let C : Deciding → Type 0 = λ d. KnowsCosts f v problem d.numbers in
-    ((λ grouped. subst E (sym same.1) (was.0 (sym same.0 ∙ grouped))), subst C (sym same.1) was.1)
+    let P : Deciding → Type 0 = λ d. (d.ends.starts.items ≢ [] → AreBySite problem.pairs d.ends) × KnowsCosts f v problem d.numbers in
+    subst P (sym same) was

@@ -1,6 +1,6 @@
 -- The energy of a move, and what its least assignment says of the sites.
 use Rattle.std.specs.Prelude.{◌≡◌, ◌≢◌, ◌^◌, ◌<◌, ◌≤◌, ◌==◌, ℕ, Bool, true, false, not}
-use Rattle.std.specs.Prelude.{List, length, vec_len, IsTrue, IsFalse, Result, Ok, Err, ℤ, pos, ◌-ℤ◌}
+use Rattle.std.specs.Prelude.{List, [], length, vec_len, IsTrue, IsFalse, Result, Ok, Err, ℤ, pos, ◌-ℤ◌}
 use Rattle.std.specs.Prelude.{slice_index}
 use Rattle.label_field.specs.LabelFields.{LabelField}
 use Rattle.cost_store.specs.declared.problem.Problem.{Problem}
@@ -22,11 +22,8 @@ use Rattle.move_energy.specs.Problems.{IsPrepareRefusal, Stands}
 use Rattle.move_energy.specs.Limits.{weights_limit}
 use Rattle.move_energy.specs.OpenMoves.{IsAllowedFrom}
 use Rattle.move_energy.specs.Weights.{AreWeights}
-use Rattle.sums.specs.Sums.{count_if}
-use Rattle.move_energy.specs.declared.by_site.Neighbours.{Neighbours}
-use Rattle.label_field.specs.declared.pair.Pair.{Pair}
 use Rattle.label_field.specs.PairLists.{PairList}
-use Rattle.move_energy.specs.BySite.{AreBySite, IsListing, met_at}
+use Rattle.move_energy.specs.BySite.{AreBySite, IsListing}
 use Rattle.site_bounds.specs.Listed.{AreListed, changes}
 use Rattle.site_bounds.specs.Decisions.{IsSmallestLeast}
 use Rattle.move_energy.specs.MoveValues.{move_value}
@@ -38,11 +35,11 @@ use Rattle.one_move.specs.declared.workspace.Workspace.{Workspace}
 abbrev pub later_nodes : ℕ
 later_nodes = 2 ^ 16
 
--- the workspace is of the problem: the pairs are by their sites, once they were grouped, and the
+-- the workspace is of the problem: the pairs are by their sites, where they are grouped, and the
 -- smooth costs that were asked are the problem's
 abbrev pub IsOfProblem : {F V : Type 0} → Closure F → Closure V → Problem F V → Workspace → Type 0
 IsOfProblem {F} {V} f v problem space =
-    (IsTrue space.grouped → AreBySite problem.pairs space.deciding.ends)
+    (space.deciding.ends.starts.items ≢ [] → AreBySite problem.pairs space.deciding.ends)
     × KnowsCosts f v problem space.deciding.numbers
 
 -- the lists of the workspace are those of the move from f, and its pairs are by their sites
@@ -53,9 +50,7 @@ pub record HasListsOfMove (pairs : PairList) (move : Move) (f : List ℕ)
 
 -- what is left of a move is listed: its open sites, and among the changing ones each whose label
 -- can still become another
-pub record IsRestListed (pairs : PairList) (move : Move) (f : List ℕ)
-    (space : Workspace) : Type 0 where
-  pub by_site : AreBySite pairs space.deciding.ends
+pub record IsRestListed (move : Move) (f : List ℕ) (space : Workspace) : Type 0 where
   pub opened : AreOpenSites space.built.variables.choices.items space.deciding.lists.opened.items
   pub chosen : ℕ → Bool
   pub listed : IsListing chosen (length f) space.deciding.lists.changing.items
@@ -63,9 +58,9 @@ pub record IsRestListed (pairs : PairList) (move : Move) (f : List ℕ)
       → changes move (labelling f) space.built.variables.choices.items p ≡ true → chosen p ≡ true
 
 -- it is, where a move is to look at the listed sites alone
-abbrev pub IsRestWhereListed : PairList → Move → List ℕ → Workspace → Type 0
-IsRestWhereListed pairs move f space = IsTrue space.deciding.lists.listed
-    → IsRestListed pairs move f space
+abbrev pub IsRestWhereListed : Move → List ℕ → Workspace → Type 0
+IsRestWhereListed move f space =
+    IsTrue space.deciding.lists.listed → IsRestListed move f space
 
 -- the workspace has a weight for each site, and together they are in their limit
 abbrev pub AreWeightsSized : ℕ → Workspace → Type 0
@@ -95,7 +90,14 @@ pub record HasNumbersOf {F V : Type 0} (f : Closure F) (v : Closure V) (problem 
   pub lists : AreFormLists at space.deciding.numbers
   pub read : WhereMeant f v problem (λ m. IsReadOf m move at space.deciding.numbers)
 
--- and it is of the problem, with a choice for each site and the lists of those that are open
+-- and its pairs are by their sites, so that the form of the move can be lent of it
+pub record HasFormOf {F V : Type 0} (f : Closure F) (v : Closure V) (problem : Problem F V)
+    (at : List ℕ) (move : Move) (space : Workspace) : Type 0 where
+  pub numbers : HasNumbersOf f v problem at move space
+  pub by_site : AreBySite problem.pairs space.deciding.ends
+
+-- the workspace has the numbers of the move, and is of the problem, with a choice for each site and
+-- the lists of those that are open
 pub record IsReadMove {F V : Type 0} (f : Closure F) (v : Closure V) (problem : Problem F V)
     (at : List ℕ) (move : Move) (space : Workspace) : Type 0 where
   pub numbers : HasNumbersOf f v problem at move space
@@ -123,9 +125,9 @@ KeepsChoices old new = new.built.variables.choices.items ≡ old.built.variables
 
 -- what is left of the move can be cut: it is listed where a move is to look at the listed sites
 -- alone, there is a choice for each site, and the form is in its limits
-pub record IsReadyToCut (pairs : PairList) (at : List ℕ) (move : Move) (nodes : ℕ)
-    (space : Workspace) : Type 0 where
-  pub near : IsRestWhereListed pairs move at space
+pub record IsReadyToCut (at : List ℕ) (move : Move) (nodes : ℕ) (space : Workspace)
+    : Type 0 where
+  pub near : IsRestWhereListed move at space
   pub choices : length space.built.variables.choices.items ≡ length at
   pub bounded : IsQuadraticBounded term_limit space.built.form
   pub few : vec_len space.built.form.weights ≤ nodes
@@ -137,16 +139,6 @@ site_values choices p = bit_of (choice_at choices p) false
 -- do the values change the label of a site?
 abbrev pub moves_site : Move → (ℕ → ℕ) → List Choice → ℕ → Bool
 moves_site move f choices p = not (labelling_made move f (site_values choices) p == f p)
-
--- do the values change the label of a site of the move from these labels?
-abbrev pub changed_here : Move → List ℕ → List Choice → ℕ → Bool
-changed_here move f choices = moves_site move (labelling f) choices
-
--- by how much more the labels that the values make come to, by this measure
-abbrev pub rise_by : ((ℕ → ℕ) → ℕ) → Move → List ℕ → List Choice → ℤ
-rise_by measure move f choices =
-    pos (measure (labelling_made move (labelling f) (site_values choices)))
-    -ℤ pos (measure (labelling f))
 
 -- they have a lower energy, label costs left out
 abbrev pub LowersEnergy : Instance → Move → List ℕ → List Choice → Type 0
@@ -171,9 +163,9 @@ TellsChange changed f g = (IsTrue changed → g ≢ f) × (IsFalse changed → g
 abbrev pub KeepsSizes : LabelField → LabelField → Type 0
 KeepsSizes old new = (new.labels ≡ old.labels) × (length new.at ≡ length old.at)
 
--- the sum of a value over the pairs that are counted at a site, where its label changes
-abbrev pub moved_met : Neighbours → (ℕ → Bool) → (Pair → ℕ) → ℕ → ℕ
-moved_met ends moved value site = count_if (moved site) (met_at ends moved value site)
+-- the sites are listed in rising order
+abbrev pub HasListing : ℕ → List ℕ → Type 0
+HasListing n sites = (chosen : ℕ → Bool) × IsListing chosen n sites
 
 -- the sites are listed, and among them are all whose labels the values change
 pub record HasChanges (move : Move) (f : List ℕ) (choices : List Choice)
@@ -183,12 +175,10 @@ pub record HasChanges (move : Move) (f : List ℕ) (choices : List Choice)
   pub each : (p : ℕ) → p < length f → moves_site move (labelling f) choices p ≡ true
       → chosen p ≡ true
 
--- so it is in the workspace of an assigned move, whose pairs are by their sites
-pub record AreChangesListed (pairs : PairList) (move : Move) (f : List ℕ)
-    (space : Workspace) : Type 0 where
-  pub by_site : AreBySite pairs space.deciding.ends
-  pub changes : HasChanges move f space.built.variables.choices.items
-      space.deciding.lists.changing.items
+-- so it is in the workspace of an assigned move
+abbrev pub AreChangesListed : Move → List ℕ → Workspace → Type 0
+AreChangesListed move f space =
+    HasChanges move f space.built.variables.choices.items space.deciding.lists.changing.items
 
 -- the energy of the labelling that a value for each site makes
 abbrev pub made_value : Instance → Move → (ℕ → ℕ) → (ℕ → Bool) → ℤ
@@ -222,4 +212,4 @@ IsBuiltPlain m move f made (Err e) = IsPrepareRefusal m move (labelling f) e
 
 -- what was grouped and decided stays as it is
 abbrev pub KeepsDecided : Workspace → Workspace → Type 0
-KeepsDecided old new = (new.grouped ≡ old.grouped) × (new.deciding ≡ old.deciding)
+KeepsDecided old new = new.deciding ≡ old.deciding

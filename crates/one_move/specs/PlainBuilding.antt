@@ -6,13 +6,14 @@ use Rattle.cost_store.specs.declared.problem.Problem.{Problem}
 use Rattle.cost_store.specs.Posed.{Closure, WhereMeant}
 use Rattle.move_energy.specs.declared.error.BuildError.{BuildError}
 use Rattle.one_move.specs.declared.workspace.Workspace.{Workspace}
-use Rattle.one_move.specs.Building.{IsOfProblem, IsReadyToCut, IsBuiltPlain}
+use Rattle.one_move.specs.Building.{IsOfProblem, HasFormOf, IsReadyToCut, IsBuiltPlain}
 
--- such a move is built: the workspace is of the problem as before, what is left can be cut, and
--- the answer is right
+-- such a move is built: the workspace is of the problem as before, what is left can be cut, the
+-- form of the move can be lent, and the answer is right
 pub record IsPlainBuilding {F V : Type 0} (f : Closure F) (v : Closure V) (problem : Problem F V)
     (at : List ℕ) (move : Move) (space : Workspace) (result : Result Unit BuildError)
     : Type 0 where
   pub of_problem : IsOfProblem f v problem space
-  pub left : OnOk result (IsReadyToCut problem.pairs at move site_limit space)
+  pub left : OnOk result (IsReadyToCut at move site_limit space)
+  pub form : OnOk result (HasFormOf f v problem at move space)
   pub built : WhereMeant f v problem (λ m. IsBuiltPlain m move at space.built result)

@@ -5,7 +5,7 @@ ghost use Rattle.one_move.specs.Prelude.{IsPrepareRefusal, IsDecidedMove, move_v
 ghost use Rattle.one_move.specs.Prelude.{IsOfProblem, IsRestWhereListed, IsReadyMove, IsReadMove};
 ghost use Rattle.one_move.specs.Prelude.{IsWeighedMove, IsOpenForm, KeepsChoices, KeepsDecided};
 ghost use Rattle.one_move.specs.Prelude.{IsReadyToCut, IsBuiltMove, costs_of, AreCosts, IsFreeFor};
-ghost use Rattle.one_move.specs.Prelude.{Expand, AreCostsOf};
+ghost use Rattle.one_move.specs.Prelude.{Expand, AreCostsOf, IsSwap, HasFormOf};
 ghost use Rattle.one_move.specs.PlainBuilding.{IsPlainBuilding};
 
 use crate::workspace::Workspace;
@@ -80,7 +80,9 @@ fn build_strips<F: Fn(u32, u32) -> i64 + Sync, V: Fn(u32, u32) -> i64 + Sync>(
     requires some { 0 < size }
     requires weighed { IsWeighedMove F.Fn V.Fn problem.now at.now change space.old }
     ensures of_problem { IsOfProblem F.Fn V.Fn problem.now space.new }
-    ensures near { OnOk result (IsRestWhereListed problem.now.pairs change at.now space.new) }
+    ensures near { OnOk result (IsRestWhereListed change at.now space.new) }
+    ensures known { (space.new.deciding.ends ≡ space.old.deciding.ends)
+        × (space.new.deciding.numbers ≡ space.old.deciding.numbers) }
     ensures choices { OnOk result (length space.new.built.variables.choices.items ≡ length at.now) }
     ensures form { OnOk result (IsOpenForm F.Fn V.Fn problem.now at.now change space.new) }
     ensures agree { WhereMeant F.Fn V.Fn problem.now (λ m.
@@ -241,6 +243,8 @@ fn build_whole<F: Fn(u32, u32) -> i64 + Sync, V: Fn(u32, u32) -> i64 + Sync>(
     requires asked { IsReadyMove F.Fn V.Fn problem.now at.now change space.old }
     ensures { IsPlainBuilding F.Fn V.Fn problem.now at.now change space.new result }
 {
+    space.group(alloc, problem)?;
+    space.deciding.numbers.read(problem, at, change)?;
     space.deciding.lists.listed = false;
     space.built.prepare(alloc, problem, at, change)
 }
@@ -278,8 +282,8 @@ fn build_costed<F: Fn(u32, u32) -> i64 + Sync, V: Fn(u32, u32) -> i64 + Sync>(
     requires asked { IsReadyMove F.Fn V.Fn problem.now at.now (Expand alpha) space.old }
     requires label_costs { AreCosts problem.now.data_cost.labels costs.now }
     ensures of_problem { IsOfProblem F.Fn V.Fn problem.now space.new }
-    ensures left { OnOk result (IsReadyToCut problem.now.pairs at.now (Expand alpha)
-        (site_limit + label_limit) space.new) }
+    ensures left { OnOk result
+        (IsReadyToCut at.now (Expand alpha) (site_limit + label_limit) space.new) }
     ensures built { WhereMeant F.Fn V.Fn problem.now (λ m. AreCostsOf m costs.now →
         IsBuiltMove m (Expand alpha) at.now space.new.built result) }
 {
@@ -312,8 +316,10 @@ pub(crate) fn build_move<F: Fn(u32, u32) -> i64 + Sync, V: Fn(u32, u32) -> i64 +
     requires asked { IsReadyMove F.Fn V.Fn problem.now at.now change space.old }
     requires free { IsFreeFor change (costs_of problem.now.label_costs) }
     ensures of_problem { IsOfProblem F.Fn V.Fn problem.now space.new }
-    ensures left { OnOk result (IsReadyToCut problem.now.pairs at.now change
-        (site_limit + label_limit) space.new) }
+    ensures left { OnOk result
+        (IsReadyToCut at.now change (site_limit + label_limit) space.new) }
+    ensures form { OnOk result
+        (IsSwap change → HasFormOf F.Fn V.Fn problem.now at.now change space.new) }
     ensures built { WhereMeant F.Fn V.Fn problem.now
         (λ m. IsBuiltMove m change at.now space.new.built result) }
 {

@@ -1,28 +1,103 @@
-//! Whether the labels that the values of a move's sites make have a lower energy. Only what changes
-//! is asked.
-ghost use Rattle.std.specs.Prelude.{◌≡◌, ◌<◌, ◌≤◌, ◌↔◌, pos, ◌<ℤ◌, length, unsigned_abs, IsTrue};
-ghost use Rattle.one_move.specs.Prelude.{IsPair, labelling, data_energy, smooth_energy};
-ghost use Rattle.one_move.specs.Prelude.{pair_cost as cost_of_pair, labelling_made};
-ghost use Rattle.one_move.specs.Prelude.{site_cost_limit};
-ghost use Rattle.one_move.specs.Prelude.{pair_cost_limit, data_energy_limit};
-ghost use Rattle.one_move.specs.Prelude.{smooth_energy_limit};
-ghost use Rattle.one_move.specs.Prelude.{IsPosed, WhereMeant, IsAsked, site_values};
-ghost use Rattle.one_move.specs.Prelude.{LowersEnergy};
-ghost use Rattle.one_move.specs.Prelude.{rise_by, IsValuedMove};
+//! By how much more the labels that the values of a move's sites make cost. The sites turn one
+//! after another, from the values of the labels as they are, and the move's form tells the rise of
+//! each: so the sites whose labels change are read alone, and no cost is asked.
+ghost use Rattle.std.specs.Prelude.{◌≡◌, ◌<◌, ◌+◌, ◌≤◌, ◌↔◌, pos, ◌-ℤ◌, ◌<ℤ◌, length};
+ghost use Rattle.std.specs.Prelude.{unsigned_abs, IsTrue};
+ghost use Rattle.one_move.specs.Prelude.{labelling, pair_cost_limit, site_values, HasChanges};
+ghost use Rattle.one_move.specs.Prelude.{label_by, form_of, place_rise, IsSitePlace, Tells};
+ghost use Rattle.one_move.specs.Prelude.{rise, rise_limit, WhereRead, HasListing, weights_limit};
+ghost use Rattle.one_move.specs.Prelude.{turns_label, turned_below, TellsOver, energy_rise};
 
 use crate::taking::value_of;
-use cost_store::Problem;
-use label_energies::Move;
-use label_field::Pair;
 use move_energy::Choice;
+use site_forms::{SiteForm, place_rises, start};
 
-/// The label that a site's value makes.
-pub(crate) fn made_label(at: &[u8], change: Move, choices: &[Choice], site: u32) -> u32
-    requires site { site < length at.now }
-    requires choices { length choices.now ≡ length at.now }
-    ensures { result ≡ labelling_made change (labelling at.now) (site_values choices.now) site }
+/// The label that a site of this label gets by its value.
+fn label_of(form: &SiteForm, old: u8, value: bool) -> u8
+    ensures { result ≡ label_by form.now old value }
 {
-    change.label(u32::from(at[site as usize]), value_of(choices, site))
+    if value {
+        form.turns[old as usize]
+    } else {
+        form.stays[old as usize]
+    }
+}
+
+/// Whether a site's value changes its label.
+fn turns(form: &SiteForm, choices: &[Choice], site: u32) -> bool
+    requires choices { length choices.now ≡ length form.now.at.now }
+    requires site { site < length form.now.at.now }
+    ensures { result ≡ turns_label form.now choices.now site }
+{
+    let old = form.at[site as usize];
+    label_of(form, old, value_of(choices, site)) != old
+}
+
+/// The value of a site, once the sites below another have turned.
+fn value_below(form: &SiteForm, choices: &[Choice], turned: u32, site: u32) -> bool
+    requires choices { length choices.now ≡ length form.now.at.now }
+    requires site { site < length form.now.at.now }
+    ensures { result ≡ turned_below form.now choices.now turned site }
+{
+    let value = value_of(choices, site);
+    if site < turned {
+        return value;
+    }
+    if turns(form, choices, site) {
+        return !value;
+    }
+    value
+}
+
+/// By how much the energy rises where a site turns to 1, once the sites below it have turned, as
+/// far as the neighbour at a place goes.
+fn rise_at(form: &SiteForm, choices: &[Choice], site: u32, place: u32) -> i64
+    requires choices { length choices.now ≡ length form.now.at.now }
+    requires place { IsSitePlace form.now site place }
+    ensures rise { result
+        ≡ place_rise (form_of form.now) (turned_below form.now choices.now site) site place }
+    ensures small { unsigned_abs result ≤ pair_cost_limit }
+{
+    let rises = place_rises(form, site, place);
+    let head = form.ends.heads[place as usize];
+    if value_below(form, choices, site, head) {
+        return i64::from(rises.high);
+    }
+    i64::from(rises.low)
+}
+
+/// By how much the energy rises where a site turns to 1, once the sites below it have turned.
+fn rise_of(form: &SiteForm, choices: &[Choice], site: u32) -> i64
+    requires choices { length choices.now ≡ length form.now.at.now }
+    requires site { site < length form.now.at.now }
+    ensures rise { Tells form.now
+        (λ E. result ≡ rise E site (turned_below form.now choices.now site)) }
+    ensures range { unsigned_abs result ≤ rise_limit form.now.ends.now site }
+{
+    let mut total = i64::from(form.own[site as usize]);
+    for place in start(form, site)..start(form, site + 1) {
+        total += rise_at(form, choices, site, place);
+    }
+    total
+}
+
+/// By how much the energy rises where a site turns, once the sites below it have turned.
+fn turn(form: &SiteForm, choices: &[Choice], site: u32) -> i64
+    requires choices { length choices.now ≡ length form.now.at.now }
+    requires site { site < length form.now.at.now }
+    ensures rise { TellsOver form.now
+        (λ E. result ≡ E (turned_below form.now choices.now (site + 1))
+        -ℤ E (turned_below form.now choices.now site)) }
+    ensures range { unsigned_abs result ≤ rise_limit form.now.ends.now site }
+{
+    if !turns(form, choices, site) {
+        return 0;
+    }
+    let rise = rise_of(form, choices, site);
+    if value_of(choices, site) {
+        return rise;
+    }
+    -rise
 }
 
 /// Whether a rise is a fall.
@@ -32,105 +107,32 @@ pub(crate) fn is_negative(rise: i64) -> bool
     rise < 0
 }
 
-/// By how much more the label that a site's value makes costs it.
-pub(crate) fn site_rise<F: Fn(u32, u32) -> i64 + Sync, V: Fn(u32, u32) -> i64 + Sync>(
-    problem: &Problem<F, V>,
-    at: &[u8],
-    change: Move,
-    choices: &[Choice],
-    site: u32,
-) -> i64
-    requires valued { IsValuedMove F.Fn V.Fn problem.now at.now change choices.now }
-    requires site { site < length at.now }
-    ensures rise { WhereMeant F.Fn V.Fn problem.now
-        (λ m. result ≡ rise_by (λ f. m.data_cost site (f site)) change at.now choices.now) }
-    ensures range { unsigned_abs result ≤ site_cost_limit }
-{
-    let old = u32::from(at[site as usize]);
-    let new = made_label(at, change, choices, site);
-    if new == old {
-        return 0;
-    }
-    problem.site_cost(site, new) - problem.site_cost(site, old)
-}
-
-/// By how much more the labels that the values make cost the sites.
-fn data_rise<F: Fn(u32, u32) -> i64 + Sync, V: Fn(u32, u32) -> i64 + Sync>(
-    problem: &Problem<F, V>,
-    at: &[u8],
-    change: Move,
-    choices: &[Choice],
-) -> i64
-    requires valued { IsValuedMove F.Fn V.Fn problem.now at.now change choices.now }
-    ensures rise { WhereMeant F.Fn V.Fn problem.now
-        (λ m. result ≡ rise_by (data_energy m) change at.now choices.now) }
-    ensures range { unsigned_abs result ≤ data_energy_limit }
+/// By how much more the labels that the values make cost.
+pub(crate) fn change_of_all(form: &SiteForm, choices: &[Choice]) -> i64
+    requires choices { length choices.now ≡ length form.now.at.now }
+    ensures rise { WhereRead form.now
+        (λ m move f. result ≡ energy_rise m move f choices.now) }
+    ensures range { unsigned_abs result ≤ weights_limit }
 {
     let mut total = 0i64;
-    for site in 0..at.len() {
-        total += site_rise(problem, at, change, choices, site as u32);
+    for site in 0..form.at.len() {
+        total += turn(form, choices, site as u32);
     }
     total
 }
 
-/// By how much more the labels that the values make cost a pair.
-pub(crate) fn pair_rise<F: Fn(u32, u32) -> i64 + Sync, V: Fn(u32, u32) -> i64 + Sync>(
-    problem: &Problem<F, V>,
-    at: &[u8],
-    change: Move,
-    choices: &[Choice],
-    pair: Pair,
-) -> i64
-    requires valued { IsValuedMove F.Fn V.Fn problem.now at.now change choices.now }
-    requires pair { IsPair (length at.now) pair }
-    ensures rise { WhereMeant F.Fn V.Fn problem.now
-        (λ m. result ≡ rise_by (λ f. cost_of_pair m f pair) change at.now choices.now) }
-    ensures range { unsigned_abs result ≤ pair_cost_limit }
-{
-    let first = u32::from(at[pair.first as usize]);
-    let second = u32::from(at[pair.second as usize]);
-    let new_first = made_label(at, change, choices, pair.first);
-    let new_second = made_label(at, change, choices, pair.second);
-    if new_first == first && new_second == second {
-        return 0;
-    }
-    let new = problem.pair_cost(pair.weight, new_first, new_second);
-    let old = problem.pair_cost(pair.weight, first, second);
-    new - old
-}
-
-/// By how much more the labels that the values make cost the pairs.
-fn smooth_rise<F: Fn(u32, u32) -> i64 + Sync, V: Fn(u32, u32) -> i64 + Sync>(
-    problem: &Problem<F, V>,
-    at: &[u8],
-    change: Move,
-    choices: &[Choice],
-) -> i64
-    requires valued { IsValuedMove F.Fn V.Fn problem.now at.now change choices.now }
-    ensures rise { WhereMeant F.Fn V.Fn problem.now
-        (λ m. result ≡ rise_by (smooth_energy m) change at.now choices.now) }
-    ensures range { unsigned_abs result ≤ smooth_energy_limit }
+/// The same, where the sites whose labels change are among these.
+pub(crate) fn change_of_listed(form: &SiteForm, choices: &[Choice], sites: &[u32]) -> i64
+    requires choices { length choices.now ≡ length form.now.at.now }
+    requires listed { HasListing (length form.now.at.now) sites.now }
+    ensures rise { WhereRead form.now (λ m move f.
+        HasChanges move form.now.at.now choices.now sites.now →
+        result ≡ energy_rise m move f choices.now) }
+    ensures range { unsigned_abs result ≤ weights_limit }
 {
     let mut total = 0i64;
-    for index in 0..problem.pairs.len() {
-        total += pair_rise(problem, at, change, choices, problem.pairs.get(index));
+    for index in 0..sites.len() {
+        total += turn(form, choices, sites[index]);
     }
     total
-}
-
-/// Whether the labels that the values make have a lower energy than the labels as they are.
-pub(crate) fn lowers_all<F: Fn(u32, u32) -> i64 + Sync, V: Fn(u32, u32) -> i64 + Sync>(
-    problem: &Problem<F, V>,
-    at: &[u8],
-    change: Move,
-    choices: &[Choice],
-) -> bool
-    requires posed { IsPosed F.Fn V.Fn problem.now }
-    requires asked { IsAsked problem.now at.now change }
-    requires choices { length choices.now ≡ length at.now }
-    ensures { WhereMeant F.Fn V.Fn problem.now
-        (λ m. IsTrue result ↔ LowersEnergy m change at.now choices.now) }
-{
-    let rise = data_rise(problem, at, change, choices);
-    is_negative(rise + smooth_rise(problem, at, change, choices))
 }

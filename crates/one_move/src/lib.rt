@@ -7,7 +7,6 @@
 mod building;
 mod energy_change;
 mod error;
-mod listed_change;
 mod move_by_cut;
 mod taking;
 mod workspace;

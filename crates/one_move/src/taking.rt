@@ -6,10 +6,10 @@ ghost use Rattle.one_move.specs.Prelude.{WhereMeant, FitsProblem, AreOfOneSize};
 ghost use Rattle.one_move.specs.Prelude.{IsSmallestLeast};
 ghost use Rattle.one_move.specs.Prelude.{site_values, made_value, HasChanges, AreChangesListed};
 ghost use Rattle.one_move.specs.Prelude.{GivesMade, KeepsSizes, TellsChange, costs_of};
-ghost use Rattle.one_move.specs.Prelude.{IsFreeFor};
+ghost use Rattle.one_move.specs.Prelude.{IsFreeFor, IsSwap, HasFormOf, LowersEnergy};
 ghost use Rattle.one_move.specs.Prelude.{IsMade, HasTaken};
 
-use crate::listed_change::lowers;
+use crate::energy_change::{change_of_all, change_of_listed, is_negative};
 use crate::workspace::Workspace;
 use cost_store::Problem;
 use label_energies::Move;
@@ -31,7 +31,9 @@ pub(crate) fn take_best<F: Fn(u32, u32) -> i64 + Sync, V: Fn(u32, u32) -> i64 + 
     requires below { IsMoveOf field.old.labels change }
     requires choices { length space.now.built.variables.choices.items ≡ length field.old.at }
     requires changes { IsTrue space.now.deciding.lists.listed →
-        AreChangesListed problem.now.pairs change field.old.at space.now }
+        AreChangesListed change field.old.at space.now }
+    requires form { IsSwap change →
+        HasFormOf F.Fn V.Fn problem.now field.old.at change space.now }
     ensures sizes { AreOfOneSize field.old field.new }
     ensures made { IsMade change field.old.at field.new.at result }
     ensures taken { (a : ℕ) → change ≡ Expand a →
@@ -51,6 +53,32 @@ pub(crate) fn take_best<F: Fn(u32, u32) -> i64 + Sync, V: Fn(u32, u32) -> i64 + 
             relabel(field, space, change)
         }
     }
+}
+
+/// Whether the labels that the values make have a lower energy than the labels as they are.
+fn lowers<F: Fn(u32, u32) -> i64 + Sync, V: Fn(u32, u32) -> i64 + Sync>(
+    problem: &Problem<F, V>,
+    at: &[u8],
+    change: Move,
+    space: &Workspace,
+) -> bool
+    requires form { HasFormOf F.Fn V.Fn problem.now at.now change space.now }
+    requires choices { length space.now.built.variables.choices.items ≡ length at.now }
+    requires changes { IsTrue space.now.deciding.lists.listed →
+        AreChangesListed change at.now space.now }
+    ensures { WhereMeant F.Fn V.Fn problem.now (λ m. IsTrue result
+        ↔ LowersEnergy m change at.now space.now.built.variables.choices.items) }
+{
+    let form = space
+        .deciding
+        .numbers
+        .form(&problem.pairs, &space.deciding.ends, at);
+    let choices = &space.built.variables.choices;
+    if space.deciding.lists.listed {
+        let sites = &space.deciding.lists.changing;
+        return is_negative(change_of_listed(&form, choices, sites));
+    }
+    is_negative(change_of_all(&form, choices))
 }
 
 /// Gives each site the label that its value makes. It answers whether a label changed. Where the

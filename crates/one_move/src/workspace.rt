@@ -1,5 +1,5 @@
 //! What the moves of a run work with, from one move to the next.
-ghost use Rattle.std.specs.Prelude.{◌≡◌, false, OnOk, IsTrue};
+ghost use Rattle.std.specs.Prelude.{◌≡◌, [], OnOk, IsTrue};
 ghost use Rattle.move_energy.specs.BySite.{AreBySite};
 ghost use Rattle.move_energy.specs.Choices.{AreOpenSites, AreAssigned};
 ghost use Rattle.site_forms.specs.Lists.{HasNoCosts};
@@ -30,7 +30,6 @@ pub fn give_numbers_back(alloc: Global, listed: bool, of_sites: &mut Vec<u32>) {
 /// expansions look, and the lists of its cuts. And whether the way to cut had a net of the run.
 #[derive(Drop)]
 pub struct Workspace {
-    pub grouped: bool,
     pub shared: bool,
     pub deciding: Deciding,
     pub built: MoveEnergy,
@@ -42,11 +41,10 @@ pub struct Workspace {
 impl Workspace {
     /// A workspace of which nothing is taken yet. It takes no memory.
     pub fn new(alloc: Global) -> Workspace
-        ensures grouped { result.grouped ≡ false }
+        ensures ends { result.deciding.ends.starts.items ≡ [] }
         ensures numbers { HasNoCosts result.deciding.numbers }
     {
         Workspace {
-            grouped: false,
             shared: false,
             deciding: Deciding::empty(alloc),
             built: MoveEnergy::new(alloc),
@@ -68,9 +66,8 @@ impl Workspace {
         ensures of_problem { IsOfProblem F.Fn V.Fn problem.now self.new }
         ensures same { (self.new.built ≡ self.old.built) × (self.new.stage ≡ self.old.stage) }
     {
-        if !self.grouped {
+        if self.deciding.ends.starts.is_empty() {
             self.deciding.ends = group_pairs(alloc, &problem.pairs)?;
-            self.grouped = true;
         }
         Ok(())
     }
@@ -82,8 +79,7 @@ impl Workspace {
             self.old.deciding.lists.opened.items }
         ensures assigned { AreAssigned self.old.built.variables.choices.items bits.now
             self.new.built.variables.choices.items }
-        ensures same { (self.new.grouped ≡ self.old.grouped)
-            × (self.new.deciding ≡ self.old.deciding) }
+        ensures same { self.new.deciding ≡ self.old.deciding }
     {
         if self.deciding.lists.listed {
             self.built

@@ -19,5 +19,5 @@ mod smooth_costs;
 pub use ends::is_first_end;
 pub use lists::FormLists;
 pub use numbers::SiteForm;
-pub use rises::{place_rises, read_rises, site_rises};
+pub use rises::{place_rises, read_rises, site_rises, start};
 pub use savings::{pair_saving, saving_beside};

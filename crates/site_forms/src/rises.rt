@@ -79,7 +79,7 @@ fn rises_at(form: &SiteForm, known: &[Choice], site: u32, place: u32, head: u32)
 
 /// Where the places of a site begin; of the number of sites, where those of the last end.
 #[inline]
-fn start(form: &SiteForm, site: u32) -> u32
+pub fn start(form: &SiteForm, site: u32) -> u32
     requires { site ≤ length form.now.at.now }
     ensures { result ≡ neighbours_start form.now.ends.now site }
 {

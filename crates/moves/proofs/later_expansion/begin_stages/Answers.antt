@@ -1,4 +1,5 @@
-use Rattle.std.proofs.Common.{◌≡◌, ◌∙◌, ◌↔◌, ◌<◌, List, ℕ, Bool, length, ap, sym, subst, arith}
+use Rattle.std.proofs.Common.{◌≡◌, ◌∙◌, ◌↔◌, ◌<◌, All, List, ℕ, Bool, length, ap, sym, subst, arith}
+use Rattle.std.specs.List.{Contains}
 use Rattle.label_energies.specs.declared.change.Move.TheVariants.{Expand}
 use Rattle.label_energies.specs.Energies.{labelling}
 use Rattle.move_energy.specs.declared.choice.Choice.TheVariants.{Zero}
@@ -13,6 +14,7 @@ use Rattle.near_changes.specs.Changes.{made_of}
 use Rattle.persistency.specs.Fixing.{AreLeastZeros}
 use Rattle.near_changes.specs.Fresh.{AreFresh}
 use Rattle.near_changes.specs.Looking.{is_marked, changed_since}
+use Rattle.move_energy.proofs.Adding.{on_ok_both}
 use Rattle.moves.proofs.Stages.{first_zeros, on_ok, on_ok_map}
 use Rattle.moves.proofs.later_expansion.begin_stages.Goals as goal
 
@@ -54,7 +56,7 @@ returns-clause-zeros g c = λ m meant.
 pub returns-then-branch-clause-numbers : goal.returns-then-branch-clause-numbers
 returns-then-branch-clause-numbers g c =
     let a = c.args in
-    let same = c.open_apart.ensures.same.decided.1 in
+    let same = c.open_apart.ensures.same.decided in
     let L : Deciding → Type 0 = λ d. AreFormLists a.at.now d.numbers in
     record {
       sites = c.requires.asked.asked.sites;
@@ -66,7 +68,7 @@ returns-then-branch-clause-numbers g c =
 pub returns-clause-numbers : goal.returns-clause-numbers
 returns-clause-numbers g c =
     let a = c.args in
-    let same = c.open_apart.ensures.same.decided.1 in
+    let same = c.open_apart.ensures.same.decided in
     let L : Deciding → Type 0 = λ d. AreFormLists a.at.now d.numbers in
     on_ok _ c.open_first.result record {
       sites = c.requires.asked.asked.sites;
@@ -80,18 +82,33 @@ returns-then-branch-clause-of_problem g c =
     let same = c.open_apart.ensures.same.decided in
     let E : Deciding → Type 0 = λ d. AreBySite c.args.problem.now.pairs d.ends in
     let C : Deciding → Type 0 = λ d. KnowsCosts g.F.Fn g.V.Fn c.args.problem.now d.numbers in
-    ((λ grouped. subst E (sym same.1) (c.group.ensures.of_problem.0 (sym same.0 ∙ grouped))), subst C (sym same.1) c.read.ensures.known)
+    ((λ some. subst E (sym same) c.in_ok-group.ensures.grouped), subst C (sym same) c.read.ensures.known)
 
 pub returns-clause-of_problem : goal.returns-clause-of_problem
 returns-clause-of_problem g c =
     let same = c.open_apart.ensures.same.decided in
     let E : Deciding → Type 0 = λ d. AreBySite c.args.problem.now.pairs d.ends in
     let C : Deciding → Type 0 = λ d. KnowsCosts g.F.Fn g.V.Fn c.args.problem.now d.numbers in
-    ((λ grouped. subst E (sym same.1) (c.group.ensures.of_problem.0 (sym same.0 ∙ grouped))), subst C (sym same.1) c.read.ensures.known)
+    ((λ some. subst E (sym same) c.in_ok-group.ensures.grouped), subst C (sym same) c.read.ensures.known)
 
 pub returns-in_err-open_apart-clause-of_problem : goal.returns-in_err-open_apart-clause-of_problem
 returns-in_err-open_apart-clause-of_problem g c =
     let same = c.open_apart.ensures.same.decided in
     let E : Deciding → Type 0 = λ d. AreBySite c.args.problem.now.pairs d.ends in
     let C : Deciding → Type 0 = λ d. KnowsCosts g.F.Fn g.V.Fn c.args.problem.now d.numbers in
-    ((λ grouped. subst E (sym same.1) (c.group.ensures.of_problem.0 (sym same.0 ∙ grouped))), subst C (sym same.1) c.read.ensures.known)
+    ((λ some. subst E (sym same) c.in_ok-group.ensures.grouped), subst C (sym same) c.read.ensures.known)
+
+pub returns-clause-stage : goal.returns-clause-stage
+returns-clause-stage g c =
+    let a = c.args in
+    let E : Deciding → Type 0 = λ d. AreBySite a.problem.now.pairs d.ends in
+    let fresh = c.in_ok-mark_fresh.ensures.fresh in
+    let flags = ap (λ (v : _). v.items) (c.open_first.ensures.same.0 ∙ c.open_apart.ensures.same.fresh) in
+    let sites = ap (λ (v : _). v.items) (c.open_first.ensures.same.1 ∙ c.open_apart.ensures.same.listed) in
+    on_ok_both c.open_first.result _ _ _ (λ count opened. record {
+      by_site = subst E (sym c.open_apart.ensures.same.decided) c.in_ok-group.ensures.grouped;
+      sites = count ∙ c.requires.asked.asked.sites;
+      opened = opened;
+      listed = λ p l is. subst (λ (xs : List ℕ). Contains xs p) (sym sites) (fresh.listed p l (ap (λ (xs : List Bool). is_marked xs p) (sym flags) ∙ is));
+      inside = subst (λ (xs : List ℕ). All (λ p. p < a.problem.now.pairs.sites) xs) (sym sites) fresh.inside;
+    }) c.open_first.ensures.count c.open_first.ensures.opened

@@ -14,4 +14,4 @@ returns-clause-over_metric g c = λ m meant first second free.
     (first, second) (λ swap. free) (c.make_move-moved.ensures.moved m meant) c.make_move-moved.ensures.refused
 
 pub make_move-moved-requires-clause-of_problem : goal.make_move-moved-requires-clause-of_problem
-make_move-moved-requires-clause-of_problem g c = λ κs lives. new_of_problem _ _ c.args.problem.now c.new-space.result c.new-space.ensures.grouped c.new-space.ensures.numbers
+make_move-moved-requires-clause-of_problem g c = λ κs lives. new_of_problem _ _ c.args.problem.now c.new-space.result c.new-space.ensures.ends c.new-space.ensures.numbers

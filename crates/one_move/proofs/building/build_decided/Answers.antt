@@ -4,7 +4,7 @@ use Rattle.move_energy.specs.Choices.{choice_at}
 use Rattle.cost_store.proofs.Meaning.{pairs_meant}
 use Rattle.persistency.proofs.Borders.{decided_agree}
 use Rattle.one_move.proofs.OfProblem.{still_of_problem}
-use Rattle.one_move.proofs.Forms.{agreed_built, plain_built}
+use Rattle.one_move.proofs.Forms.{agreed_built, plain_built, form_kept}
 use Rattle.one_move.proofs.building.build_decided.Goals as goal
 
 pub decide-requires-clause-asked : goal.decide-requires-clause-asked
@@ -19,6 +19,7 @@ pub returns-in_err-decide : goal.returns-in_err-decide
 returns-in_err-decide g c = record {
   of_problem = c.decide.ensures.of_problem;
   left = (let p = err_from_is_err_and c.from_residual-in_err-decide.result c.from_residual-in_err-decide.ensures.1 in rw (p.1) tt);
+  form = (let p = err_from_is_err_and c.from_residual-in_err-decide.result c.from_residual-in_err-decide.ensures.1 in rw (p.1) tt);
   built = λ m meant.
       let p = err_from_is_err_and c.from_residual-in_err-decide.result c.from_residual-in_err-decide.ensures.1 in
       rw (p.1, p.2) (c.in_err-decide.ensures.decided m meant);
@@ -29,6 +30,8 @@ returns g c =
     let form = c.in_ok-build_strips.ensures.form in
     record {
       of_problem = c.build_strips.ensures.of_problem;
+      form = form_kept _ _ c.args.problem.now c.args.at.now c.args.change c.decide.new.space c.build_strips.new.space
+          c.build_strips.ensures.known.0 c.build_strips.ensures.known.1 c.in_ok-decide.ensures.weighed.read;
       left = record {
         near = c.in_ok-build_strips.ensures.near;
         choices = c.in_ok-build_strips.ensures.choices;
@@ -56,6 +59,7 @@ returns-in_err-build_rest g c =
     record {
       of_problem = still_of_problem _ _ c.args.problem.now c.close_apart.new.space c.build_rest.new.space c.build_rest.ensures.same c.in_ok-close_apart.ensures.of_problem;
       left = rw (p.1) tt;
+      form = rw (p.1) tt;
       built = λ m meant. rw (p.1, p.2) tt;
     }
 

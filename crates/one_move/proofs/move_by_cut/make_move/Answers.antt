@@ -11,6 +11,8 @@ use Rattle.site_bounds.specs.declared.sites.Deciding.{Deciding}
 use Rattle.cost_store.proofs.Meaning.{pairs_meant}
 use Rattle.one_move.proofs.Least.{assigned_least}
 use Rattle.one_move.proofs.Changes.{near_changes}
+use Rattle.one_move.specs.Building.{HasFormOf}
+use Rattle.one_move.proofs.Forms.{still_form}
 use Rattle.one_move.proofs.OfProblem.{still_of_problem}
 use Rattle.cost_store.specs.LabelCosts.{AreLabelCosts}
 use Rattle.one_move.proofs.move_by_cut.make_move.Goals as goal
@@ -139,10 +141,10 @@ take_best-requires-clause-choices g c = λ κs lives.
 pub take_best-requires-clause-changes : goal.take_best-requires-clause-changes
 take_best-requires-clause-changes g c = λ κs lives listed.
     let same = c.assign.ensures.same in
-    let yes = subst (λ (d : Deciding). IsTrue d.lists.listed) same.1 listed in
+    let yes = subst (λ (d : Deciding). IsTrue d.lists.listed) same listed in
     let near = rw (c.as_slice.ensures.value) at (c.in-Ok.ensures.left.near yes) in
-    near_changes c.args.problem.now.pairs c.args.change c.args.labelling.now.at _ c.assign.new.self _
-    (c.in-Ok.ensures.left.choices ∙ ap (λ (xs : List ℕ). length xs) c.as_slice.ensures.value) near same.1 c.assign.ensures.assigned
+    near_changes c.args.change c.args.labelling.now.at _ c.assign.new.self _
+    (c.in-Ok.ensures.left.choices ∙ ap (λ (xs : List ℕ). length xs) c.as_slice.ensures.value) near same c.assign.ensures.assigned
 
 pub returns-clause-of_problem : goal.returns-clause-of_problem
 returns-clause-of_problem g c =
@@ -207,3 +209,9 @@ build_move-requires-clause-asked g c = λ κs lives.
 
 pub returns-clause-taken : goal.returns-clause-taken
 returns-clause-taken g c = c.take_best.ensures.taken
+
+pub take_best-requires-clause-form : goal.take_best-requires-clause-form
+take_best-requires-clause-form g c = λ κs lives swap.
+    let P : List ℕ → Type 0 = λ f. HasFormOf g.F.Fn g.V.Fn c.args.problem.now f c.args.change c.build_move.new.space in
+    still_form _ _ c.args.problem.now c.args.labelling.now.at c.args.change c.build_move.new.space c.assign.new.self c.assign.ensures.same
+    (subst P c.as_slice.ensures.value (c.in-Ok.ensures.form swap))

@@ -1,6 +1,6 @@
 use Rattle.std.proofs.Common.{◌≡◌, ◌∙◌, ℕ, List, length, ap, sym, subst, refl, arith}
 use Rattle.cost_store.proofs.Meaning.{pairs_meant}
-use Rattle.one_move.specs.Building.{site_values, AreChangesListed}
+use Rattle.one_move.specs.Building.{site_values, AreChangesListed, HasFormOf}
 use Rattle.label_energies.specs.declared.change.Move.{Move}
 use Rattle.cost_store.specs.LabelCosts.{costs_of}
 use Rattle.one_move.specs.LabelCosts.{IsFreeFor}
@@ -8,7 +8,7 @@ use Rattle.one_move.proofs.Answers.{costs_free}
 use Rattle.one_move.proofs.Least.{expanded_best, lower_best, kept_best, free_le, free_lt}
 use Rattle.std.specs.Prelude.{slice_index}
 use Rattle.label_energies.specs.Energies.{labelling}
-use Rattle.label_energies.specs.Moves.{label_after}
+use Rattle.label_energies.specs.Moves.{label_after, IsSwap}
 use Rattle.label_energies.proofs.Best.{stays-reached}
 use Rattle.one_move.proofs.Relabelled.{values_reach}
 use Rattle.one_move.proofs.Rising.{not_lower}
@@ -101,5 +101,11 @@ returns-else-not-lowers-clause-taken g c = λ a is. (let swap = c.in-Swap.is in 
 
 pub lowers-requires-clause-changes : goal.lowers-requires-clause-changes
 lowers-requires-clause-changes g c = λ κs lives yes.
-    let P : List ℕ → Type 0 = λ f. AreChangesListed c.args.problem.now.pairs c.args.change f c.args.space.now in
+    let P : List ℕ → Type 0 = λ f. AreChangesListed c.args.change f c.args.space.now in
     subst P (sym c.as_slice.ensures.value) (c.requires.changes yes)
+
+pub lowers-requires-clause-form : goal.lowers-requires-clause-form
+lowers-requires-clause-form g c = λ κs lives.
+    let S : Move → Type 0 = λ move. IsSwap move in
+    let P : List ℕ → Type 0 = λ f. HasFormOf g.F.Fn g.V.Fn c.args.problem.now f c.args.change c.args.space.now in
+    subst P (sym c.as_slice.ensures.value) (c.requires.form (subst S (sym c.in-Swap.is) tt))

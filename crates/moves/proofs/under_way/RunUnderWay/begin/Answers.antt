@@ -10,7 +10,7 @@ returns g c =
     (record {
       posed = c.requires.posed;
       fits = c.requires.fits;
-      of_problem = new_of_problem _ _ c.args.problem.now c.new.result c.new.ensures.grouped c.new.ensures.numbers;
+      of_problem = new_of_problem _ _ c.args.problem.now c.new.result c.new.ensures.ends c.new.ensures.numbers;
       stamped = c.begin_changes.ensures;
     })
     c.begin.ensures.asked.0 labels c.begin.ensures.asked.2

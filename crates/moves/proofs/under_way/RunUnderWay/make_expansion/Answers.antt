@@ -1,4 +1,8 @@
-use Rattle.std.proofs.Common.{◌∙◌, List, refl, sym, subst}
+use Rattle.std.proofs.Common.{◌∙◌, Bool, List, Option, Ok, length, refl, sym, subst}
+use Rattle.std.specs.Prelude.{IfSome}
+use Rattle.cost_store.specs.LabelCosts.{costs_of, AreFree}
+use Rattle.near_changes.specs.Looking.{is_marked, AreTaking}
+use Rattle.moves.specs.Stages.{IsLater}
 use Rattle.label_field.specs.LabelFields.{LabelField}
 use Rattle.label_energies.specs.Energies.{labelling}
 use Rattle.move_energy.specs.declared.choice.Choice.{Choice}
@@ -25,4 +29,24 @@ returns-clause-under_way g c = record {
       let taken = subst T (sym c.deref.ensures.value) (c.in_ok-changed.ensures.taken a refl) in
       c.note_whole.ensures f h taken m meant (c.in_ok-later.ensures.sizes.sites ∙ c.requires.under_way.fits.sites ∙ sym meant.sites_are)
       (c.in_ok-changed.ensures.moved m meant).2 (subst S (sym same) (c.requires.under_way.stamped m meant));
+}
+
+pub returns-in-Some-clause-under_way : goal.returns-in-Some-clause-under_way
+returns-in-Some-clause-under_way g c = record {
+  posed = c.requires.under_way.posed;
+  fits = record {
+    sites = c.in_ok-later.ensures.sizes.sites ∙ c.requires.under_way.fits.sites;
+    labels = c.in_ok-later.ensures.sizes.labels ∙ c.requires.under_way.fits.labels;
+  };
+  of_problem = c.make_later.ensures.of_problem;
+  stamped = λ m meant.
+      let a = c.args.alpha in
+      let f = c.args.labelling.now.at in
+      let h = c.make_later.new.labelling.at in
+      let stage = c.make_later.new.space.stage in
+      let T : Option Bool → Type 0 = λ later. IfSome later (λ _. AreTaking (length f) stage × HasTaken a (is_marked stage.taken.items) f h × AreFree (costs_of c.args.problem.now.label_costs)) in
+      let M : Option Bool → Type 0 = λ later. IsLater m a f h (Ok later) in
+      let taken = subst T c.in-Some.is c.in_ok-later.ensures.taken in
+      let moved = subst M c.in-Some.is (c.in_ok-later.ensures.moved m meant) in
+      c.note_later.ensures f h taken.0 taken.1 m meant (c.requires.under_way.fits.sites ∙ sym meant.sites_are) moved.2 (c.requires.under_way.stamped m meant);
 }
