@@ -20,7 +20,7 @@ pub use Rattle.label_field.specs.PairLists.{IsPair}
 pub use Rattle.label_energies.specs.Energies.{labelling, Instance, IsInstance}
 pub use Rattle.label_energies.specs.Moves.{IsAllowed}
 pub use Rattle.label_energies.specs.declared.change.Move.{Move}
-pub use Rattle.move_energy.specs.BySite.{AreBySite, degree}
+pub use Rattle.move_energy.specs.BySite.{AreBySite, degree, pair_beside}
 pub use Rattle.move_energy.specs.Choices.{Changes, bit_of, choice_at, AreAllOpen}
 pub use Rattle.move_energy.specs.Limits.{surplus_limit, weights_limit}
 pub use Rattle.move_energy.specs.Problems.{IsPrepareRefusal}
@@ -29,4 +29,4 @@ pub use Rattle.move_energy.specs.Assignments.{rise}
 pub use Rattle.move_energy.specs.Ends.{decided_or}
 pub use Rattle.move_energy.specs.MoveValues.{move_value}
 pub use Rattle.site_forms.specs.Lists.{AreFormLists, IsReadOf, KnowsCosts, HasNoCosts}
-pub use Rattle.site_forms.specs.Numbers.{IsFormOf, IsOverPairs, WhereRead}
+pub use Rattle.site_forms.specs.Numbers.{IsFormOf, IsOverPairs, IsSitePlace, WhereRead}

@@ -13,6 +13,6 @@ mod waiting_sites;
 pub use bounds::Bounds;
 pub use lists::Lists;
 pub use move_energy::EndRises;
-pub use site_forms::{FormLists, SiteForm, pair_saving};
+pub use site_forms::{FormLists, SiteForm};
 pub use sites::Deciding;
 pub use sweeps::{read_weight, sweep};

@@ -1,7 +1,7 @@
 //! Deciding the sites that wait, one after another.
 ghost use Rattle.std.specs.Prelude.{◌≡◌, ◌≢◌, ◌⊎◌, ◌<◌, ◌≤◌, ◌+◌, ◌*◌, ◌^◌, ℕ, Bool, length, Some};
 ghost use Rattle.std.specs.Prelude.{unsigned_abs, OnOk, IsTrue, ◌↔◌, []};
-ghost use Rattle.site_bounds.specs.Prelude.{IsPair, degree, Open, choice_at, bit_of, surplus_limit};
+ghost use Rattle.site_bounds.specs.Prelude.{IsSitePlace, pair_beside, degree, Open, choice_at, bit_of, surplus_limit};
 ghost use Rattle.site_bounds.specs.Prelude.{IsOverPairs, WhereRead, IsInBudget, ends_left};
 ghost use Rattle.site_bounds.specs.Prelude.{total_left, summed_count, CanDecide, TellsValue};
 ghost use Rattle.site_bounds.specs.Prelude.{IsMarked};
@@ -11,9 +11,8 @@ ghost use Rattle.site_bounds.specs.Prelude.{least_shift as least_shift_of};
 ghost use Rattle.site_bounds.specs.Prelude.{greatest_shift as greatest_shift_of, greatest_total};
 
 use crate::Bounds;
-use label_field::Pair;
-use move_energy::{Choice, other_end, pair_beside};
-use site_forms::{SiteForm, pair_saving};
+use move_energy::Choice;
+use site_forms::{SiteForm, head_at, saving_beside};
 use std::alloc::AllocError;
 
 /// What is known of a variable once it has a value.
@@ -95,26 +94,26 @@ impl Bounds {
         (site as usize) < self.least.len() && self.choices[site as usize].is_open()
     }
 
-    /// Sees a pair with the value of one of its sites. A site that was not summed sees it when it
-    /// is.
-    fn see(&mut self, form: &SiteForm, pair: Pair, site: u32, value: bool) -> Result<(), AllocError>
+    /// Sees the pair at a place of a site with the site's value. A neighbour that was not summed
+    /// sees it when it is.
+    fn see(&mut self, form: &SiteForm, site: u32, place: u32, value: bool) -> Result<(), AllocError>
         requires over { IsOverPairs form.now }
-        requires pair { IsPair (length form.now.at.now) pair }
-        requires end { (pair.first ≡ site) ⊎ (pair.second ≡ site) }
+        requires place { IsSitePlace form.now site place }
         requires sized { IsSummed (length form.now.at.now) self.old }
         requires range { IsWithinRange (2 ^ 60) self.old }
         requires waiting { AreWaiting (summed_count self.old) self.old }
         ensures looking { OnOk result (IsLooking 1 self.old self.new) }
         ensures waiting { OnOk result (AreWaiting (summed_count self.old) self.new) }
         ensures sees { OnOk result (WhereRead form.now (λ m move f.
-            SeesPair m move f (summed_count self.old) site value pair self.old self.new)) }
+            SeesPair m move f (summed_count self.old) site value
+            (pair_beside form.now.ends.now site place) self.old self.new)) }
     {
-        let other = other_end(pair, site);
-        if !self.has_bounds(other) {
+        let head = head_at(form, site, place);
+        if !self.has_bounds(head) {
             return Ok(());
         }
-        let surplus = pair_saving(form, pair);
-        self.shift(other, value, surplus)
+        let surplus = saving_beside(form, site, place, head);
+        self.shift(head, value, surplus)
     }
 
     /// Gives a site its value.
@@ -152,8 +151,7 @@ impl Bounds {
         self.mark(site as usize, value);
         let ends = form.ends;
         for place in ends.starts[site as usize]..ends.starts[site as usize + 1] {
-            let pair = pair_beside(form.pairs, ends, site, place);
-            self.see(form, pair, site, value)?;
+            self.see(form, site, place, value)?;
         }
         Ok(())
     }

@@ -1,9 +1,11 @@
 -- What the lists of a form hold, and where.
-use Rattle.std.proofs.Common.{◌≡◌, ℕ, ◌+◌, ◌*◌, ◌<◌, ◌≤◌, Bool, true, false, List, sym, ◌∙◌, All, length, slice_index, ℤ, pos, ◌-ℤ◌, unsigned_abs, inl, inr, arith}
+use Rattle.std.specs.Prelude.{not}
+use Rattle.std.proofs.Common.{◌≡◌, ◌≢◌, ◌==◌, ℕ, ap, w32, to_z, of_z, ◌+◌, ◌*◌, ◌<◌, ◌≤◌, Bool, true, false, List, sym, ◌∙◌, All, length, slice_index, ℤ, pos, ◌-ℤ◌, unsigned_abs, inl, inr, arith}
 use Rattle.std.proofs.lemmas.Int.{ints}
 use Rattle.std.proofs.lemmas.Bool.{cases_lt}
 use Rattle.std.proofs.lemmas.List.{get_or_past}
 use Rattle.std.proofs.lemmas.List.Elements.{All-get_or}
+use Rattle.move_energy.proofs.SiteSums.{test_false}
 use Rattle.move_energy.specs.declared.rises.EndRises.{EndRises}
 use Rattle.site_forms.specs.Fields.{table_cost, unit_rise, own_at, IsSiteLabel, AreSymmetric}
 use Rattle.site_forms.specs.declared.numbers.SiteForm.{SiteForm}
@@ -67,3 +69,11 @@ either_end form weight false own other rises same are = record {
   low_small = are.low_small;
   high_small = are.high_small;
 }
+
+-- a const parameter, which stands for a flag
+pub flagged : (n : ℕ) (b : Bool) → not (n == 0) ≡ b → n ≢ 0 → b ≡ true
+flagged n b is some = sym is ∙ ap not (test_false n 0 some)
+
+-- a difference of two costs, as it is passed on
+pub unit_passed : (a b : ℕ) (z : ℤ) → z ≡ pos a -ℤ pos b → a ≤ 10000 → b ≤ 10000 → unsigned_abs (to_z w32 (of_z w32 z)) ≤ 10000
+unit_passed a b z is l h = omega (arith, ints, is, l, h)

@@ -21,7 +21,7 @@ use Rattle.site_forms.specs.MoveForms.{move_form, end_rise_at}
 use Rattle.site_forms.proofs.Told.{told_value}
 
 -- the ends of a pair that is told by one of them
-from_ends : (first : Bool) (u head weight : ℕ) → AreEnds (pair_from first u head weight) u head
+pub from_ends : (first : Bool) (u head weight : ℕ) → AreEnds (pair_from first u head weight) u head
 from_ends true u head weight = inl (refl, refl)
 from_ends false u head weight = inr (refl, refl)
 

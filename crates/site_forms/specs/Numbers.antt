@@ -1,6 +1,6 @@
 -- The form that the numbers of a move are.
 use Rattle.std.specs.Prelude.{◌≡◌, ℕ, ◌+◌, ◌*◌, ◌<◌, ◌≤◌, Bool, true, false, cond, ℤ, pos, ◌-ℤ◌}
-use Rattle.std.specs.Prelude.{length, slice_index, unsigned_abs}
+use Rattle.std.specs.Prelude.{List, length, slice_index, unsigned_abs}
 use Rattle.label_field.specs.PairLists.{IsPairList}
 use Rattle.label_energies.specs.declared.change.Move.{Move}
 use Rattle.label_energies.specs.Energies.{Instance, IsInstance, labelling}
@@ -9,7 +9,11 @@ use Rattle.cost_store.specs.Limits.{pair_cost_limit}
 use Rattle.move_energy.specs.BySite.{AreBySite, AreNeighboursOf, neighbours_start, neighbour_at}
 use Rattle.move_energy.specs.BySite.{is_first, weight_at}
 use Rattle.move_energy.specs.MoveValues.{move_value}
+use Rattle.move_energy.specs.Assignments.{rise}
+use Rattle.move_energy.specs.Ends.{decided_or, HasNoneBefore, rise_limit}
+use Rattle.move_energy.specs.declared.choice.Choice.{Choice}
 use Rattle.move_energy.specs.declared.rises.EndRises.{EndRises}
+use Rattle.move_energy.specs.declared.rises.SiteRises.{SiteRises}
 use Rattle.site_forms.specs.Forms.{Form, TellsRises}
 use Rattle.site_forms.specs.Fields.{table_cost, own_at, AreReadOf}
 use Rattle.site_forms.specs.declared.numbers.SiteForm.{SiteForm}
@@ -61,6 +65,16 @@ pub record AreEndRises (form : SiteForm) (weight : ℕ) (first : Bool) (own othe
 -- this holds of each function whose rises the numbers tell
 abbrev pub Tells : SiteForm → (((ℕ → Bool) → ℤ) → Type 0) → Type 0
 Tells form P = (E : (ℕ → Bool) → ℤ) → TellsRises (form_of form) E → P E
+
+-- by how much the value rises where a site turns, at least and at most, by what is known of its
+-- neighbours; and whether one of them before it may be open
+pub record AreSiteRises (form : SiteForm) (known : List Choice) (site : ℕ) (rises : SiteRises)
+    : Type 0 where
+  pub least : Tells form (λ E. rises.least ≡ rise E site (decided_or known true))
+  pub greatest : Tells form (λ E. rises.greatest ≡ rise E site (decided_or known false))
+  pub range : (unsigned_abs rises.least ≤ rise_limit form.ends.now site)
+      × (unsigned_abs rises.greatest ≤ rise_limit form.ends.now site)
+  pub alone : rises.beside ≡ false → HasNoneBefore known form.ends.now site
 
 -- the form is of these pairs, and its neighbours are theirs by site
 pub record IsOverPairs (form : SiteForm) : Type 0 where

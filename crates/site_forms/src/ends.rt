@@ -1,10 +1,20 @@
 //! The places of a site, read of a form.
-ghost use Rattle.std.specs.Prelude.{◌≡◌};
+ghost use Rattle.std.specs.Prelude.{◌≡◌, ◌<◌, length};
 ghost use Rattle.move_energy.specs.BySite.{neighbour_at, weight_at};
 ghost use Rattle.move_energy.specs.BySite.{is_first as is_first_of};
 ghost use Rattle.site_forms.specs.Numbers.{IsSitePlace};
 
 use crate::numbers::SiteForm;
+
+/// The neighbour at a place of a site.
+#[inline]
+pub fn head_at(form: &SiteForm, site: u32, place: u32) -> u32
+    requires place { IsSitePlace form.now site place }
+    ensures head { result ≡ neighbour_at form.now.ends.now place }
+    ensures inside { result < length form.now.at.now }
+{
+    form.ends.heads[place as usize]
+}
 
 /// Whether a site is the first of the pair that it has with a neighbour.
 #[inline]

@@ -16,8 +16,8 @@ mod rises;
 mod savings;
 mod smooth_costs;
 
-pub use ends::is_first_end;
+pub use ends::{head_at, is_first_end};
 pub use lists::FormLists;
 pub use numbers::SiteForm;
-pub use rises::{place_rises, read_rises, site_rises, start};
-pub use savings::{pair_saving, saving_beside};
+pub use rises::{read_rises, site_rises, start};
+pub use savings::saving_beside;

@@ -89,15 +89,23 @@ fn times(weight: u32, rise: i32) -> i32
 }
 
 /// By how much the cost of a pair of this weight rises where its first end, or its second, turns:
-/// while the value of its other end is 0, and while it is 1. The ends have these labels.
+/// while the value of its other end is 0, and while it is 1. The ends have these labels. `FEW` is
+/// that of the form, so that a loop over places does not ask for it again.
 #[inline]
-fn ordered_rises(form: &SiteForm, first: bool, weight: u32, own: u8, other: u8) -> EndRises
+fn ordered_rises<const FEW: bool>(
+    form: &SiteForm,
+    first: bool,
+    weight: u32,
+    own: u8,
+    other: u8,
+) -> EndRises
+    requires way { FEW ≡ form.now.few }
     requires weight { weight ≤ weight_limit }
     requires own { IsSiteLabel form.now.at.now own }
     requires other { IsSiteLabel form.now.at.now other }
     ensures { AreEndRises form.now weight first own other result }
 {
-    if form.few {
+    if FEW {
         let rises = unit_rises(form.table, first, own, other);
         return EndRises {
             low: times(weight, rises.low),
@@ -113,14 +121,21 @@ fn ordered_rises(form: &SiteForm, first: bool, weight: u32, own: u8, other: u8) 
 /// The same. Where each two labels cost the same in both orders, the first end is read for the
 /// second, so that a row of costs is chosen once a site.
 #[inline]
-pub(crate) fn end_rises(form: &SiteForm, first: bool, weight: u32, own: u8, other: u8) -> EndRises
+pub(crate) fn end_rises<const FEW: bool>(
+    form: &SiteForm,
+    first: bool,
+    weight: u32,
+    own: u8,
+    other: u8,
+) -> EndRises
+    requires way { FEW ≡ form.now.few }
     requires weight { weight ≤ weight_limit }
     requires own { IsSiteLabel form.now.at.now own }
     requires other { IsSiteLabel form.now.at.now other }
     ensures { AreEndRises form.now weight first own other result }
 {
     if form.symmetric {
-        return ordered_rises(form, true, weight, own, other);
+        return ordered_rises::<FEW>(form, true, weight, own, other);
     }
-    ordered_rises(form, first, weight, own, other)
+    ordered_rises::<FEW>(form, first, weight, own, other)
 }

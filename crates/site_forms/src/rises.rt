@@ -1,33 +1,40 @@
 //! By how much a function of the sites rises where one of them turns, read of a form.
 ghost use Rattle.std.specs.Prelude.{◌≡◌, ◌≢◌, ◌+◌, ◌*◌, ◌<◌, ◌≤◌, ℕ, true, false, length};
-ghost use Rattle.std.specs.Prelude.{unsigned_abs, cond};
+ghost use Rattle.std.specs.Prelude.{unsigned_abs};
 ghost use Rattle.cost_store.specs.Limits.{site_cost_limit, pair_cost_limit};
 ghost use Rattle.label_energies.specs.Energies.{labelling};
 ghost use Rattle.move_energy.specs.declared.choice.Choice.TheVariants.{Open};
 ghost use Rattle.move_energy.specs.BySite.{degree, neighbours_start, neighbour_at, pair_beside};
 ghost use Rattle.move_energy.specs.BySite.{is_first as is_first_of, weight_at as weight_of};
-ghost use Rattle.move_energy.specs.Choices.{choice_at, bit_of};
+ghost use Rattle.move_energy.specs.Choices.{choice_at};
 ghost use Rattle.move_energy.specs.Assignments.{rise};
 ghost use Rattle.move_energy.specs.Ends.{decided_or, AvoidsSite, HasNoneBefore, rise_limit};
 ghost use Rattle.site_forms.specs.Forms.{place_rise};
 ghost use Rattle.site_forms.specs.Numbers.{form_of, Tells, IsSitePlace, AreEndRises};
+ghost use Rattle.site_forms.specs.Numbers.{AreSiteRises};
 
-use crate::ends::{is_first_end, weight_beside};
+use crate::ends::{head_at, is_first_end, weight_beside};
 use crate::numbers::SiteForm;
 use crate::reading::end_rises;
-use move_energy::{Choice, EndRises, Rises, SiteRises};
+use move_energy::{Choice, EndRises, Rises, SiteRises, rises_beside};
 
 /// By how much the value rises where a site turns, as far as the neighbour at a place goes: while
 /// the neighbour is at 0, and while it is at 1.
 #[inline]
-pub fn place_rises(form: &SiteForm, site: u32, place: u32, head: u32) -> EndRises
+pub(crate) fn place_rises<const FEW: bool>(
+    form: &SiteForm,
+    site: u32,
+    place: u32,
+    head: u32,
+) -> EndRises
+    requires way { FEW ≡ form.now.few }
     requires place { IsSitePlace form.now site place }
     requires head { head ≡ neighbour_at form.now.ends.now place }
     ensures { AreEndRises form.now (weight_of form.now.ends.now place)
         (is_first_of form.now.ends.now site place) (labelling form.now.at.now site)
         (labelling form.now.at.now (neighbour_at form.now.ends.now place)) result }
 {
-    end_rises(
+    end_rises::<FEW>(
         form,
         is_first_end(form, site, place, head),
         weight_beside(form, site, place),
@@ -36,34 +43,16 @@ pub fn place_rises(form: &SiteForm, site: u32, place: u32, head: u32) -> EndRise
     )
 }
 
-/// The neighbour at a place of a site.
-#[inline]
-fn head_at(form: &SiteForm, site: u32, place: u32) -> u32
-    requires place { IsSitePlace form.now site place }
-    ensures head { result ≡ neighbour_at form.now.ends.now place }
-    ensures inside { result < length form.now.at.now }
-{
-    form.ends.heads[place as usize]
-}
-
-/// The rises of a pair at least and at most, where this is known of its other end. Each is chosen
-/// without a branch, since no run of choices is like the last.
-#[inline]
-fn bounds_beside(rises: EndRises, choice: Choice) -> Rises
-    ensures least { result.least ≡ cond (bit_of choice true) rises.high rises.low }
-    ensures greatest { result.greatest ≡ cond (bit_of choice false) rises.high rises.low }
-{
-    let low = i64::from(rises.low);
-    let high = i64::from(rises.high);
-    Rises {
-        least: if choice.bit(true) { high } else { low },
-        greatest: if choice.bit(false) { high } else { low },
-    }
-}
-
 /// The same at least and at most, by what is known of the neighbour.
 #[inline]
-fn rises_at(form: &SiteForm, known: &[Choice], site: u32, place: u32, head: u32) -> Rises
+fn rises_at<const FEW: bool>(
+    form: &SiteForm,
+    known: &[Choice],
+    site: u32,
+    place: u32,
+    head: u32,
+) -> Rises
+    requires way { FEW ≡ form.now.few }
     requires known { length known.now ≡ length form.now.at.now }
     requires place { IsSitePlace form.now site place }
     requires head { head ≡ neighbour_at form.now.ends.now place }
@@ -74,7 +63,10 @@ fn rises_at(form: &SiteForm, known: &[Choice], site: u32, place: u32, head: u32)
     ensures small { (unsigned_abs result.least ≤ pair_cost_limit)
         × (unsigned_abs result.greatest ≤ pair_cost_limit) }
 {
-    bounds_beside(place_rises(form, site, place, head), known[head as usize])
+    rises_beside(
+        place_rises::<FEW>(form, site, place, head),
+        known[head as usize],
+    )
 }
 
 /// Where the places of a site begin; of the number of sites, where those of the last end.
@@ -115,25 +107,20 @@ fn either(one: bool, other: bool) -> bool
     one || other
 }
 
-/// By how much the value rises where a site turns, at least and at most, by what is known of its
-/// neighbours; and whether one of them before it is open.
+/// The rises of a site by what is known of its neighbours, summed place by place.
 #[inline]
-pub fn site_rises(form: &SiteForm, known: &[Choice], site: u32) -> SiteRises
+fn sum_rises<const FEW: bool>(form: &SiteForm, known: &[Choice], site: u32) -> SiteRises
+    requires way { FEW ≡ form.now.few }
     requires known { length known.now ≡ length form.now.at.now }
     requires site { site < length form.now.at.now }
-    ensures least { Tells form.now (λ E. result.least ≡ rise E site (decided_or known.now true)) }
-    ensures greatest { Tells form.now
-        (λ E. result.greatest ≡ rise E site (decided_or known.now false)) }
-    ensures range { (unsigned_abs result.least ≤ rise_limit form.now.ends.now site)
-        × (unsigned_abs result.greatest ≤ rise_limit form.now.ends.now site) }
-    ensures alone { result.beside ≡ false → HasNoneBefore known.now form.now.ends.now site }
+    ensures { AreSiteRises form.now known.now site result }
 {
     let mut least = i64::from(form.own[site as usize]);
     let mut greatest = least;
     let mut beside = false;
     for place in start(form, site)..start(form, site + 1) {
         let head = head_at(form, site, place);
-        let rises = rises_at(form, known, site, place, head);
+        let rises = rises_at::<FEW>(form, known, site, place, head);
         least += rises.least;
         greatest += rises.greatest;
         beside = either(beside, meets_open(form, known, site, place, head));
@@ -143,6 +130,20 @@ pub fn site_rises(form: &SiteForm, known: &[Choice], site: u32) -> SiteRises
         greatest,
         beside,
     }
+}
+
+/// By how much the value rises where a site turns, at least and at most, by what is known of its
+/// neighbours; and whether one of them before it is open.
+#[inline]
+pub fn site_rises(form: &SiteForm, known: &[Choice], site: u32) -> SiteRises
+    requires known { length known.now ≡ length form.now.at.now }
+    requires site { site < length form.now.at.now }
+    ensures { AreSiteRises form.now known.now site result }
+{
+    if form.few {
+        return sum_rises::<true>(form, known, site);
+    }
+    sum_rises::<false>(form, known, site)
 }
 
 /// By how much the value rises where a site turns, at least and at most, by what is known of its

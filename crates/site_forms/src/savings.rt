@@ -1,32 +1,16 @@
 //! What the two ends of a pair save together, read of a form.
-ghost use Rattle.std.specs.Prelude.{◌≡◌, ◌≤◌, length, unsigned_abs};
-ghost use Rattle.label_field.specs.PairLists.{IsPair};
+ghost use Rattle.std.specs.Prelude.{◌≡◌, ◌≤◌, unsigned_abs};
 ghost use Rattle.move_energy.specs.BySite.{neighbour_at, pair_beside};
 ghost use Rattle.move_energy.specs.Limits.{surplus_limit};
 ghost use Rattle.move_energy.specs.Weights.{surplus_of, pair_table};
 ghost use Rattle.site_forms.specs.Numbers.{WhereRead, IsSitePlace};
 
 use crate::numbers::SiteForm;
-use crate::reading::end_rises;
 use crate::rises::place_rises;
-use label_field::Pair;
 use move_energy::saving_of;
 
-/// The surplus of a pair: by how much its costs at 01 and 10 are together above those at 00 and 11.
-#[inline]
-pub fn pair_saving(form: &SiteForm, pair: Pair) -> i64
-    requires pair { IsPair (length form.now.at.now) pair }
-    ensures value { WhereRead form.now
-        (λ m move f. result ≡ surplus_of (pair_table m move f pair)) }
-    ensures range { unsigned_abs result ≤ surplus_limit }
-{
-    let own = form.at[pair.first as usize];
-    let other = form.at[pair.second as usize];
-    let rises = end_rises(form, true, pair.weight, own, other);
-    saving_of(rises)
-}
-
-/// The same of the pair that a site has with the neighbour at a place.
+/// The surplus of the pair that a site has with the neighbour at a place: by how much its costs at
+/// 01 and 10 are together above those at 00 and 11.
 #[inline]
 pub fn saving_beside(form: &SiteForm, site: u32, place: u32, head: u32) -> i64
     requires place { IsSitePlace form.now site place }
@@ -35,6 +19,8 @@ pub fn saving_beside(form: &SiteForm, site: u32, place: u32, head: u32) -> i64
         ≡ surplus_of (pair_table m move f (pair_beside form.now.ends.now site place))) }
     ensures range { unsigned_abs result ≤ surplus_limit }
 {
-    let rises = place_rises(form, site, place, head);
-    saving_of(rises)
+    if form.few {
+        return saving_of(place_rises::<true>(form, site, place, head));
+    }
+    saving_of(place_rises::<false>(form, site, place, head))
 }

@@ -31,9 +31,9 @@ ghost use Rattle.strips.specs.Building.{border_of_site, weight_by_now};
 ghost use Rattle.strips.specs.Limits.{borders_limit};
 
 use crate::material::{Material, RowForm, StripSites};
-use move_energy::{Choice, is_first, pair_beside};
+use move_energy::Choice;
 use sink_distances::Laying;
-use site_bounds::pair_saving;
+use site_forms::{is_first_end, saving_beside};
 use std::alloc::AllocError;
 
 /// What a neighbour is to a site of the strip: at most one of these.
@@ -141,7 +141,7 @@ fn is_met_at(
     if !inside {
         return false;
     }
-    is_first(material.form.ends, site, place as usize, head)
+    is_first_end(&material.form, site, place, head)
 }
 
 /// Whether the pair to a neighbour counts in any of the three ways.
@@ -155,11 +155,12 @@ fn counts_somewhere(beside: Beside, met: bool) -> bool
 /// What the pair of a site and a neighbour saves where it counts. Where it does not, 0, and nothing
 /// is read of it.
 #[inline]
-fn counted_saving(material: &Material, site: u32, place: u32, counts: bool) -> i64
+fn counted_saving(material: &Material, site: u32, place: u32, head: u32, counts: bool) -> i64
     requires can { CanBuild material.now }
     requires site { site < material.now.form.pairs.now.sites }
     requires place { (neighbours_start material.now.form.ends.now site ≤ place)
         × (place < neighbours_start material.now.form.ends.now (site + 1)) }
+    requires head { head ≡ neighbour_at material.now.form.ends.now place }
     ensures value { WhereRead material.now.form (λ m move f. result
         ≡ pos (count_if counts
         (surplus_between m move f (beside_at material.now.form.ends.now site place)))) }
@@ -168,8 +169,7 @@ fn counted_saving(material: &Material, site: u32, place: u32, counts: bool) -> i
     if !counts {
         return 0;
     }
-    let pair = pair_beside(material.form.pairs, material.form.ends, site, place);
-    pair_saving(&material.form, pair)
+    saving_beside(&material.form, site, place, head)
 }
 
 /// A number where it counts, and else 0.
@@ -426,7 +426,7 @@ fn add_row(
         let beside = look_at(material, sites, head);
         let met = is_met_at(material, sites, site, place, head, beside.inside);
         let counts = counts_somewhere(beside, met);
-        let saving = counted_saving(material, site, place, counts);
+        let saving = counted_saving(material, site, place, head, counts);
         ones += where_counted(beside.one, saving);
         beyond += where_counted(beside.beyond, saving);
         add_inside(

@@ -6,14 +6,27 @@ use Rattle.move_energy.proofs.RiseNumbers.{passed_on}
 use Rattle.site_forms.proofs.Telling.{labels_rise, told_saving}
 use Rattle.site_forms.proofs.savings.saving_beside.Goals as goal
 
+-- by what was read at the place
+pub returns-then-form-clause-value : goal.returns-then-form-clause-value
+returns-then-form-clause-value c = λ m move is.
+    let a = c.args in
+    let form = a.form.now in
+    let ends = form.ends.now in
+    let e = c.place_rises.ensures in
+    let rises = c.place_rises.result in
+    let small : unsigned_abs c.saving_of.result ≤ 20000000 = omega (arith, ap unsigned_abs c.saving_of.ensures, abs-sub rises.low rises.high, e.low_small, e.high_small) in
+    passed_on c.saving_of.result small ∙ c.saving_of.ensures
+    ∙ told_saving m move form a.site (neighbour_at ends a.place) (weight_at ends a.place) (is_first ends a.site a.place) rises is.read c.requires.place.inside
+    (form.form.places.inside a.site a.place c.requires.place.inside c.requires.place.from c.requires.place.to) e
+
 pub returns-clause-value : goal.returns-clause-value
 returns-clause-value c = λ m move is.
     let a = c.args in
     let form = a.form.now in
     let ends = form.ends.now in
-    let e = c.place_rises-rises.ensures in
-    let rises = c.place_rises-rises.result in
-    let small : unsigned_abs c.saving_of.result ≤ 20000000 = omega (arith, ap unsigned_abs c.saving_of.ensures, abs-sub rises.low rises.high, e.low_small, e.high_small) in
-    passed_on c.saving_of.result small ∙ c.saving_of.ensures
+    let e = c.place_rises-2.ensures in
+    let rises = c.place_rises-2.result in
+    let small : unsigned_abs c.saving_of-2.result ≤ 20000000 = omega (arith, ap unsigned_abs c.saving_of-2.ensures, abs-sub rises.low rises.high, e.low_small, e.high_small) in
+    passed_on c.saving_of-2.result small ∙ c.saving_of-2.ensures
     ∙ told_saving m move form a.site (neighbour_at ends a.place) (weight_at ends a.place) (is_first ends a.site a.place) rises is.read c.requires.place.inside
     (form.form.places.inside a.site a.place c.requires.place.inside c.requires.place.from c.requires.place.to) e

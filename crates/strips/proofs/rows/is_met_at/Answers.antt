@@ -1,4 +1,4 @@
-use Rattle.std.proofs.Common.{◌∙◌, Bool, sym, ap}
+use Rattle.std.proofs.Common.{◌∙◌, Bool, sym, ap, arith}
 use Rattle.std.specs.Prelude.{◌&&◌}
 use Rattle.move_energy.specs.BySite.{is_first}
 use Rattle.strips.proofs.Meeting.{met_where}
@@ -13,5 +13,8 @@ returns-then-not-inside c =
 pub returns : goal.returns
 returns c =
     let a = c.args in
-    c.is_first.ensures ∙ sym (ap (λ (b : Bool). b && is_first a.material.now.form.ends.now a.site a.place) c.if-not-inside.false)
+    c.is_first_end.ensures ∙ sym (ap (λ (b : Bool). b && is_first a.material.now.form.ends.now a.site a.place) c.if-not-inside.false)
     ∙ met_where a.material.now a.sites.now a.site a.place a.head a.inside c.requires.can c.requires.site.0 c.requires.site.1 c.requires.place.0 c.requires.place.1 c.requires.head c.requires.inside
+
+pub is_first_end-requires-clause-place : goal.is_first_end-requires-clause-place
+is_first_end-requires-clause-place c = record { inside = omega (arith, c.requires.site.0, c.requires.can.over.sites); from = c.requires.place.0; to = c.requires.place.1 }

@@ -1,6 +1,6 @@
 use Rattle.std.proofs.Common.{◌<◌, ◌≤◌, ◌+◌, ◌-◌, ◌*◌, ◌/◌, ◌∙◌, ℕ, true, false, ap, sym, subst, refl, length, arith}
 use Rattle.counting_sort.specs.Grouping.{place_at}
-use Rattle.move_energy.specs.BySite.{degree, neighbours_start, grouped_at}
+use Rattle.move_energy.specs.BySite.{degree, neighbours_start, grouped_at, pair_beside}
 use Rattle.label_energies.specs.Energies.{labelling}
 use Rattle.move_energy.specs.Choices.{choice_at}
 use Rattle.site_bounds.specs.Working.{AreWaiting, SeesPair}
@@ -38,19 +38,13 @@ loop-place-init c =
           (spread_start m move (labelling a.form.now.at.now) a.site a.value G a.self.now c.mark.new.self (length a.self.now.least.items) most (meant_grouped m a.form.now.pairs.now a.form.now.ends.now read.pairs_are read.sites_are by_site) decided c.mark.ensures);
     }
 
-pub pair_beside-pair-requires-clause-site : goal.pair_beside-pair-requires-clause-site
-pair_beside-pair-requires-clause-site c = omega (arith, c.requires.site.0, c.requires.sized.within, c.requires.over.sites)
-
-pub pair_beside-pair-requires-clause-place : goal.pair_beside-pair-requires-clause-place
-pair_beside-pair-requires-clause-place c =
+pub see-requires-clause-place : goal.see-requires-clause-place
+see-requires-clause-place c =
     let a = c.args in
     let inside : a.site < a.form.now.pairs.now.sites = omega (arith, c.requires.site.0, c.requires.sized.within, c.requires.over.sites) in
     let start = start_read a.form.now.pairs.now a.form.now.ends.now a.site _ c.requires.over.by_site (omega (arith, inside)) c.index-place.ensures in
     let end = start_read a.form.now.pairs.now a.form.now.ends.now (a.site + 1) _ c.requires.over.by_site (omega (arith, inside)) c.index-place-end.ensures in
-    (omega (arith, start, c.loop-place.auto.place), omega (arith, end, c.loop-place-test.true))
-
-pub see-requires-clause-end : goal.see-requires-clause-end
-see-requires-clause-end c = c.pair_beside-pair.ensures.end
+    record { inside = omega (arith, inside, c.requires.over.sites); from = omega (arith, start, c.loop-place.auto.place); to = omega (arith, end, c.loop-place-test.true) }
 
 pub see-requires-clause-range : goal.see-requires-clause-range
 see-requires-clause-range c =
@@ -86,10 +80,10 @@ loop-place-preserved c =
       spread = λ m move read decided by_site.
           let G = grouped_at a.form.now.ends.now by_site.places in
           let within : a.site < m.sites = omega (arith, inside, read.sites_are) in
-          let S : ℕ → Type 0 = λ n. SeesPair m move (labelling a.form.now.at.now) n a.site a.value c.pair_beside-pair.result c.loop-place.self c.see.new.self in
-          spread_step m move (labelling a.form.now.at.now) (length a.self.now.least.items) decided.decisions a.site a.value G c.loop-place.place c.pair_beside-pair.result c.loop-place.self c.see.new.self
+          let S : ℕ → Type 0 = λ n. SeesPair m move (labelling a.form.now.at.now) n a.site a.value (pair_beside a.form.now.ends.now a.site c.loop-place.place) c.loop-place.self c.see.new.self in
+          spread_step m move (labelling a.form.now.at.now) (length a.self.now.least.items) decided.decisions a.site a.value G c.loop-place.place (pair_beside a.form.now.ends.now a.site c.loop-place.place) c.loop-place.self c.see.new.self
           read.instance (meant_grouped m a.form.now.pairs.now a.form.now.ends.now read.pairs_are read.sites_are by_site) within from to
-          ((λ i. pair_in (read.pairs_are i) (place_at G c.loop-place.place / 2)) ∙ sym (by_site.each a.site c.loop-place.place inside from to) ∙ sym c.pair_beside-pair.ensures.value)
+          ((λ i. pair_in (read.pairs_are i) (place_at G c.loop-place.place / 2)) ∙ sym (by_site.each a.site c.loop-place.place inside from to))
           (site_free m move (labelling a.form.now.at.now) a.site true a.self.now (length a.self.now.least.items) decided within c.requires.site.1)
           (site_free m move (labelling a.form.now.at.now) a.site false a.self.now (length a.self.now.least.items) decided within c.requires.site.1)
           looking.choices (subst S c.loop-place.invariant.same (c.in_ok-see.ensures.sees m move read)) (c.loop-place.invariant.spread m move read decided by_site);

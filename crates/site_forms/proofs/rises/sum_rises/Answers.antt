@@ -5,13 +5,13 @@ use Rattle.move_energy.specs.Ends.{decided_or, AvoidsSite}
 use Rattle.site_forms.proofs.Sums.{first_rise, next_rise, last_rise, own_passed, added_is, sum_fits, range_more}
 use Rattle.site_forms.specs.Numbers.{form_of}
 use Rattle.site_forms.proofs.Places.{few_places}
-use Rattle.site_forms.proofs.rises.site_rises.Goals as goal
+use Rattle.site_forms.proofs.rises.sum_rises.Goals as goal
 
 pub rises_at-rises-requires-clause-place : goal.rises_at-rises-requires-clause-place
-rises_at-rises-requires-clause-place c = record { inside = c.requires.site; from = omega (arith, c.loop-place.auto.place, c.start-place.ensures); to = omega (arith, c.loop-place-test.true, c.start-place-end.ensures) }
+rises_at-rises-requires-clause-place g c = record { inside = c.requires.site; from = omega (arith, c.loop-place.auto.place, c.start-place.ensures); to = omega (arith, c.loop-place-test.true, c.start-place-end.ensures) }
 
 pub loop-place-init : goal.loop-place-init
-loop-place-init c =
+loop-place-init g c =
     let a = c.args in
     let form = form_of a.form.now in
     let own = own_passed (form.own a.site) c.from-least.result (a.form.now.form.numbers.own_small a.site) c.from-least.ensures in
@@ -24,19 +24,19 @@ loop-place-init c =
     }
 
 pub overflow_add-least : goal.overflow_add-least
-overflow_add-least c =
+overflow_add-least g c =
     let form = form_of c.args.form.now in
     sum_fits (to_z w64 c.loop-place.least-bits) c.rises_at-rises.result.least (c.loop-place.place - form.start c.args.site) c.loop-place.invariant.least_small c.rises_at-rises.ensures.small.0
     (few_places c.args.form.now c.args.site c.loop-place.place c.args.form.now.form.places c.requires.site (omega (arith, c.loop-place.auto.place, c.start-place.ensures)) (omega (arith, c.loop-place-test.true, c.start-place-end.ensures)))
 
 pub overflow_add-greatest : goal.overflow_add-greatest
-overflow_add-greatest c =
+overflow_add-greatest g c =
     let form = form_of c.args.form.now in
     sum_fits (to_z w64 c.loop-place.greatest-bits) c.rises_at-rises.result.greatest (c.loop-place.place - form.start c.args.site) c.loop-place.invariant.greatest_small c.rises_at-rises.ensures.small.1
     (few_places c.args.form.now c.args.site c.loop-place.place c.args.form.now.form.places c.requires.site (omega (arith, c.loop-place.auto.place, c.start-place.ensures)) (omega (arith, c.loop-place-test.true, c.start-place-end.ensures)))
 
 pub loop-place-preserved : goal.loop-place-preserved
-loop-place-preserved c =
+loop-place-preserved g c =
     let a = c.args in
     let form = form_of a.form.now in
     let i = c.loop-place.invariant in
@@ -60,30 +60,21 @@ loop-place-preserved c =
           ];
     }
 
-pub returns-clause-least : goal.returns-clause-least
-returns-clause-least c = λ E told.
-    let form = form_of c.args.form.now in
-    let last : c.loop-place.place ≡ form.start (c.args.site + 1) = omega (arith, c.args.form.now.form.places.rising c.args.site c.requires.site, c.loop-place.auto.place-end, c.loop-place-test.false, c.start-place.ensures, c.start-place-end.ensures) in
-    last_rise form E (decided_or c.args.known.now true) c.args.site c.loop-place.place _ told c.requires.site last c.loop-place.invariant.least
-
-pub returns-clause-greatest : goal.returns-clause-greatest
-returns-clause-greatest c = λ E told.
-    let form = form_of c.args.form.now in
-    let last : c.loop-place.place ≡ form.start (c.args.site + 1) = omega (arith, c.args.form.now.form.places.rising c.args.site c.requires.site, c.loop-place.auto.place-end, c.loop-place-test.false, c.start-place.ensures, c.start-place-end.ensures) in
-    last_rise form E (decided_or c.args.known.now false) c.args.site c.loop-place.place _ told c.requires.site last c.loop-place.invariant.greatest
-
-pub returns-clause-range : goal.returns-clause-range
-returns-clause-range c =
-    let form = form_of c.args.form.now in
-    let last : c.loop-place.place ≡ form.start (c.args.site + 1) = omega (arith, c.args.form.now.form.places.rising c.args.site c.requires.site, c.loop-place.auto.place-end, c.loop-place-test.false, c.start-place.ensures, c.start-place-end.ensures) in
-    (omega (arith, last, c.loop-place.invariant.least_small), omega (arith, last, c.loop-place.invariant.greatest_small))
-
-pub returns-clause-alone : goal.returns-clause-alone
-returns-clause-alone c = λ none p u lower before below opened.
-    c.loop-place.invariant.alone none p u lower (omega (arith, before, c.loop-place-test.false, c.start-place-end.ensures)) below opened
+pub returns : goal.returns
+returns g c =
+    let a = c.args in
+    let form = form_of a.form.now in
+    let last : c.loop-place.place ≡ form.start (a.site + 1) = omega (arith, a.form.now.form.places.rising a.site c.requires.site, c.loop-place.auto.place-end, c.loop-place-test.false, c.start-place.ensures, c.start-place-end.ensures) in
+    record {
+      least = λ E told. last_rise form E (decided_or a.known.now true) a.site c.loop-place.place _ told c.requires.site last c.loop-place.invariant.least;
+      greatest = λ E told. last_rise form E (decided_or a.known.now false) a.site c.loop-place.place _ told c.requires.site last c.loop-place.invariant.greatest;
+      range = (omega (arith, last, c.loop-place.invariant.least_small), omega (arith, last, c.loop-place.invariant.greatest_small));
+      alone = λ none p u lower before below opened.
+          c.loop-place.invariant.alone none p u lower (omega (arith, before, c.loop-place-test.false, c.start-place-end.ensures)) below opened;
+    }
 
 pub meets_open-requires-clause-place : goal.meets_open-requires-clause-place
-meets_open-requires-clause-place c = record { inside = c.requires.site; from = omega (arith, c.loop-place.auto.place, c.start-place.ensures); to = omega (arith, c.loop-place-test.true, c.start-place-end.ensures) }
+meets_open-requires-clause-place g c = record { inside = c.requires.site; from = omega (arith, c.loop-place.auto.place, c.start-place.ensures); to = omega (arith, c.loop-place-test.true, c.start-place-end.ensures) }
 
 pub head_at-head-requires : goal.head_at-head-requires
-head_at-head-requires c = record { place = record { inside = c.requires.site; from = omega (arith, c.loop-place.auto.place, c.start-place.ensures); to = omega (arith, c.loop-place-test.true, c.start-place-end.ensures) } }
+head_at-head-requires g c = record { place = record { inside = c.requires.site; from = omega (arith, c.loop-place.auto.place, c.start-place.ensures); to = omega (arith, c.loop-place-test.true, c.start-place-end.ensures) } }

@@ -1,7 +1,7 @@
 use Rattle.std.proofs.Common.{◌∙◌, sym, subst, ℕ, ◌<◌, length}
 use Rattle.move_energy.specs.BySite.{neighbour_at}
 use Rattle.site_forms.proofs.Places.{head_read}
-use Rattle.site_forms.proofs.rises.head_at.Goals as goal
+use Rattle.site_forms.proofs.ends.head_at.Goals as goal
 
 pub returns-clause-head : goal.returns-clause-head
 returns-clause-head c = sym (head_read c.args.form.now c.args.site c.args.place c.index.result.now c.requires.place c.index.ensures)
