@@ -30,15 +30,30 @@ pub fn is_first_end(form: &SiteForm, site: u32, place: u32, head: u32) -> bool
     }
 }
 
-/// The weight of the pair at a place of a site.
+/// The weight of the pair at a place of a site. `EVEN` is that of the form, so that a loop over
+/// places does not ask for it again.
 #[inline]
-pub(crate) fn weight_beside(form: &SiteForm, site: u32, place: u32) -> u32
+pub(crate) fn weight_beside<const EVEN: bool>(form: &SiteForm, site: u32, place: u32) -> u32
+    requires way { EVEN ≡ form.now.even }
+    requires place { IsSitePlace form.now site place }
+    ensures { result ≡ weight_at form.now.ends.now place }
+{
+    if EVEN {
+        form.weight
+    } else {
+        form.ends.weights[place as usize]
+    }
+}
+
+/// The same, asked for at the place.
+#[inline]
+pub(crate) fn weight_read(form: &SiteForm, site: u32, place: u32) -> u32
     requires place { IsSitePlace form.now site place }
     ensures { result ≡ weight_at form.now.ends.now place }
 {
     if form.even {
-        form.weight
+        weight_beside::<true>(form, site, place)
     } else {
-        form.ends.weights[place as usize]
+        weight_beside::<false>(form, site, place)
     }
 }

@@ -26,10 +26,12 @@ pub(crate) fn place_rises<const FEW: bool>(
     site: u32,
     place: u32,
     head: u32,
+    weight: u32,
 ) -> EndRises
     requires way { FEW ≡ form.now.few }
     requires place { IsSitePlace form.now site place }
     requires head { head ≡ neighbour_at form.now.ends.now place }
+    requires weight { weight ≡ weight_of form.now.ends.now place }
     ensures { AreEndRises form.now (weight_of form.now.ends.now place)
         (is_first_of form.now.ends.now site place) (labelling form.now.at.now site)
         (labelling form.now.at.now (neighbour_at form.now.ends.now place)) result }
@@ -37,7 +39,7 @@ pub(crate) fn place_rises<const FEW: bool>(
     end_rises::<FEW>(
         form,
         is_first_end(form, site, place, head),
-        weight_beside(form, site, place),
+        weight,
         form.at[site as usize],
         form.at[head as usize],
     )
@@ -45,14 +47,14 @@ pub(crate) fn place_rises<const FEW: bool>(
 
 /// The same at least and at most, by what is known of the neighbour.
 #[inline]
-fn rises_at<const FEW: bool>(
+fn rises_at<const FEW: bool, const EVEN: bool>(
     form: &SiteForm,
     known: &[Choice],
     site: u32,
     place: u32,
     head: u32,
 ) -> Rises
-    requires way { FEW ≡ form.now.few }
+    requires way { (FEW ≡ form.now.few) × (EVEN ≡ form.now.even) }
     requires known { length known.now ≡ length form.now.at.now }
     requires place { IsSitePlace form.now site place }
     requires head { head ≡ neighbour_at form.now.ends.now place }
@@ -63,10 +65,9 @@ fn rises_at<const FEW: bool>(
     ensures small { (unsigned_abs result.least ≤ pair_cost_limit)
         × (unsigned_abs result.greatest ≤ pair_cost_limit) }
 {
-    rises_beside(
-        place_rises::<FEW>(form, site, place, head),
-        known[head as usize],
-    )
+    let weight = weight_beside::<EVEN>(form, site, place);
+    let rises = place_rises::<FEW>(form, site, place, head, weight);
+    rises_beside(rises, known[head as usize])
 }
 
 /// Where the places of a site begin; of the number of sites, where those of the last end.
@@ -107,10 +108,15 @@ fn either(one: bool, other: bool) -> bool
     one || other
 }
 
-/// The rises of a site by what is known of its neighbours, summed place by place.
+/// The rises of a site by what is known of its neighbours, summed place by place. What the form
+/// says of all places is a const parameter, so that the loop does not ask for it at each.
 #[inline]
-fn sum_rises<const FEW: bool>(form: &SiteForm, known: &[Choice], site: u32) -> SiteRises
-    requires way { FEW ≡ form.now.few }
+fn sum_rises<const FEW: bool, const EVEN: bool>(
+    form: &SiteForm,
+    known: &[Choice],
+    site: u32,
+) -> SiteRises
+    requires way { (FEW ≡ form.now.few) × (EVEN ≡ form.now.even) }
     requires known { length known.now ≡ length form.now.at.now }
     requires site { site < length form.now.at.now }
     ensures { AreSiteRises form.now known.now site result }
@@ -120,7 +126,7 @@ fn sum_rises<const FEW: bool>(form: &SiteForm, known: &[Choice], site: u32) -> S
     let mut beside = false;
     for place in start(form, site)..start(form, site + 1) {
         let head = head_at(form, site, place);
-        let rises = rises_at::<FEW>(form, known, site, place, head);
+        let rises = rises_at::<FEW, EVEN>(form, known, site, place, head);
         least += rises.least;
         greatest += rises.greatest;
         beside = either(beside, meets_open(form, known, site, place, head));
@@ -140,10 +146,12 @@ pub fn site_rises(form: &SiteForm, known: &[Choice], site: u32) -> SiteRises
     requires site { site < length form.now.at.now }
     ensures { AreSiteRises form.now known.now site result }
 {
-    if form.few {
-        return sum_rises::<true>(form, known, site);
+    match (form.few, form.even) {
+        (true, true) => sum_rises::<true, true>(form, known, site),
+        (true, false) => sum_rises::<true, false>(form, known, site),
+        (false, true) => sum_rises::<false, true>(form, known, site),
+        (false, false) => sum_rises::<false, false>(form, known, site),
     }
-    sum_rises::<false>(form, known, site)
 }
 
 /// By how much the value rises where a site turns, at least and at most, by what is known of its

@@ -5,6 +5,7 @@ ghost use Rattle.move_energy.specs.Limits.{surplus_limit};
 ghost use Rattle.move_energy.specs.Weights.{surplus_of, pair_table};
 ghost use Rattle.site_forms.specs.Numbers.{WhereRead, IsSitePlace};
 
+use crate::ends::weight_read;
 use crate::numbers::SiteForm;
 use crate::rises::place_rises;
 use move_energy::saving_of;
@@ -19,8 +20,9 @@ pub fn saving_beside(form: &SiteForm, site: u32, place: u32, head: u32) -> i64
         ≡ surplus_of (pair_table m move f (pair_beside form.now.ends.now site place))) }
     ensures range { unsigned_abs result ≤ surplus_limit }
 {
+    let weight = weight_read(form, site, place);
     if form.few {
-        return saving_of(place_rises::<true>(form, site, place, head));
+        return saving_of(place_rises::<true>(form, site, place, head, weight));
     }
-    saving_of(place_rises::<false>(form, site, place, head))
+    saving_of(place_rises::<false>(form, site, place, head, weight))
 }
