@@ -1,7 +1,8 @@
 //! Deciding the sites that wait, one after another.
 ghost use Rattle.std.specs.Prelude.{◌≡◌, ◌≢◌, ◌⊎◌, ◌<◌, ◌≤◌, ◌+◌, ◌*◌, ◌^◌, ℕ, Bool, length, Some};
 ghost use Rattle.std.specs.Prelude.{unsigned_abs, OnOk, IsTrue, ◌↔◌, []};
-ghost use Rattle.site_bounds.specs.Prelude.{IsSitePlace, pair_beside, degree, Open, choice_at, bit_of, surplus_limit};
+ghost use Rattle.site_bounds.specs.Prelude.{IsSitePlace, pair_beside, degree};
+ghost use Rattle.site_bounds.specs.Prelude.{Open, choice_at, bit_of, surplus_limit};
 ghost use Rattle.site_bounds.specs.Prelude.{IsOverPairs, WhereRead, IsInBudget, ends_left};
 ghost use Rattle.site_bounds.specs.Prelude.{total_left, summed_count, CanDecide, TellsValue};
 ghost use Rattle.site_bounds.specs.Prelude.{IsMarked};

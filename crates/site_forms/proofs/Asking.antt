@@ -71,6 +71,16 @@ written_mirrored l o c d old mid new ll ol one two pl ql same each a b al bl =
       ]
     ]
 
+-- ---- what holds where nothing was refused
+
+pub on_ok_always : {P : Type 0} (r : Result Unit AllocError) → P → OnOk r P
+on_ok_always {P} (Ok done) is = is
+on_ok_always {P} (Err e) is = tt
+
+pub on_ok_two : {P Q R : Type 0} (r : Result Unit AllocError) → OnOk r P → OnOk r Q → (P → Q → R) → OnOk r R
+on_ok_two {P} {Q} {R} (Ok done) one two both = both one two
+on_ok_two {P} {Q} {R} (Err e) one two both = tt
+
 -- ---- room for more labels
 
 filled : {X : Type 0} (xs : List X) (n len k : ℕ) (d : X) → len ≡ length xs → k < n → get_or (take n xs ++ replicate (n - len) d) k d ≡ get_or xs k d
@@ -92,23 +102,29 @@ pub grown_len : {X : Type 0} (ys : List X) (n len new : ℕ) (r : Result Unit Al
 grown_len {X} ys n len new (Ok done) size is = sym size ∙ is
 grown_len {X} ys n len new (Err e) size is = tt
 
-pub grown_small : (xs ys : List ℕ) (n len : ℕ) (r : Result Unit AllocError) → len ≡ length xs → ys ≡ cond (is_ok r) (take n xs ++ replicate (n - len) 0) xs
-    → AreCostsSmall xs → AreCostsSmall ys
-grown_small xs ys n len (Ok done) size is each k = elim (cases_lt k n) [
-  | inl inside ↦ (let e = ap (λ (zs : List ℕ). slice_index zs k) is ∙ filled xs n len k 0 size inside in let s = each k in omega (arith, e, s))
+pub len_enough : {X : Type 0} (ys : List X) (n len new : ℕ) (r : Result Unit AllocError) → new ≡ length ys → new ≡ cond (is_ok r) n len → OnOk r (n ≤ length ys)
+len_enough {X} ys n len new (Ok done) size is = omega (arith, size, is)
+len_enough {X} ys n len new (Err e) size is = tt
+
+-- a list that grows, at all places
+pub grown_all : (xs ys : List ℕ) (n len k : ℕ) (r : Result Unit AllocError) → len ≡ length xs → len ≤ n
+    → ys ≡ cond (is_ok r) (take n xs ++ replicate (n - len) 0) xs → slice_index ys k ≡ slice_index xs k
+grown_all xs ys n len k (Err e) size more is = ap (λ (zs : List ℕ). slice_index zs k) is
+grown_all xs ys n len k (Ok done) size more is = elim (cases_lt k n) [
+  | inl inside ↦ ap (λ (zs : List ℕ). slice_index zs k) is ∙ filled xs n len k 0 size inside
   | inr past ↦
       let all : length (take n xs ++ replicate (n - len) 0) ≤ k = omega (arith, length-append (take n xs) (replicate (n - len) 0), length-take n xs, length-replicate {A = ℕ} (n - len) 0, size, past) in
-      let e = ap (λ (zs : List ℕ). slice_index zs k) is ∙ get_or_past (take n xs ++ replicate (n - len) 0) k 0 all in
-      omega (arith, e)
+      ap (λ (zs : List ℕ). slice_index zs k) is ∙ get_or_past (take n xs ++ replicate (n - len) 0) k 0 all ∙ sym (get_or_past xs k 0 (omega (arith, size, more, past)))
 ]
-grown_small xs ys n len (Err e) size is each k = (let same = ap (λ (zs : List ℕ). slice_index zs k) is in let s = each k in omega (arith, same, s))
 
-pub grown_mirrored : (xs ys : List ℕ) → ((k : ℕ) → k < 65536 → slice_index ys k ≡ slice_index xs k) → AreSymmetric xs → AreSymmetric ys
-grown_mirrored xs ys same each one other l h =
-    same (one * 256 + other) (omega (arith, l, h)) ∙ each one other l h ∙ sym (same (other * 256 + one) (omega (arith, l, h)))
+pub same_small : (xs ys : List ℕ) → ((k : ℕ) → slice_index ys k ≡ slice_index xs k) → AreCostsSmall xs → AreCostsSmall ys
+same_small xs ys same each k = (let e = same k in let s = each k in omega (arith, e, s))
 
--- ---- a list that begins with 0 everywhere
+pub same_mirrored : (xs ys : List ℕ) → ((k : ℕ) → slice_index ys k ≡ slice_index xs k) → AreSymmetric xs → AreSymmetric ys
+same_mirrored xs ys same each one other l h =
+    same (one * 256 + other) ∙ each one other l h ∙ sym (same (other * 256 + one))
 
+-- a list that begins with 0 everywhere
 pub none_everywhere : (n k : ℕ) (old xs : List ℕ) (len : ℕ) (r : Result Unit AllocError) → old ≡ [] → len ≡ length old → xs ≡ cond (is_ok r) (take n old ++ replicate (n - len) 0) old → slice_index xs k ≡ 0
 none_everywhere n k old xs len (Ok done) none size is = elim (cases_lt k n) [
   | inl inside ↦ ap (λ (zs : List ℕ). slice_index zs k) is ∙ filled old n len k 0 size inside ∙ ap (λ (zs : List ℕ). slice_index zs k) none

@@ -1,13 +1,11 @@
 -- The numbers of a move.
-use Rattle.std.proofs.Common.{◌≡◌, ◌≢◌, ◌==◌, ℕ, ◌+◌, ◌<◌, ◌≤◌, Bool, true, false, cond, ℤ, pos, ◌+ℤ◌, ◌-ℤ◌, ◌≤ℤ◌, refl, sym, ap, ◌∙◌, inl, inr, arith, All}
+use Rattle.std.proofs.Common.{◌≡◌, ◌≢◌, ◌==◌, ℕ, ◌+◌, ◌<◌, ◌≤◌, Bool, true, false, cond, ℤ, pos, ◌+ℤ◌, ◌-ℤ◌, ◌≤ℤ◌, refl, sym, ap, ◌∙◌, inl, inr, arith}
 use Rattle.std.proofs.lemmas.Int.{ints}
-use Rattle.sums.specs.IntegerSums.{int_sum_below}
 use Rattle.sums.proofs.IntegerSumLemmas.{int_sum_below-same}
-use Rattle.label_field.specs.declared.pair.Pair.{Pair}
 use Rattle.label_field.specs.PairLists.{IsPair}
 use Rattle.label_energies.specs.declared.change.Move.{Move}
 use Rattle.label_energies.specs.Energies.{Instance, IsInstance}
-use Rattle.label_energies.specs.Moves.{label_after, pair_entry, IsRegularPair, IsAllowed}
+use Rattle.label_energies.specs.Moves.{label_after, IsRegularPair, IsAllowed}
 use Rattle.move_energy.specs.declared.by_site.Neighbours.{Neighbours}
 use Rattle.move_energy.specs.BySite.{AreNeighboursOf, degree, neighbours_start, neighbour_at, is_first, weight_at, pair_from, pair_beside, pair_of}
 use Rattle.move_energy.proofs.Parts.{beside_has, pair_has}
@@ -16,7 +14,7 @@ use Rattle.move_energy.specs.MoveValues.{move_value, data_rise, pair_rise}
 use Rattle.move_energy.specs.Rising.{label_rise}
 use Rattle.move_energy.proofs.Rising.{move_over}
 use Rattle.move_energy.proofs.SiteSums.{asked_rise, risen_all, test_true, test_false}
-use Rattle.site_forms.specs.Forms.{Form, TellsRises, places, place_rise, rise_below, form_value}
+use Rattle.site_forms.specs.Forms.{TellsRises, place_rise, form_value}
 use Rattle.site_forms.specs.MoveForms.{move_form, end_rise_at}
 use Rattle.site_forms.proofs.Told.{told_value}
 

@@ -1,16 +1,22 @@
 -- What is read of a move.
-use Rattle.std.proofs.Common.{◌≡◌, ℕ, ◌<◌, true, false, List, All, ℤ, length, slice_index, sym, ap, ◌∙◌, subst, arith}
+use Rattle.std.proofs.Common.{◌≡◌, ℕ, ◌*◌, ◌<◌, ◌≤◌, Bool, unsigned_abs, true, false, List, All, ℤ, length, slice_index, sym, ap, ◌∙◌, subst, arith}
 use Rattle.label_energies.specs.declared.change.Move.{Move}
+use Rattle.label_energies.specs.declared.change.Move.TheVariants.{Expand, Swap}
 use Rattle.label_energies.specs.Energies.{Instance, labelling}
 use Rattle.label_energies.specs.Moves.{IsMoveOf, label_after}
 use Rattle.cost_store.specs.declared.problem.Problem.{Problem}
 use Rattle.cost_store.specs.Posed.{Closure, IsMeant, IsAsked}
 use Rattle.move_energy.proofs.Values.{label_below}
 use Rattle.move_energy.specs.MoveValues.{data_rise}
+use Rattle.move_energy.specs.declared.rises.EndRises.{EndRises}
 use Rattle.site_forms.specs.declared.smooth_costs.AskedCosts.{AskedCosts}
-use Rattle.site_forms.specs.Fields.{own_at, IsMadeLabel, AreReadOf}
-use Rattle.site_forms.specs.Lists.{was_asked, AreAskedCosts, AreMadeAsked}
-use Rattle.site_forms.proofs.Entries.{site_label_within}
+use Rattle.site_forms.specs.Fields.{own_at, IsMadeLabel, AreReadOf, HaveRowsOf, AreSymmetric, AreUnitRises, unit_rises_at, AreReadableLists}
+use Rattle.site_forms.specs.Lists.{was_asked, AreAskedCosts, AreMadeAsked, AreCostsSmall}
+use Rattle.site_forms.proofs.Entries.{site_label_within, label_within}
+
+pub some_label : (k : ℕ) (move : Move) → IsMoveOf k move → 0 < k
+some_label k (Expand a) of = omega (arith, of)
+some_label k (Swap a b) of = omega (arith, of.0)
 
 made_within : (k : ℕ) (move : Move) (at : List ℕ) (label : ℕ) → IsMoveOf k move → All (λ l. l < k) at → IsMadeLabel move at label → label < k
 made_within k move at label of all made = label_below k move made.0 label made.1 of (site_label_within at k made.0 all made.2) made.3
@@ -40,3 +46,30 @@ read_of {F} {V} f v problem at move m own stays turns asked meant is known made 
           (made_was_asked move at one asked made a) (made_was_asked move at other asked made b);
       own_are = rises;
     }
+
+-- lists of labels below k have rows in the costs of k labels
+pub rows_within : (k : ℕ) (list smooth : List ℕ) → ((old : ℕ) → slice_index list old < k) → k * 256 ≤ length smooth → HaveRowsOf list smooth
+rows_within k list smooth below room old = (let l = below old in omega (arith, l, room))
+
+-- what the lists of a form hold, put together
+pub lists_of : (labels : ℕ) (own : List ℤ) (at stays turns smooth : List ℕ) (symmetric few : Bool) (table : List EndRises) → All (λ l. l < labels) at → labels ≤ 256
+    → length own ≡ length at → ((u : ℕ) → unsigned_abs (own_at own u) ≤ 10000000) → length stays ≡ 256 → length turns ≡ 256
+    → ((old : ℕ) → slice_index stays old < labels) → ((old : ℕ) → slice_index turns old < labels) → labels * 256 ≤ length smooth
+    → AreCostsSmall smooth → (symmetric ≡ true → AreSymmetric smooth) → (few ≡ true → labels ≤ 64) → (few ≡ true → length table ≡ 8192)
+    → (few ≡ true → (first : Bool) (own other : ℕ) → own < labels → other < labels → AreUnitRises stays turns smooth first own other (unit_rises_at table first own other))
+    → AreReadableLists own at stays turns smooth symmetric few table
+lists_of labels own at stays turns smooth symmetric few table within most own_len own_small stays_len turns_len low high room small mirrored few_labels table_len rises = record {
+  own_len = own_len;
+  own_small = own_small;
+  stays_len = stays_len;
+  turns_len = turns_len;
+  stays_below = λ old. (let l = low old in omega (arith, l, most));
+  turns_below = λ old. (let l = high old in omega (arith, l, most));
+  stays_rows = rows_within labels stays smooth low room;
+  turns_rows = rows_within labels turns smooth high room;
+  costs = small;
+  mirrored = mirrored;
+  table_len = table_len;
+  few_labels = λ yes u inside. (let l = label_within at u labels inside within in let f = few_labels yes in omega (arith, l, f));
+  rises = λ yes first one other a b. rises yes first one other (site_label_within at labels one within a) (site_label_within at labels other within b);
+}

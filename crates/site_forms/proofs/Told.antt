@@ -1,12 +1,12 @@
 -- A function whose rises are told by numbers.
-use Rattle.std.proofs.Common.{◌≡◌, ◌≢◌, ℕ, zero, suc, ◌+◌, ◌-◌, ◌<◌, ◌≤◌, ◌==◌, nat_lt, ◌&&◌, Bool, true, false, cond, ℤ, pos, ◌+ℤ◌, ◌-ℤ◌, ◌≤ℤ◌, refl, sym, ap, ◌∙◌, inl, inr, arith}
+use Rattle.std.proofs.Common.{◌≡◌, ℕ, zero, suc, ◌+◌, ◌<◌, ◌≤◌, nat_lt, ◌&&◌, Bool, true, false, cond, ℤ, pos, ◌+ℤ◌, ◌-ℤ◌, ◌≤ℤ◌, refl, sym, ap, ◌∙◌, inl, inr, arith}
 use Rattle.std.proofs.lemmas.Int.{ints}
 use Rattle.std.proofs.lemmas.Bool.{cases_eq, cases_lt}
 use Rattle.std.proofs.lemmas.Bool.Decides.{nat_tests}
 use Rattle.sums.specs.IntegerSums.{int_sum_below}
-use Rattle.move_energy.specs.Assignments.{rise, set_bit, OnesWithin, IsSubmodular, IsOver}
+use Rattle.move_energy.specs.Assignments.{set_bit, OnesWithin, IsSubmodular, IsOver}
 use Rattle.move_energy.proofs.Assignments.{set_at, set_other}
-use Rattle.site_forms.specs.Forms.{Form, TellsRises, places, place_rise, rise_below, form_value}
+use Rattle.site_forms.specs.Forms.{Form, TellsRises, places, rise_below, form_value}
 
 -- ---- submodular
 

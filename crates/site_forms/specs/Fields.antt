@@ -43,9 +43,15 @@ pub record AreUnitRises (stays turns smooth : List ℕ) (first : Bool) (own othe
 
 -- each two of 256 labels cost the same in both orders
 abbrev pub AreSymmetric : List ℕ → Type 0
-AreSymmetric smooth = (one other : ℕ) → one < label_limit → other < label_limit
+AreSymmetric smooth =
+    (one other : ℕ) → one < label_limit → other < label_limit
     → slice_index smooth (one * label_limit + other)
     ≡ slice_index smooth (other * label_limit + one)
+
+-- the costs have a row of each label of a list
+abbrev pub HaveRowsOf : List ℕ → List ℕ → Type 0
+HaveRowsOf list smooth =
+    (old : ℕ) → slice_index list old * label_limit + label_limit ≤ length smooth
 
 -- some site has this label
 abbrev pub IsSiteLabel : List ℕ → ℕ → Type 0
@@ -81,8 +87,8 @@ pub record AreFlagsOf (ends : Neighbours) (rising even : Bool) (weight : ℕ) : 
   pub even_is : even ≡ ends.even
   pub weight_is : weight ≡ ends.weight
 
--- a label and an own rise for each site, two labels for each label, and a cost for each two of 256
--- labels, the same in both orders if it is said so; and where there are few labels, a table of what
+-- a label and an own rise for each site, two labels for each label, and a row of costs for each of
+-- these, the same in both orders if it is said so; and where there are few labels, a table of what
 -- a pair of weight 1 rises by whose ends have labels of sites. None is large
 pub record AreReadableLists (own : List ℤ) (at stays turns smooth : List ℕ) (symmetric few : Bool)
     (table : List EndRises) : Type 0 where
@@ -92,7 +98,8 @@ pub record AreReadableLists (own : List ℤ) (at stays turns smooth : List ℕ) 
   pub turns_len : length turns ≡ label_limit
   pub stays_below : (old : ℕ) → slice_index stays old < label_limit
   pub turns_below : (old : ℕ) → slice_index turns old < label_limit
-  pub smooth_len : length smooth ≡ 65536
+  pub stays_rows : HaveRowsOf stays smooth
+  pub turns_rows : HaveRowsOf turns smooth
   pub costs : (place : ℕ) → slice_index smooth place ≤ 10000
   pub mirrored : symmetric ≡ true → AreSymmetric smooth
   pub table_len : few ≡ true → length table ≡ 8192

@@ -47,20 +47,21 @@ pub record AreAskedCosts {F V : Type 0} (f : Closure F) (v : Closure V) (problem
       → was_asked asked one ≡ true → was_asked asked other ≡ true
       → HasCostOf m asked.costs.items one other)
 
--- there is room for 256 labels
-abbrev pub HasCostRoom : AskedCosts → Type 0
-HasCostRoom asked =
-    (length asked.labels.items ≡ label_limit) × (length asked.costs.items ≡ 65536)
+-- there is room for so many labels
+abbrev pub HasCostRoom : ℕ → AskedCosts → Type 0
+HasCostRoom labels asked =
+    (length asked.labels.items ≡ label_limit)
+    × (labels * label_limit ≤ length asked.costs.items)
 
--- each label that was asked stays so
-pub record KeepsAsked (old new : AskedCosts) : Type 0 where
-  pub labels : (label : ℕ) → was_asked old label ≡ true → was_asked new label ≡ true
-  pub room : HasCostRoom new
+-- each label that was asked stays so, and there is room for so many
+pub record KeepsAsked (labels : ℕ) (old new : AskedCosts) : Type 0 where
+  pub asked : (label : ℕ) → was_asked old label ≡ true → was_asked new label ≡ true
+  pub room : HasCostRoom labels new
 
 -- so it does, and this label was asked too
-pub record AsksLabel (label : ℕ) (old new : AskedCosts) : Type 0 where
+pub record AsksLabel (labels label : ℕ) (old new : AskedCosts) : Type 0 where
   pub here : was_asked new label ≡ true
-  pub kept : KeepsAsked old new
+  pub kept : KeepsAsked labels old new
 
 -- the labels of a move were asked
 abbrev pub AreMoveLabelsAsked : Move → AskedCosts → Type 0

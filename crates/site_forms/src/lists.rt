@@ -1,6 +1,6 @@
 //! The door: the costs of a move, read once into lists. Only this file asks a problem for costs.
 ghost use Rattle.std.specs.Prelude.{◌≡◌, ◌⊎◌, ◌<◌, ◌≤◌, ℕ, length, slice_index, OnOk};
-ghost use Rattle.std.specs.Prelude.{true, unsigned_abs, Bool};
+ghost use Rattle.std.specs.Prelude.{true, unsigned_abs, Bool, ◌+◌, ◌*◌};
 ghost use Rattle.label_field.specs.Limits.{label_limit};
 ghost use Rattle.label_energies.specs.Energies.{labelling, Instance};
 ghost use Rattle.label_energies.specs.Moves.{IsMoveOf, label_after, IsAllowed};
@@ -11,7 +11,7 @@ ghost use Rattle.move_energy.specs.BySite.{AreBySite};
 ghost use Rattle.move_energy.specs.MoveValues.{data_rise as data_rise_of};
 ghost use Rattle.move_energy.specs.Rising.{table_labels, entry_place};
 ghost use Rattle.site_forms.specs.Fields.{own_at, unit_rise, AreUnitRises, rises_in};
-ghost use Rattle.site_forms.specs.Fields.{unit_rises_at};
+ghost use Rattle.site_forms.specs.Fields.{unit_rises_at, HaveRowsOf};
 ghost use Rattle.site_forms.specs.Lists.{AreFormLists, IsReadOf, KnowsCosts, HasNoCosts};
 ghost use Rattle.site_forms.specs.Lists.{AreCostsSmall};
 ghost use Rattle.site_forms.specs.Numbers.{IsFormOf, IsOverPairs};
@@ -32,9 +32,9 @@ const TABLE_LABELS: u32 = 64;
 /// each label of its neighbour.
 const ENTRIES: usize = 8192;
 
-/// The lists of a form. They keep their memory from move to move: 4 bytes a site, 128 KB, and 64 KB
-/// where there are at most 64 labels. They keep the smooth costs too, so that a run asks each two
-/// labels once.
+/// The lists of a form. They keep their memory from move to move: 4 bytes a site, 512 a label, and
+/// 64 KB where there are at most 64 labels. They keep the smooth costs too, so that a run asks each
+/// two labels once.
 #[derive(Drop)]
 pub struct FormLists {
     own: Vec<i32>,
@@ -54,6 +54,15 @@ fn has_table(labels: u32, sites: usize) -> bool
     labels <= TABLE_LABELS && (2 * labels * labels) as usize <= sites
 }
 
+/// Begins a list of a label for each label: 0 for all.
+fn begin_labels(list: &mut Vec<u8>) -> Result<(), AllocError>
+    ensures count { OnOk result (length list.new.items ≡ label_limit) }
+    ensures none { OnOk result ((old : ℕ) → slice_index list.new.items old ≡ 0) }
+{
+    list.clear();
+    list.resize(256, 0)
+}
+
 /// Lists what each of so many labels becomes by a move, where the site's value is this bit.
 fn list_labels(list: &mut Vec<u8>, change: Move, bit: bool, labels: u32) -> Result<(), AllocError>
     requires change { IsMoveOf labels change }
@@ -61,10 +70,9 @@ fn list_labels(list: &mut Vec<u8>, change: Move, bit: bool, labels: u32) -> Resu
     ensures count { OnOk result (length list.new.items ≡ label_limit) }
     ensures each { OnOk result ((old : ℕ) → old < labels →
         slice_index list.new.items old ≡ label_after change old bit) }
-    ensures below { OnOk result ((old : ℕ) → slice_index list.new.items old < label_limit) }
+    ensures below { OnOk result ((old : ℕ) → slice_index list.new.items old < labels) }
 {
-    list.clear();
-    list.resize(256, 0)?;
+    begin_labels(list)?;
     for label in 0..labels {
         list[label as usize] = change.label(label, bit) as u8;
     }
@@ -76,8 +84,9 @@ fn list_labels(list: &mut Vec<u8>, change: Move, bit: bool, labels: u32) -> Resu
 fn unit_rise_of(stays: &[u8], turns: &[u8], smooth: &[u16], first: bool, own: u8, other: u8) -> i32
     requires stays { length stays.now ≡ label_limit }
     requires turns { length turns.now ≡ label_limit }
-    requires size { length smooth.now ≡ 65536 }
+    requires rows { HaveRowsOf stays.now smooth.now × HaveRowsOf turns.now smooth.now }
     requires small { AreCostsSmall smooth.now }
+    requires row { other * label_limit + label_limit ≤ length smooth.now }
     ensures { result ≡ unit_rise stays.now turns.now smooth.now first own other }
 {
     i32::from(smooth_of(smooth, first, turns[own as usize], other))
@@ -95,7 +104,7 @@ fn unit_rises_of(
 ) -> EndRises
     requires stays { length stays.now ≡ label_limit }
     requires turns { length turns.now ≡ label_limit }
-    requires size { length smooth.now ≡ 65536 }
+    requires rows { HaveRowsOf stays.now smooth.now × HaveRowsOf turns.now smooth.now }
     requires small { AreCostsSmall smooth.now }
     ensures { AreUnitRises stays.now turns.now smooth.now first own other result }
 {
@@ -120,7 +129,7 @@ fn write_row(
 )
     requires stays { length stays.now ≡ label_limit }
     requires turns { length turns.now ≡ label_limit }
-    requires size { length smooth.now ≡ 65536 }
+    requires rows { HaveRowsOf stays.now smooth.now × HaveRowsOf turns.now smooth.now }
     requires small { AreCostsSmall smooth.now }
     requires few { (own < labels) × (labels ≤ table_labels) }
     requires table { length table.old ≡ 8192 }
@@ -140,7 +149,7 @@ fn write_row(
 fn write_rises(table: &mut [EndRises], stays: &[u8], turns: &[u8], smooth: &[u16], labels: u32)
     requires stays { length stays.now ≡ label_limit }
     requires turns { length turns.now ≡ label_limit }
-    requires size { length smooth.now ≡ 65536 }
+    requires rows { HaveRowsOf stays.now smooth.now × HaveRowsOf turns.now smooth.now }
     requires small { AreCostsSmall smooth.now }
     requires few { labels ≤ table_labels }
     requires table { length table.old ≡ 8192 }
@@ -215,7 +224,8 @@ impl FormLists {
         requires few { labels ≤ label_limit }
         requires stays { length self.old.stays.items ≡ label_limit }
         requires turns { length self.old.turns.items ≡ label_limit }
-        requires size { length self.old.smooth.costs.items ≡ 65536 }
+        requires rows { HaveRowsOf self.old.stays.items self.old.smooth.costs.items
+            × HaveRowsOf self.old.turns.items self.old.smooth.costs.items }
         requires small { AreCostsSmall self.old.smooth.costs.items }
         ensures same { (self.new.stays ≡ self.old.stays) × (self.new.turns ≡ self.old.turns)
             × (self.new.smooth ≡ self.old.smooth) }

@@ -1,7 +1,7 @@
 //! By how much a pair's cost rises where one of its ends turns, read of a form.
-ghost use Rattle.std.specs.Prelude.{◌≡◌, ◌<◌, ◌≤◌, ◌*◌, length, true, false, unsigned_abs};
+ghost use Rattle.std.specs.Prelude.{◌≡◌, ◌+◌, ◌<◌, ◌≤◌, ◌*◌, length, true, false, unsigned_abs};
 ghost use Rattle.std.specs.Prelude.{pos, ◌-ℤ◌, ◌*ℤ◌};
-ghost use Rattle.label_field.specs.Limits.{weight_limit};
+ghost use Rattle.label_field.specs.Limits.{weight_limit, label_limit};
 ghost use Rattle.cost_store.specs.Limits.{pair_cost_limit};
 ghost use Rattle.move_energy.specs.Rising.{table_labels, entry_place};
 ghost use Rattle.site_forms.specs.Fields.{table_cost, unit_rises_at, IsSiteLabel};
@@ -14,7 +14,8 @@ use move_energy::EndRises;
 /// end the other.
 #[inline]
 pub(crate) fn smooth_of(smooth: &[u16], first: bool, own: u8, other: u8) -> u16
-    requires size { length smooth.now ≡ 65536 }
+    requires rows { (own * label_limit + label_limit ≤ length smooth.now)
+        × (other * label_limit + label_limit ≤ length smooth.now) }
     ensures { result ≡ table_cost smooth.now first own other }
 {
     let own = usize::from(own);
@@ -29,7 +30,8 @@ pub(crate) fn smooth_of(smooth: &[u16], first: bool, own: u8, other: u8) -> u16
 /// What a pair of this weight costs by the table.
 #[inline]
 fn pair_cost(smooth: &[u16], first: bool, weight: u32, own: u8, other: u8) -> i32
-    requires size { length smooth.now ≡ 65536 }
+    requires rows { (own * label_limit + label_limit ≤ length smooth.now)
+        × (other * label_limit + label_limit ≤ length smooth.now) }
     requires weight { weight ≤ weight_limit }
     requires cost { table_cost smooth.now first own other ≤ 10000 }
     ensures cost { result ≡ pos (weight * table_cost smooth.now first own other) }
@@ -43,6 +45,7 @@ fn pair_cost(smooth: &[u16], first: bool, weight: u32, own: u8, other: u8) -> i3
 #[inline]
 fn end_rise(form: &SiteForm, first: bool, weight: u32, own: u8, other: u8) -> i32
     requires weight { weight ≤ weight_limit }
+    requires row { other * label_limit + label_limit ≤ length form.now.smooth.now }
     ensures rise { result
         ≡ pos (weight * table_cost form.now.smooth.now first (label_by form.now own true) other)
         -ℤ pos (weight * table_cost form.now.smooth.now first (label_by form.now own false)

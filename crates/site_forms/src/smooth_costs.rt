@@ -15,13 +15,12 @@ use cost_store::Problem;
 use label_energies::Move;
 use std::alloc::{AllocError, Global};
 
-/// How many labels and how many costs there is room for.
+/// How many labels there are at most, and how many costs stand in a row.
 const LABELS: usize = 256;
 
-const COSTS: usize = 65536;
-
 /// What labels cost beside one another. A label is asked where it is first in use, beside each that
-/// was asked before: so each two labels are asked once a run. It takes 128 KB once a label was.
+/// was asked before: so each two labels are asked once a run. It takes 512 bytes for each
+/// label of the problem once one was.
 #[derive(Drop)]
 pub(crate) struct AskedCosts {
     /// Of each label whether it was asked.
@@ -65,7 +64,7 @@ fn ask_cost<F: Fn(u32, u32) -> i64 + Sync, V: Fn(u32, u32) -> i64 + Sync>(
     requires few { problem.now.data_cost.labels ≤ label_limit }
     requires labels { (one < problem.now.data_cost.labels)
         × (other < problem.now.data_cost.labels) }
-    requires size { length costs.old ≡ 65536 }
+    requires size { problem.now.data_cost.labels * label_limit ≤ length costs.old }
     ensures cost { WhereMeant F.Fn V.Fn problem.now
         (λ m. GetsCostOf m one other costs.old costs.new) }
     ensures small { AreCostsSmall costs.old → AreCostsSmall costs.new }
@@ -89,7 +88,8 @@ fn ask_both<F: Fn(u32, u32) -> i64 + Sync, V: Fn(u32, u32) -> i64 + Sync>(
     requires few { problem.now.data_cost.labels ≤ label_limit }
     requires labels { (label < problem.now.data_cost.labels)
         × (other < problem.now.data_cost.labels) }
-    requires room { (length labels.now ≡ label_limit) × (length costs.old ≡ 65536) }
+    requires room { (length labels.now ≡ label_limit)
+        × (problem.now.data_cost.labels * label_limit ≤ length costs.old) }
     ensures both { WhereMeant F.Fn V.Fn problem.now
         (λ m. slice_index_or labels.now other false ≡ true →
         HasCostOf m costs.new label other × HasCostOf m costs.new other label) }
@@ -116,7 +116,8 @@ fn ask_beside<F: Fn(u32, u32) -> i64 + Sync, V: Fn(u32, u32) -> i64 + Sync>(
     requires posed { IsPosed F.Fn V.Fn problem.now }
     requires few { problem.now.data_cost.labels ≤ label_limit }
     requires label { label < problem.now.data_cost.labels }
-    requires room { (length labels.now ≡ label_limit) × (length costs.old ≡ 65536) }
+    requires room { (length labels.now ≡ label_limit)
+        × (problem.now.data_cost.labels * label_limit ≤ length costs.old) }
     ensures beside { WhereMeant F.Fn V.Fn problem.now
         (λ m. (other : ℕ) → other < m.labels → slice_index_or labels.now other false ≡ true →
         HasCostOf m costs.new label other × HasCostOf m costs.new other label) }
@@ -141,15 +142,17 @@ fn grow_labels(labels: &mut Vec<bool>) -> Result<(), AllocError>
     labels.resize(LABELS, false)
 }
 
-/// Makes room for their costs. Those that were listed stay.
-fn grow_costs(costs: &mut Vec<u16>) -> Result<(), AllocError>
-    ensures same { (k : ℕ) → k < 65536 →
-        slice_index costs.new.items k ≡ slice_index costs.old.items k }
-    ensures small { AreCostsSmall costs.old.items → AreCostsSmall costs.new.items }
-    ensures symmetric { AreSymmetric costs.old.items → AreSymmetric costs.new.items }
-    ensures size { OnOk result (length costs.new.items ≡ 65536) }
+/// Makes room for the costs of so many labels. Those that were listed stay.
+fn grow_costs(costs: &mut Vec<u16>, labels: u32) -> Result<(), AllocError>
+    requires few { labels ≤ label_limit }
+    ensures same { (k : ℕ) → slice_index costs.new.items k ≡ slice_index costs.old.items k }
+    ensures size { OnOk result (labels * label_limit ≤ length costs.new.items) }
 {
-    costs.resize(COSTS, 0)
+    let count = labels as usize * LABELS;
+    if count <= costs.len() {
+        return Ok(());
+    }
+    costs.resize(count, 0)
 }
 
 impl AskedCosts {
@@ -164,7 +167,7 @@ impl AskedCosts {
         }
     }
 
-    /// Makes room for 256 labels.
+    /// Makes room for the labels of the problem.
     fn make_room<F: Fn(u32, u32) -> i64 + Sync, V: Fn(u32, u32) -> i64 + Sync>(
         &mut self,
         problem: &Problem<F, V>,
@@ -172,10 +175,10 @@ impl AskedCosts {
         requires few { problem.now.data_cost.labels ≤ label_limit }
         requires known { AreAskedCosts F.Fn V.Fn problem.now self.old }
         ensures known { AreAskedCosts F.Fn V.Fn problem.now self.new }
-        ensures room { OnOk result (HasCostRoom self.new) }
+        ensures room { OnOk result (HasCostRoom problem.now.data_cost.labels self.new) }
     {
         grow_labels(&mut self.labels)?;
-        grow_costs(&mut self.costs)
+        grow_costs(&mut self.costs, problem.data_cost.labels)
     }
 
     /// Asks a label that was not asked yet.
@@ -187,10 +190,10 @@ impl AskedCosts {
         requires posed { IsPosed F.Fn V.Fn problem.now }
         requires few { problem.now.data_cost.labels ≤ label_limit }
         requires label { label < problem.now.data_cost.labels }
-        requires room { HasCostRoom self.old }
+        requires room { HasCostRoom problem.now.data_cost.labels self.old }
         requires known { AreAskedCosts F.Fn V.Fn problem.now self.old }
         ensures known { AreAskedCosts F.Fn V.Fn problem.now self.new }
-        ensures asks { AsksLabel label self.old self.new }
+        ensures asks { AsksLabel problem.now.data_cost.labels label self.old self.new }
     {
         self.labels[label as usize] = true;
         let mirrored = ask_beside(self.costs.as_mut_slice(), &self.labels, problem, label);
@@ -207,10 +210,10 @@ impl AskedCosts {
         requires posed { IsPosed F.Fn V.Fn problem.now }
         requires few { problem.now.data_cost.labels ≤ label_limit }
         requires label { label < problem.now.data_cost.labels }
-        requires room { HasCostRoom self.old }
+        requires room { HasCostRoom problem.now.data_cost.labels self.old }
         requires known { AreAskedCosts F.Fn V.Fn problem.now self.old }
         ensures known { AreAskedCosts F.Fn V.Fn problem.now self.new }
-        ensures asks { AsksLabel label self.old self.new }
+        ensures asks { AsksLabel problem.now.data_cost.labels label self.old self.new }
     {
         if self.labels[label as usize] {
             return;
@@ -227,12 +230,12 @@ impl AskedCosts {
         requires posed { IsPosed F.Fn V.Fn problem.now }
         requires few { problem.now.data_cost.labels ≤ label_limit }
         requires labels { All (λ label. label < problem.now.data_cost.labels) at.now }
-        requires room { HasCostRoom self.old }
+        requires room { HasCostRoom problem.now.data_cost.labels self.old }
         requires known { AreAskedCosts F.Fn V.Fn problem.now self.old }
         ensures known { AreAskedCosts F.Fn V.Fn problem.now self.new }
         ensures sites { (u : ℕ) → u < length at.now →
             was_asked self.new (labelling at.now u) ≡ true }
-        ensures kept { KeepsAsked self.old self.new }
+        ensures kept { KeepsAsked problem.now.data_cost.labels self.old self.new }
     {
         for site in 0..at.len() {
             self.ask(problem, u32::from(at[site]));
@@ -248,11 +251,11 @@ impl AskedCosts {
         requires posed { IsPosed F.Fn V.Fn problem.now }
         requires few { problem.now.data_cost.labels ≤ label_limit }
         requires change { IsMoveOf problem.now.data_cost.labels change }
-        requires room { HasCostRoom self.old }
+        requires room { HasCostRoom problem.now.data_cost.labels self.old }
         requires known { AreAskedCosts F.Fn V.Fn problem.now self.old }
         ensures known { AreAskedCosts F.Fn V.Fn problem.now self.new }
         ensures labels { AreMoveLabelsAsked change self.new }
-        ensures kept { KeepsAsked self.old self.new }
+        ensures kept { KeepsAsked problem.now.data_cost.labels self.old self.new }
     {
         match change {
             Move::Expand(alpha) => self.ask(problem, alpha),
@@ -275,7 +278,7 @@ impl AskedCosts {
         requires asked { IsAsked problem.now at.now change }
         requires known { AreAskedCosts F.Fn V.Fn problem.now self.old }
         ensures known { AreAskedCosts F.Fn V.Fn problem.now self.new }
-        ensures room { OnOk result (HasCostRoom self.new) }
+        ensures room { OnOk result (HasCostRoom problem.now.data_cost.labels self.new) }
         ensures made { OnOk result (AreMadeAsked change at.now self.new) }
     {
         self.make_room(problem)?;

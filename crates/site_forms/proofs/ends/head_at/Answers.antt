@@ -1,5 +1,4 @@
-use Rattle.std.proofs.Common.{◌∙◌, sym, subst, ℕ, ◌<◌, length}
-use Rattle.move_energy.specs.BySite.{neighbour_at}
+use Rattle.std.proofs.Common.{sym, subst, ℕ, ◌<◌, length}
 use Rattle.site_forms.proofs.Places.{head_read}
 use Rattle.site_forms.proofs.ends.head_at.Goals as goal
 

@@ -1,4 +1,4 @@
-use Rattle.std.proofs.Common.{◌∙◌, sym}
+use Rattle.std.proofs.Common.{◌∙◌}
 use Rattle.move_energy.specs.BySite.{neighbour_at, is_first, weight_at}
 use Rattle.site_forms.proofs.Places.{pair_avoids}
 use Rattle.site_forms.proofs.rises.meets_open.Goals as goal

@@ -1,9 +1,8 @@
 use Rattle.std.proofs.Common.{◌∙◌, ◌≤◌, unsigned_abs, ap, arith}
 use Rattle.sums.proofs.IntegerSumLemmas.{abs-sub}
-use Rattle.label_energies.specs.Energies.{labelling}
 use Rattle.move_energy.specs.BySite.{is_first, weight_at, neighbour_at}
 use Rattle.move_energy.proofs.RiseNumbers.{passed_on}
-use Rattle.site_forms.proofs.Telling.{labels_rise, told_saving}
+use Rattle.site_forms.proofs.Telling.{told_saving}
 use Rattle.site_forms.proofs.savings.saving_beside.Goals as goal
 
 -- by what was read at the place

@@ -1,5 +1,4 @@
 use Rattle.std.proofs.Common.{◌<◌, arith}
-use Rattle.site_forms.proofs.Asking.{written_mirrored}
 use Rattle.site_forms.proofs.smooth_costs.ask_both.Goals as goal
 
 pub returns-clause-both : goal.returns-clause-both

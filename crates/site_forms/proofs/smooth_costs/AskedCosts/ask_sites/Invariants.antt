@@ -7,5 +7,5 @@ abbrev pub invariant-loop-site : goal.invariant-loop-site
 invariant-loop-site g l = record {
   known : AreAskedCosts g.F.Fn g.V.Fn l.problem l.self;
   sites : (u : ℕ) → u < l.site → was_asked l.self (labelling l.at u) ≡ true;
-  kept : KeepsAsked l.fn.self l.self;
+  kept : KeepsAsked l.problem.data_cost.labels l.fn.self l.self;
 }
