@@ -141,7 +141,3 @@ sees_none m move f k pair site other value b ends apart = record {
 pub ends_apart : (pair : Pair) (site other : ℕ) → AreEnds pair site other → pair.first ≢ pair.second → site ≢ other
 ends_apart pair site other (inl ends) unequal same = unequal (ends.0 ∙ same ∙ sym ends.1)
 ends_apart pair site other (inr ends) unequal same = unequal (ends.0 ∙ sym same ∙ sym ends.1)
-
-pub other_inside : (pair : Pair) (site other n : ℕ) → AreEnds pair site other → pair.first < n → pair.second < n → other < n
-other_inside pair site other n (inl ends) first second = omega (arith, ends.1, second)
-other_inside pair site other n (inr ends) first second = omega (arith, ends.0, first)

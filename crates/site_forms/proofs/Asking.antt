@@ -1,5 +1,5 @@
 -- What labels cost beside one another, as it is asked.
-use Rattle.std.proofs.Common.{◌≡◌, ◌≢◌, ◌⊎◌, ℕ, ◌+◌, ◌-◌, ◌*◌, ◌<◌, ◌≤◌, Bool, false, cond, List, [], ◌++◌, length, get_or, take, replicate, slice_index, refl, sym, ap, Result, Ok, Err, OnOk, ◌∙◌, inl, inr, arith}
+use Rattle.std.proofs.Common.{◌≡◌, ℕ, ◌+◌, ◌-◌, ◌*◌, ◌<◌, ◌≤◌, Bool, false, cond, List, [], ◌++◌, length, get_or, take, replicate, slice_index, refl, sym, ap, Result, Ok, Err, OnOk, ◌∙◌, inl, inr, arith}
 use Rattle.std.specs.Prelude.{is_ok, slice_set, slice_index_or}
 use Rattle.std.proofs.lemmas.Bool.{cases_eq, cases_lt}
 use Rattle.std.proofs.lemmas.List.{get_or-set_same, get_or-set_other, get_or_past, length-take, length-replicate, length-append, get_or_append_left, get_or-append_right, get_or-replicate, get_or-take}
@@ -32,44 +32,6 @@ written_small place cost old inside small each k = elim (cases_eq k place) [
   | inl same ↦ (let e = ap (slice_index (slice_set old place cost)) same ∙ get_or-set_same old place cost 0 inside in omega (arith, e, small))
   | inr off ↦ (let e = get_or-set_other old place k cost 0 off in let s = each k in omega (arith, e, s))
 ]
-
--- two costs are written
-written_both : (p q c d k : ℕ) (old mid new : List ℕ) → mid ≡ slice_set old p c → new ≡ slice_set mid q d → p < length old → q < length mid → c ≡ d
-    → (k ≡ p) ⊎ (k ≡ q) → slice_index new k ≡ c
-written_both p q c d k old mid new one two pl ql same which = elim (cases_eq k q) [
-  | inl at ↦ ap (λ (xs : List ℕ). slice_index xs k) two ∙ ap (slice_index (slice_set mid q d)) at ∙ get_or-set_same mid q d 0 ql ∙ sym same
-  | inr off ↦
-      let first : k ≡ p = elim which [
-        | inl a ↦ a
-        | inr b ↦ absurd (off b)
-      ] in
-      ap (λ (xs : List ℕ). slice_index xs k) two ∙ get_or-set_other mid q k d 0 off
-      ∙ ap (λ (xs : List ℕ). slice_index xs k) one ∙ ap (slice_index (slice_set old p c)) first ∙ get_or-set_same old p c 0 pl
-]
-
-written_else : (p q c d k : ℕ) (old mid new : List ℕ) → mid ≡ slice_set old p c → new ≡ slice_set mid q d → k ≢ p → k ≢ q → slice_index new k ≡ slice_index old k
-written_else p q c d k old mid new one two off_p off_q =
-    ap (λ (xs : List ℕ). slice_index xs k) two ∙ get_or-set_other mid q k d 0 off_q
-    ∙ ap (λ (xs : List ℕ). slice_index xs k) one ∙ get_or-set_other old p k c 0 off_p
-
-turned_place : (a b l o : ℕ) → a < 256 → b < 256 → l < 256 → o < 256 → a * 256 + b ≡ l * 256 + o → b * 256 + a ≡ o * 256 + l
-turned_place a b l o al bl ll ol same = omega (arith, al, bl, ll, ol, same)
-
--- where they are the same, the costs of two labels stay the same in both orders
-pub written_mirrored : (l o c d : ℕ) (old mid new : List ℕ) → l < 256 → o < 256 → mid ≡ slice_set old (l * 256 + o) c → new ≡ slice_set mid (o * 256 + l) d
-    → l * 256 + o < length old → o * 256 + l < length mid → c ≡ d → AreSymmetric old → AreSymmetric new
-written_mirrored l o c d old mid new ll ol one two pl ql same each a b al bl =
-    let here = λ (k : ℕ). written_both (l * 256 + o) (o * 256 + l) c d k old mid new one two pl ql same in
-    elim (cases_eq (a * 256 + b) (l * 256 + o)) [
-      | inl at ↦ here (a * 256 + b) (inl at) ∙ sym (here (b * 256 + a) (inr (turned_place a b l o al bl ll ol at)))
-      | inr off ↦ elim (cases_eq (a * 256 + b) (o * 256 + l)) [
-        | inl at ↦ here (a * 256 + b) (inr at) ∙ sym (here (b * 256 + a) (inl (turned_place a b o l al bl ol ll at)))
-        | inr apart ↦
-            let else_here = λ (k : ℕ). written_else (l * 256 + o) (o * 256 + l) c d k old mid new one two in
-            else_here (a * 256 + b) off apart ∙ each a b al bl
-            ∙ sym (else_here (b * 256 + a) (λ at. apart (turned_place b a l o bl al ll ol at)) (λ at. off (turned_place b a o l bl al ol ll at)))
-      ]
-    ]
 
 -- ---- what holds where nothing was refused
 
