@@ -1,5 +1,9 @@
 //! Nets from tables, and their states in blocks.
+ghost use Rattle.block_split.specs.Split.{CanSplit};
+
+use crate::rows::{hold, take_ok};
 use block_net::{ARC_LIMIT, BLOCK_LIMIT};
+use block_split::Parts;
 use flow_network::{Arc, Net};
 use parcel::Core;
 use std::alloc::{AllocError, Global};
@@ -27,23 +31,35 @@ pub fn net_of(
     sources: &[u64],
     sinks: &[u64],
     rows: &[Row],
-) -> Result<Net, AllocError> {
+) -> Net {
     let alloc = rt.alloc();
-    let arcs = arcs_of(alloc, rows)?;
-    assert!(rt; Net::fits(sources, sinks, arcs.as_slice()));
-    let sources = Vec::from_slice(alloc, sources)?;
-    let sinks = Vec::from_slice(alloc, sinks)?;
-    Ok(Net::new(sources, sinks, arcs))
+    let arcs = take_ok(rt, arcs_of(alloc, rows));
+    let sources = take_ok(rt, Vec::from_slice(alloc, sources));
+    let sinks = take_ok(rt, Vec::from_slice(alloc, sinks));
+    hold(
+        rt,
+        Net::fits(sources.as_slice(), sinks.as_slice(), arcs.as_slice()),
+    );
+    Net::new(sources, sinks, arcs)
+}
+
+/// Ends the test where a net cannot be split into so many blocks.
+pub fn hold_split(rt: &impl Abort, net: &Net, blocks: usize)
+    ensures { CanSplit net.now blocks }
+{
+    hold(rt, 1 <= blocks);
+    hold(rt, blocks <= BLOCK_LIMIT);
+    hold(rt, net.arcs().len() <= ARC_LIMIT);
 }
 
 /// The opening state of a net in so many blocks, in which it has to fit.
-pub fn core_of(
-    rt: &(impl Abort + AllocGlobal),
-    net: &Net,
-    blocks: usize,
-) -> Result<Core, AllocError> {
-    assert!(rt; 1 <= blocks);
-    assert!(rt; blocks <= BLOCK_LIMIT);
-    assert!(rt; net.arcs().len() <= ARC_LIMIT);
-    Core::open(rt.alloc(), net, blocks)
+pub fn core_of(rt: &(impl Abort + AllocGlobal), net: &Net, blocks: usize) -> Core {
+    hold_split(rt, net, blocks);
+    take_ok(rt, Core::open(rt.alloc(), net, blocks))
+}
+
+/// The parts of a net in so many blocks.
+pub fn parts_of(rt: &(impl Abort + AllocGlobal), net: &Net, blocks: usize) -> Parts {
+    hold_split(rt, net, blocks);
+    take_ok(rt, Parts::split(rt.alloc(), net, blocks))
 }

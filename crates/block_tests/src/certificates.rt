@@ -1,10 +1,9 @@
 //! What `check_cut` says of cuts and of the numbers that are to certify them.
 use crate::building::{Row, net_of};
-use crate::rows::expect;
+use crate::rows::{expect_tried, take_ok};
 use flow_network::{Net, Solved, check_cut};
 use std::alloc::{AllocError, Global};
 use std::process::Abort;
-use std::test::Fail;
 
 /// What is claimed, what each arc carries and each node gives the sink, the side, the value, and
 /// whether it is right.
@@ -126,36 +125,33 @@ const CASES: &[Case] = &[
     ),
 ];
 
-/// Whether a claim is answered as it is to be.
-fn is_answered(alloc: Global, net: &Net, claim: &Claim) -> Result<bool, AllocError> {
-    let (_, arc_flow, sink_flow, sink_side, value, is_right) = *claim;
-    let solved = Solved {
-        arc_flow: Vec::from_slice(alloc, arc_flow)?,
-        sink_flow: Vec::from_slice(alloc, sink_flow)?,
-        sink_side: Vec::from_slice(alloc, sink_side)?,
-        value,
-    };
-    Ok(check_cut(alloc, net, &solved)? == is_right)
+/// What is claimed of a cut.
+fn solved_of(alloc: Global, claim: &Claim) -> Result<Solved, AllocError> {
+    Ok(Solved {
+        arc_flow: Vec::from_slice(alloc, claim.1)?,
+        sink_flow: Vec::from_slice(alloc, claim.2)?,
+        sink_side: Vec::from_slice(alloc, claim.3)?,
+        value: claim.4,
+    })
 }
 
-/// Each claim of a net is answered.
-fn expect_claims(
-    rt: &impl Abort,
-    alloc: Global,
-    net: &Net,
-    claims: &[Claim],
-) -> Result<(), AllocError> {
-    for (place, claim) in claims.iter().enumerate() {
-        expect(rt, claim.0, place, is_answered(alloc, net, claim)?);
+/// Whether a claim is answered as it is to be.
+fn is_answered(rt: &(impl Abort + AllocGlobal), net: &Net, claim: &Claim) -> bool {
+    let solved = take_ok(rt, solved_of(rt.alloc(), claim));
+    take_ok(rt, check_cut(rt.alloc(), net, &solved)) == claim.5
+}
+
+/// Each claim of a case is answered.
+fn expect_claims(rt: &(impl Abort + AllocGlobal), case: &Case) {
+    let net = net_of(rt, case.0, case.1, case.2);
+    for (place, claim) in case.3.iter().enumerate() {
+        expect_tried(rt, claim.0, "claim", place, is_answered(rt, &net, claim));
     }
-    Ok(())
 }
 
 #[test]
-fn checks_cuts(rt: HostRuntime) -> Result<(), Fail> {
-    for (sources, sinks, rows, claims) in CASES {
-        let net = net_of(&rt, sources, sinks, rows)?;
-        expect_claims(&rt, rt.alloc(), &net, claims)?;
+fn checks_cuts(rt: HostRuntime) {
+    for case in CASES {
+        expect_claims(&rt, case);
     }
-    Ok(())
 }

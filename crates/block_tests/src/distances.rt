@@ -1,10 +1,8 @@
 //! Distances to the sink, and the nodes that reach it.
 use crate::building::{Row, net_of};
-use crate::rows::expect;
-use sink_distances::{arcs_by_node, are_rooms, distances, sink_side};
-use std::alloc::AllocError;
+use crate::rows::{expect, hold, take_ok};
+use sink_distances::{are_rooms, distances, sink_side};
 use std::process::Abort;
-use std::test::Fail;
 
 /// What each node can give the sink and can still give it, the arcs and what each carries, and each
 /// node's distance.
@@ -15,8 +13,6 @@ struct Case {
     arc_flow: &'static [u64],
     labels: &'static [u32],
 }
-
-const NO_SOURCES: [u64; 8] = [0; 8];
 
 const RING: &[Row] = &[(0, 1, 2), (1, 2, 3), (2, 0, 1)];
 
@@ -111,37 +107,20 @@ fn is_near(side: &[bool], labels: &[u32]) -> bool {
 }
 
 /// Whether the distances and the side of a case are found.
-fn is_found(rt: &(impl Abort + AllocGlobal), case: &Case) -> Result<bool, AllocError> {
-    let nodes = case.sinks.len();
-    assert!(rt; nodes <= NO_SOURCES.len());
-    let net = net_of(rt, &NO_SOURCES[..nodes], case.sinks, case.arcs)?;
-    assert!(rt; case.arc_flow.len() == net.arcs().len());
-    assert!(rt; are_rooms(&net, case.rooms));
-    let labels = distances(rt.alloc(), net.graph(), case.arc_flow, case.rooms)?;
-    let side = sink_side(rt.alloc(), net.graph(), labels.as_slice())?;
-    Ok(labels.as_slice() == case.labels && is_near(side.as_slice(), case.labels))
+fn is_found(rt: &(impl Abort + AllocGlobal), case: &Case) -> bool {
+    let sources = take_ok(rt, vec![in rt.alloc(); 0; case.sinks.len()]);
+    let net = net_of(rt, sources.as_slice(), case.sinks, case.arcs);
+    hold(rt, case.arc_flow.len() == net.arcs().len());
+    hold(rt, are_rooms(&net, case.rooms));
+    let labels = distances(rt.alloc(), net.graph(), case.arc_flow, case.rooms);
+    let labels = take_ok(rt, labels);
+    let side = take_ok(rt, sink_side(rt.alloc(), net.graph(), labels.as_slice()));
+    labels.as_slice() == case.labels && is_near(side.as_slice(), case.labels)
 }
 
 #[test]
-fn finds_distances_and_sides(rt: HostRuntime) -> Result<(), Fail> {
+fn finds_distances_and_sides(rt: HostRuntime) {
     for (place, case) in CASES.iter().enumerate() {
-        expect(&rt, "CASES", place, is_found(&rt, case)?);
+        expect(&rt, place, is_found(&rt, case));
     }
-    Ok(())
-}
-
-#[test]
-fn finds_arcs_of_each_node(rt: HostRuntime) -> Result<(), Fail> {
-    let net = net_of(
-        &rt,
-        &[0, 0, 0],
-        &[0, 0, 0],
-        &[(2, 0, 1), (0, 2, 1), (2, 2, 1)],
-    )?;
-    let adjacency = arcs_by_node(rt.alloc(), net.graph())?;
-    assert!(rt; adjacency.out.starts.as_slice() == [0, 1, 1, 3].as_slice());
-    assert!(rt; adjacency.out.places.as_slice() == [1, 0, 2].as_slice());
-    assert!(rt; adjacency.into.starts.as_slice() == [0, 1, 1, 3].as_slice());
-    assert!(rt; adjacency.into.places.as_slice() == [0, 1, 2].as_slice());
-    Ok(())
 }

@@ -1,15 +1,12 @@
 //! The six calls of a block, each where its event is enabled and where it is not, worked by hand by
 //! the rules of push-relabel (Goldberg, Tarjan 1988, section 2), and a turn of one event.
-use crate::building::{Row, net_of};
+use crate::building::{Row, net_of, parts_of};
 use crate::ends::OneLetter;
-use crate::rows::expect;
-use block_net::{ARC_LIMIT, BLOCK_LIMIT, Cells};
-use block_split::Parts;
+use crate::rows::{expect, hold, take_ok};
+use block_net::Cells;
 use discharge::{Block, push_inner, push_sink, receive, relabel, send, settle, turn};
 use parcel::{Direction, Flight, Letter, Message};
-use std::alloc::AllocError;
 use std::process::Abort;
-use std::test::Fail;
 
 /// The one arc from its tail to its head.
 const FORWARD: Direction = Direction {
@@ -21,24 +18,15 @@ const FORWARD: Direction = Direction {
 const ARC: &[Row] = &[(0, 1, 4)];
 
 /// The blocks of two nodes with such an arc, of which the second can give the sink 3.
-fn blocks_of(
-    rt: &(impl Abort + AllocGlobal),
-    sources: &[u64],
-    blocks: usize,
-) -> Result<Vec<Cells>, AllocError> {
-    let net = net_of(rt, sources, &[0, 3], ARC)?;
-    assert!(*rt; 1 <= blocks);
-    assert!(*rt; blocks <= BLOCK_LIMIT);
-    assert!(*rt; net.arcs().len() <= ARC_LIMIT);
-    Ok(Parts::split(rt.alloc(), &net, blocks)?.blocks)
+fn blocks_of(rt: &(impl Abort + AllocGlobal), sources: &[u64], blocks: usize) -> Vec<Cells> {
+    let net = net_of(rt, sources, &[0, 3], ARC);
+    parts_of(rt, &net, blocks).blocks
 }
 
-/// A list of blocks without its last, and that one.
-fn last_of(rt: &(impl Abort + AllocGlobal), blocks: &mut Vec<Cells>) -> Result<Block, AllocError> {
-    let Some(cells) = blocks.pop() else {
-        rt.abort()
-    };
-    Block::new(rt.alloc(), cells)
+/// The last of a list of blocks, which it leaves.
+fn last_of(rt: &(impl Abort + AllocGlobal), blocks: &mut Vec<Cells>) -> Block {
+    let cells = blocks.pop().expect(rt, "a block");
+    take_ok(rt, Block::new(rt.alloc(), cells))
 }
 
 /// A call within a block: of a node, and with it the place of one of the block's directions.
@@ -51,7 +39,7 @@ enum Call {
 
 /// What two nodes in one block hold: the excess and the label of each, what the second can still
 /// give the sink, and what the arc can still carry to its head and back.
-#[derive(Clone, Copy, PartialEq, Eq)]
+#[derive(Clone, Copy, PartialEq)]
 struct Nodes {
     excess: [u64; 2],
     labels: [u32; 2],
@@ -71,9 +59,9 @@ fn answer_of(block: &mut Block, call: Call) -> bool {
 /// What two nodes hold. The direction to the head is at the first place, and that back at the
 /// second.
 fn nodes_of(rt: &impl Abort, cells: &Cells) -> Nodes {
-    assert!(*rt; cells.len() == 2);
+    hold(rt, cells.len() == 2);
     let (_, end) = cells.range(1);
-    assert!(*rt; end == 2);
+    hold(rt, end == 2);
     Nodes {
         excess: [cells.excess(0), cells.excess(1)],
         labels: [cells.label(0), cells.label(1)],
@@ -102,16 +90,21 @@ const REFUSED: &[Call] = &[
     Call::Rise(2),
 ];
 
-/// Calls that are enabled, one after another; each with what the nodes then hold, and calls that
-/// are not enabled there. The label of a node that is cut off is 4.
-const STEPS: &[(Call, Nodes, &[Call])] = &[
+/// And once the first node has risen.
+const RISEN: Nodes = Nodes {
+    labels: [1, 0],
+    ..OPENING
+};
+
+/// A call that is enabled, what the nodes then hold, and calls that are not enabled there.
+type Step = (Call, Nodes, &'static [Call]);
+
+/// One after another. The label of a node that is cut off is 4.
+const STEPS: &[Step] = &[
     // One above the head, to which the arc can carry 4.
     (
         Call::Rise(0),
-        Nodes {
-            labels: [1, 0],
-            ..OPENING
-        },
+        RISEN,
         // A second time, and along a direction that leaves the other node.
         &[Call::Rise(0), Call::Push(0, 1)],
     ),
@@ -204,78 +197,56 @@ const STEPS: &[(Call, Nodes, &[Call])] = &[
     ),
 ];
 
-/// The call answers this, after which the nodes hold this.
-fn expect_call(
-    rt: &(impl Abort + AllocGlobal),
-    block: Block,
-    call: Call,
-    answer: bool,
-    wanted: Nodes,
-    place: usize,
-) -> Result<Block, AllocError> {
-    let mut block = block;
-    let is_answered = answer_of(&mut block, call) == answer;
-    let cells = block.into_cells();
-    expect(
-        rt,
-        "calls",
-        place,
-        is_answered && nodes_of(rt, &cells) == wanted,
-    );
-    Block::new(rt.alloc(), cells)
+/// Whether the call answers this, after which the nodes hold this.
+fn is_call(rt: &impl Abort, block: &mut Block, call: Call, answer: bool, wanted: Nodes) -> bool {
+    answer_of(block, call) == answer && nodes_of(rt, block.cells()) == wanted
 }
 
-/// Each call answers no, and the nodes hold what they held.
-fn expect_noes(
-    rt: &(impl Abort + AllocGlobal),
-    block: Block,
-    calls: &[Call],
-    wanted: Nodes,
-    place: usize,
-) -> Result<Block, AllocError> {
-    let mut block = block;
+/// Whether each call answers no, and the nodes hold what they held.
+fn are_noes(rt: &impl Abort, block: &mut Block, calls: &[Call], wanted: Nodes) -> bool {
     for call in calls {
-        block = expect_call(rt, block, *call, false, wanted, place)?;
+        if !is_call(rt, block, *call, false, wanted) {
+            return false;
+        }
     }
-    Ok(block)
+    true
+}
+
+/// Whether the call of a step is enabled, and none of those that are not.
+fn is_step(rt: &impl Abort, block: &mut Block, step: &Step) -> bool {
+    is_call(rt, block, step.0, true, step.1) && are_noes(rt, block, step.2, step.1)
+}
+
+/// The two nodes in one block, of which the first gets 5.
+fn one_block(rt: &(impl Abort + AllocGlobal)) -> Block {
+    last_of(rt, &mut blocks_of(rt, &[5, 0], 1))
 }
 
 #[test]
-fn events_within_a_block(rt: HostRuntime) -> Result<(), Fail> {
-    let mut blocks = blocks_of(&rt, &[5, 0], 1)?;
-    let block = last_of(&rt, &mut blocks)?;
-    let mut block = expect_noes(&rt, block, REFUSED, OPENING, 0)?;
-    for (place, (call, wanted, noes)) in STEPS.iter().enumerate() {
-        block = expect_call(&rt, block, *call, true, *wanted, place)?;
-        block = expect_noes(&rt, block, noes, *wanted, place)?;
+fn events_within_a_block(rt: HostRuntime) {
+    let mut block = one_block(&rt);
+    hold(&rt, are_noes(&rt, &mut block, REFUSED, OPENING));
+    for (place, step) in STEPS.iter().enumerate() {
+        expect(&rt, place, is_step(&rt, &mut block, step));
     }
-    Ok(())
 }
 
 /// A turn of no event changes nothing. Of one event it does the only one that is enabled at the
 /// opening: the first node rises to 1.
 #[test]
-fn turns_of_one_block(rt: HostRuntime) -> Result<(), Fail> {
-    let mut blocks = blocks_of(&rt, &[5, 0], 1)?;
-    let mut block = last_of(&rt, &mut blocks)?;
+fn turns_of_one_block(rt: HostRuntime) {
+    let mut block = one_block(&rt);
     let mut ways = OneLetter::with(None);
-    assert!(rt; turn(&mut block, &mut ways, 0) == 0);
-    let cells = block.into_cells();
-    assert!(rt; nodes_of(&rt, &cells) == OPENING);
-    let mut block = Block::new(rt.alloc(), cells)?;
-    assert!(rt; turn(&mut block, &mut ways, 1) == 1);
-    let wanted = Nodes {
-        labels: [1, 0],
-        ..OPENING
-    };
-    assert!(rt; nodes_of(&rt, &block.into_cells()) == wanted);
-    assert!(rt; ways.put.is_none() && ways.taken.is_none());
-    Ok(())
+    hold(&rt, turn(&mut block, &mut ways, 0) == 0);
+    hold(&rt, nodes_of(&rt, block.cells()) == OPENING);
+    hold(&rt, turn(&mut block, &mut ways, 1) == 1);
+    hold(&rt, nodes_of(&rt, block.cells()) == RISEN);
+    hold(&rt, ways.put.is_none() && ways.taken.is_none());
 }
 
 /// What a block of one node with one direction to another block holds: the excess and the label,
 /// what the direction can still carry, the label known of its far end, and the parcel that is out.
-#[derive(Clone, Copy, PartialEq, Eq)]
+#[derive(Clone, Copy, PartialEq)]
 struct Edge {
     excess: u64,
     label: u32,
@@ -286,7 +257,7 @@ struct Edge {
 
 /// What such a block holds.
 fn edge_of(rt: &impl Abort, cells: &Cells) -> Edge {
-    assert!(*rt; cells.len() == 1 && cells.borders() == 1);
+    hold(rt, cells.len() == 1 && cells.borders() == 1);
     let border = cells.border(0);
     Edge {
         excess: cells.excess(0),
@@ -297,24 +268,17 @@ fn edge_of(rt: &impl Abort, cells: &Cells) -> Edge {
     }
 }
 
-/// A block that holds what is wanted.
-fn expect_edge(
-    rt: &(impl Abort + AllocGlobal),
-    block: Block,
-    wanted: Edge,
-) -> Result<Block, AllocError> {
-    let cells = block.into_cells();
-    assert!(*rt; edge_of(rt, &cells) == wanted);
-    Block::new(rt.alloc(), cells)
+/// Whether a block holds what is wanted.
+fn holds(rt: &impl Abort, block: &Block, wanted: Edge) -> bool {
+    edge_of(rt, block.cells()) == wanted
 }
 
 /// Two blocks of one node each. The first gets 4, which its arc can carry to the second, and that
 /// gets 1 and can give the sink 3.
-fn two_blocks(rt: &(impl Abort + AllocGlobal)) -> Result<(Block, Block), AllocError> {
-    let mut blocks = blocks_of(rt, &[4, 1], 2)?;
-    let second = last_of(rt, &mut blocks)?;
-    let first = last_of(rt, &mut blocks)?;
-    Ok((first, second))
+fn two_blocks(rt: &(impl Abort + AllocGlobal)) -> (Block, Block) {
+    let mut blocks = blocks_of(rt, &[4, 1], 2);
+    let second = last_of(rt, &mut blocks);
+    (last_of(rt, &mut blocks), second)
 }
 
 /// What the first block holds once its node has risen, and once it has sent what it had.
@@ -345,125 +309,134 @@ const SECOND: Edge = Edge {
     flight: None,
 };
 
-/// The letter that was put for this block; none where another was asked.
-fn put_for(ways: &OneLetter, to: u32) -> Option<Letter> {
-    if ways.put_for == to { ways.put } else { None }
+/// What a letter says.
+#[derive(Clone, Copy, PartialEq)]
+enum Content {
+    /// An amount is offered, by a node with this label.
+    Parcel(u64, u32),
+    /// It was taken.
+    Accepted(u64),
+    /// It is sent back from the label that it met to a node with the label before that.
+    Refused(u64, u32, u32),
 }
 
-/// The first block's letter to the second: a parcel of 4 with the label 1. Nothing else is sent.
-fn send_parcel(
-    rt: &(impl Abort + AllocGlobal),
-    block: Block,
-) -> Result<(Block, Option<Letter>), AllocError> {
-    let mut block = block;
-    let mut ways = OneLetter::with(None);
-    assert!(*rt; !send(&mut block, &mut ways, 0, 0) && relabel(&mut block, 0));
-    let mut block = expect_edge(rt, block, FIRST)?;
-    assert!(*rt; !send(&mut block, &mut ways, 0, 1) && !send(&mut block, &mut ways, 1, 0));
-    assert!(*rt; ways.put.is_none() && send(&mut block, &mut ways, 0, 0));
-    let mut block = expect_edge(rt, block, SENT)?;
-    assert!(*rt; !send(&mut block, &mut ways, 0, 0));
-    Ok((block, put_for(&ways, 1)))
-}
-
-/// Where nothing came, nothing is taken.
-fn expect_nothing(
-    rt: &(impl Abort + AllocGlobal),
-    block: Block,
-    other: u32,
-    wanted: Edge,
-) -> Result<Block, AllocError> {
-    let mut block = block;
-    let mut ways = OneLetter::with(None);
-    assert!(*rt; !receive(&mut block, &mut ways, other) && !settle(&mut block, &mut ways, other));
-    assert!(*rt; ways.put.is_none() && ways.taken.is_none());
-    expect_edge(rt, block, wanted)
-}
-
-/// The block's answer to a parcel from the first block, and that a parcel ends no flight. What it
-/// then holds is told.
-fn answer_to(
-    rt: &(impl Abort + AllocGlobal),
-    block: Block,
-    parcel: Option<Letter>,
-    wanted: Edge,
-) -> Result<Option<Letter>, AllocError> {
-    let mut block = block;
-    let mut ways = OneLetter::with(parcel);
-    assert!(*rt; !settle(&mut block, &mut ways, 0) && ways.taken.is_none());
-    assert!(*rt; receive(&mut block, &mut ways, 0) && ways.taken.is_some());
-    expect_edge(rt, block, wanted)?;
-    Ok(put_for(&ways, 0))
-}
-
-/// The answer ends the first block's flight, and is no parcel to take. What the block then holds is
-/// told.
-fn expect_ended(
-    rt: &(impl Abort + AllocGlobal),
-    block: Block,
-    answer: Option<Letter>,
-    wanted: Edge,
-) -> Result<(), AllocError> {
-    let mut block = block;
-    let mut ways = OneLetter::with(answer);
-    assert!(*rt; !receive(&mut block, &mut ways, 1) && ways.taken.is_none());
-    assert!(*rt; settle(&mut block, &mut ways, 1) && ways.taken.is_some());
-    assert!(*rt; ways.put.is_none());
-    expect_edge(rt, block, wanted)?;
-    Ok(())
-}
-
-/// Whether a letter is a parcel of 4 with the label 1.
-fn is_parcel(letter: Option<Letter>) -> bool {
-    let Some(letter) = letter else {
-        return false;
-    };
-    match letter.message {
+/// What a letter about the arc says that names the first place; nothing of another.
+fn said(letter: Option<Letter>) -> Option<Content> {
+    let letter = letter?;
+    let (direction, said) = match letter.message {
         Message::Parcel {
             direction,
             amount,
             label,
-        } => direction == FORWARD && amount == 4 && label == 1 && letter.place == 0,
-        _ => false,
-    }
-}
-
-/// Whether a letter says that the 4 were taken.
-fn is_accepted(letter: Option<Letter>) -> bool {
-    let Some(letter) = letter else {
-        return false;
-    };
-    match letter.message {
-        Message::Accepted { direction, amount } => {
-            direction == FORWARD && amount == 4 && letter.place == 0
-        }
-        _ => false,
-    }
-}
-
-/// Whether a letter sends the 4 back, which came from the label 1 and met this label.
-fn is_refused(letter: Option<Letter>, met: u32) -> bool {
-    let Some(letter) = letter else {
-        return false;
-    };
-    match letter.message {
+        } => (direction, Content::Parcel(amount, label)),
+        Message::Accepted { direction, amount } => (direction, Content::Accepted(amount)),
         Message::Refused {
             direction,
             amount,
             label,
             told,
-        } => direction == FORWARD && amount == 4 && label == 1 && told == met && letter.place == 0,
-        _ => false,
+        } => (direction, Content::Refused(amount, label, told)),
+    };
+    if direction == FORWARD && letter.place == 0 {
+        Some(said)
+    } else {
+        None
     }
 }
 
-/// How a parcel from the label 1 meets the second block: whether that block's node rises first, the
-/// label that the parcel is sent back with, what the second block then holds, and what the first
-/// block holds once the answer ended the flight.
-#[derive(Clone, Copy)]
+/// What the letter says that was put for this block; nothing where another was asked.
+fn said_to(ways: &OneLetter, to: u32) -> Option<Content> {
+    if ways.put_for == to {
+        said(ways.put)
+    } else {
+        None
+    }
+}
+
+/// Whether no letter was put or taken.
+fn are_unused(ways: &OneLetter) -> bool {
+    ways.put.is_none() && ways.taken.is_none()
+}
+
+/// Whether the first block's node, which sends nothing from the label 0, rises to 1.
+fn rises(rt: &impl Abort, block: &mut Block, ways: &mut OneLetter) -> bool {
+    !send(block, ways, 0, 0) && relabel(block, 0) && holds(rt, block, FIRST)
+}
+
+/// Whether it sends nothing along a direction or from a node that is not there.
+fn sends_nothing_else(block: &mut Block, ways: &mut OneLetter) -> bool {
+    !send(block, ways, 0, 1) && !send(block, ways, 1, 0) && are_unused(ways)
+}
+
+/// Whether it sends all that it has, once.
+fn sends_all(rt: &impl Abort, block: &mut Block, ways: &mut OneLetter) -> bool {
+    send(block, ways, 0, 0) && holds(rt, block, SENT) && !send(block, ways, 0, 0)
+}
+
+/// The first block's letter to the second: a parcel of 4 with the label 1. Nothing else is sent.
+fn send_parcel(rt: &impl Abort, block: &mut Block) -> Option<Letter> {
+    let mut ways = OneLetter::with(None);
+    hold(rt, rises(rt, block, &mut ways));
+    hold(rt, sends_nothing_else(block, &mut ways));
+    hold(rt, sends_all(rt, block, &mut ways));
+    hold(rt, said_to(&ways, 1) == Some(Content::Parcel(4, 1)));
+    ways.put
+}
+
+/// Whether nothing is taken where nothing came.
+fn takes_nothing(rt: &impl Abort, block: &mut Block, other: u32, wanted: Edge) -> bool {
+    let mut ways = OneLetter::with(None);
+    !receive(block, &mut ways, other)
+        && !settle(block, &mut ways, other)
+        && are_unused(&ways)
+        && holds(rt, block, wanted)
+}
+
+/// Whether a parcel that came from the first block ends no flight.
+fn is_no_answer(block: &mut Block, ways: &mut OneLetter) -> bool {
+    !settle(block, ways, 0) && ways.taken.is_none()
+}
+
+/// Whether it is taken or sent back, after which the block holds what is wanted.
+fn is_received(rt: &impl Abort, block: &mut Block, ways: &mut OneLetter, wanted: Edge) -> bool {
+    receive(block, ways, 0) && ways.taken.is_some() && holds(rt, block, wanted)
+}
+
+/// The second block's answer to a parcel from the first, where it says what is told.
+fn answer_to(
+    rt: &impl Abort,
+    block: &mut Block,
+    parcel: Option<Letter>,
+    meeting: &Meeting,
+) -> Option<Letter> {
+    let mut ways = OneLetter::with(parcel);
+    let is_right = is_no_answer(block, &mut ways)
+        && is_received(rt, block, &mut ways, meeting.met)
+        && said_to(&ways, 0) == Some(meeting.told);
+    if is_right { ways.put } else { None }
+}
+
+/// Whether an answer that came from the second block is no parcel to take.
+fn is_no_parcel(block: &mut Block, ways: &mut OneLetter) -> bool {
+    !receive(block, ways, 1) && ways.taken.is_none()
+}
+
+/// Whether it ends the first block's flight, after which that block holds what is wanted.
+fn ends_flight(rt: &impl Abort, block: &mut Block, answer: Option<Letter>, wanted: Edge) -> bool {
+    let mut ways = OneLetter::with(answer);
+    is_no_parcel(block, &mut ways)
+        && settle(block, &mut ways, 1)
+        && ways.taken.is_some()
+        && ways.put.is_none()
+        && holds(rt, block, wanted)
+}
+
+/// How a parcel from the label 1 meets the second block: whether that block's node rises first, what
+/// its answer says, what the second block then holds, and what the first block holds once the
+/// answer ended the flight.
 struct Meeting {
     rises: bool,
-    told: Option<u32>,
+    told: Content,
     met: Edge,
     ended: Edge,
 }
@@ -473,7 +446,7 @@ const MEETINGS: &[Meeting] = &[
     // known of the tail is 1.
     Meeting {
         rises: false,
-        told: None,
+        told: Content::Accepted(4),
         met: Edge {
             excess: 5,
             residual: 4,
@@ -488,62 +461,31 @@ const MEETINGS: &[Meeting] = &[
     // The label 1 is not below: the parcel is sent back, with the label that it met.
     Meeting {
         rises: true,
-        told: Some(1),
+        told: Content::Refused(4, 1, 1),
         met: Edge { label: 1, ..SECOND },
         ended: Edge { known: 1, ..FIRST },
     },
 ];
 
-/// The first block once it has sent its parcel and taken nothing, and the letter.
-fn sent_by_first(
-    rt: &(impl Abort + AllocGlobal),
-    block: Block,
-) -> Result<(Block, Option<Letter>), AllocError> {
-    let (block, parcel) = send_parcel(rt, block)?;
-    assert!(*rt; is_parcel(parcel));
-    let block = expect_nothing(rt, block, 1, SENT)?;
-    Ok((block, parcel))
+/// Whether the second block, to which nothing came, is as the meeting begins.
+fn is_ready(rt: &impl Abort, block: &mut Block, meeting: &Meeting) -> bool {
+    takes_nothing(rt, block, 0, SECOND) && (!meeting.rises || relabel(block, 0))
 }
 
-/// The second block's answer.
-fn answer_by_second(
-    rt: &(impl Abort + AllocGlobal),
-    block: Block,
-    parcel: Option<Letter>,
-    meeting: Meeting,
-) -> Result<Option<Letter>, AllocError> {
-    let mut block = expect_nothing(rt, block, 0, SECOND)?;
-    if meeting.rises {
-        assert!(*rt; relabel(&mut block, 0));
+/// Whether a parcel goes from the first block to the second, and the answer back.
+fn is_meeting(rt: &(impl Abort + AllocGlobal), meeting: &Meeting) -> bool {
+    let (mut first, mut second) = two_blocks(rt);
+    let parcel = send_parcel(rt, &mut first);
+    if !takes_nothing(rt, &mut first, 1, SENT) || !is_ready(rt, &mut second, meeting) {
+        return false;
     }
-    answer_to(rt, block, parcel, meeting.met)
-}
-
-/// Whether a letter is the answer to the parcel: it was taken, or sent back with the label told.
-fn is_answer(letter: Option<Letter>, told: Option<u32>) -> bool {
-    match told {
-        None => is_accepted(letter),
-        Some(label) => is_refused(letter, label),
-    }
-}
-
-/// A parcel goes from the first block to the second, and the answer back.
-fn expect_meeting(
-    rt: &(impl Abort + AllocGlobal),
-    meeting: Meeting,
-    place: usize,
-) -> Result<(), AllocError> {
-    let (first, second) = two_blocks(rt)?;
-    let (first, parcel) = sent_by_first(rt, first)?;
-    let answer = answer_by_second(rt, second, parcel, meeting)?;
-    expect(rt, "MEETINGS", place, is_answer(answer, meeting.told));
-    expect_ended(rt, first, answer, meeting.ended)
+    let answer = answer_to(rt, &mut second, parcel, meeting);
+    answer.is_some() && ends_flight(rt, &mut first, answer, meeting.ended)
 }
 
 #[test]
-fn parcels_are_taken_or_sent_back(rt: HostRuntime) -> Result<(), Fail> {
+fn parcels_are_taken_or_sent_back(rt: HostRuntime) {
     for (place, meeting) in MEETINGS.iter().enumerate() {
-        expect_meeting(&rt, *meeting, place)?;
+        expect(&rt, place, is_meeting(&rt, meeting));
     }
-    Ok(())
 }

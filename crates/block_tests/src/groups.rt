@@ -1,9 +1,7 @@
 //! Places grouped by the number that stands there.
-use crate::rows::expect;
+use crate::rows::{expect, hold, take_ok};
 use counting_sort::group;
-use std::alloc::{AllocError, Global};
 use std::process::Abort;
-use std::test::Fail;
 
 /// How many numbers, a list, and of its groups the starts and the places.
 type Case = (usize, &'static [u32], &'static [u32], &'static [u32]);
@@ -21,18 +19,17 @@ const CASES: &[Case] = &[
 ];
 
 /// Whether the groups of a list are those of its row.
-fn is_grouped(rt: &impl Abort, alloc: Global, case: &Case) -> Result<bool, AllocError> {
+fn is_grouped(rt: &(impl Abort + AllocGlobal), case: &Case) -> bool {
     let (numbers, list, starts, places) = case;
-    assert!(*rt; *numbers <= 5);
-    assert!(*rt; list.iter().all(|number| (*number as usize) < *numbers));
-    let groups = group(alloc, *numbers, list)?;
-    Ok(groups.starts.as_slice() == *starts && groups.places.as_slice() == *places)
+    hold(rt, *numbers <= 5);
+    hold(rt, list.iter().all(|number| (*number as usize) < *numbers));
+    let groups = take_ok(rt, group(rt.alloc(), *numbers, list));
+    groups.starts.as_slice() == *starts && groups.places.as_slice() == *places
 }
 
 #[test]
-fn groups_places(rt: HostRuntime) -> Result<(), Fail> {
+fn groups_places(rt: HostRuntime) {
     for (place, case) in CASES.iter().enumerate() {
-        expect(&rt, "CASES", place, is_grouped(&rt, rt.alloc(), case)?);
+        expect(&rt, place, is_grouped(&rt, case));
     }
-    Ok(())
 }

@@ -1,13 +1,11 @@
 //! Cuts by orders of nodes, against values from every cut.
-
 use crate::building::{Row, core_of, net_of};
-use crate::rows::expect_tried;
+use crate::rows::{expect_tried, take_ok};
 use flow_network::{Net, Solved, check_cut};
 use parcel::{Core, Direction, Event, State};
 use plain_cut::solve;
 use std::alloc::{AllocError, Global};
 use std::process::Abort;
-use std::test::Fail;
 
 /// What the source can send, what the nodes can send the sink, the arcs, and what is found by
 /// trying every cut: the value, and the sink side of the smallest least cut.
@@ -78,7 +76,7 @@ const STRIPES: Case = Case {
 };
 
 /// In how many blocks each net is run.
-const BLOCKS: &[usize] = &[1, 2, 3, 16];
+const BLOCKS: &[u32] = &[1, 2, 3, 16];
 
 /// Where the search for the next enabled event begins, in turn.
 const ORDERS: &[&[usize]] = &[
@@ -189,18 +187,28 @@ fn ends(
     rt: &(impl Abort + AllocGlobal),
     case: &Case,
     net: &Net,
-    blocks: usize,
+    blocks: u32,
     order: &[usize],
-) -> Result<bool, AllocError> {
-    let mut core = core_of(rt, net, blocks)?;
-    assert!(rt; blocks <= 16);
-    let events = events_of(rt.alloc(), net, blocks as u32)?;
-    let is_done = finish(&mut core, events.as_slice(), order);
-    Ok(is_done && core.apply(Event::RaiseAll).is_ok() && is_end(core.state(), case))
+) -> bool {
+    let mut core = core_of(rt, net, blocks as usize);
+    let events = take_ok(rt, events_of(rt.alloc(), net, blocks));
+    finish(&mut core, events.as_slice(), order)
+        && core.apply(Event::RaiseAll).is_ok()
+        && is_end(core.state(), case)
 }
 
 /// After how many events of an order the rest is left to the solver.
 const MIDDLES: &[usize] = &[1, 5, 12];
+
+/// The state in the middle of a run in so many blocks.
+fn middle_of(rt: &(impl Abort + AllocGlobal), net: &Net, blocks: u32, order: &[usize]) -> State {
+    let mut core = core_of(rt, net, blocks as usize);
+    let events = take_ok(rt, events_of(rt.alloc(), net, blocks));
+    for from in order {
+        step(&mut core, events.as_slice(), *from);
+    }
+    core.into_state()
+}
 
 /// The state taken apart and put together again; none where its pieces tell another amount that the
 /// sink got.
@@ -212,65 +220,54 @@ fn put_together(state: State) -> Option<State> {
     Some(pieces.into_state())
 }
 
-/// Whether the solver comes to what the case tells from the middle of a run in so many blocks.
-fn is_finished(
-    rt: &(impl Abort + AllocGlobal),
-    case: &Case,
-    net: &Net,
-    blocks: usize,
-    order: &[usize],
-) -> Result<bool, AllocError> {
-    let mut core = core_of(rt, net, blocks)?;
-    assert!(rt; blocks <= 16);
-    let events = events_of(rt.alloc(), net, blocks as u32)?;
-    for from in order {
-        step(&mut core, events.as_slice(), *from);
-    }
-    let Some(state) = put_together(core.into_state()) else {
-        return Ok(false);
+/// Whether the solver comes to what the case tells from the middle of a run.
+fn is_finished(rt: &(impl Abort + AllocGlobal), case: &Case, net: &Net, middle: State) -> bool {
+    let Some(state) = put_together(middle) else {
+        return false;
     };
-    let solved = discharge::finish(rt.alloc(), state)?;
-    Ok(check_cut(rt.alloc(), net, &solved)? && is_solved(&solved, case))
+    let solved = take_ok(rt, discharge::finish(rt.alloc(), state));
+    take_ok(rt, check_cut(rt.alloc(), net, &solved)) && is_solved(&solved, case)
 }
 
-/// The solver goes on from states in the middle of runs of a net, in so many blocks.
+/// The solver goes on from states in the middle of a run in so many blocks.
 fn expect_finished(
     rt: &(impl Abort + AllocGlobal),
     case: &Case,
     net: &Net,
-    blocks: usize,
-) -> Result<(), AllocError> {
-    for order in ORDERS {
-        for count in MIDDLES {
-            let begun = &order[..order.len().min(*count)];
-            let is_right = is_finished(rt, case, net, blocks, begun)?;
-            expect_tried(rt, case.name, "finished after", *count, is_right);
-        }
+    blocks: u32,
+    order: &[usize],
+) {
+    for count in MIDDLES {
+        let begun = &order[..order.len().min(*count)];
+        let is_right = is_finished(rt, case, net, middle_of(rt, net, blocks, begun));
+        expect_tried(rt, case.name, "finished after", *count, is_right);
     }
-    Ok(())
 }
 
-/// Each run of a net ends as the case tells, and so does the plain solver.
-fn expect_case(rt: &(impl Abort + AllocGlobal), case: &Case) -> Result<(), AllocError> {
-    let net = net_of(rt, case.sources, case.sinks, case.arcs)?;
-    let solved = solve(rt.alloc(), &net)?;
+/// Each run of a net in so many blocks ends as the case tells.
+fn expect_orders(rt: &(impl Abort + AllocGlobal), case: &Case, net: &Net, blocks: u32) {
+    for order in ORDERS {
+        expect_finished(rt, case, net, blocks, order);
+        let is_right = ends(rt, case, net, blocks, order);
+        expect_tried(rt, case.name, "run in blocks", blocks as usize, is_right);
+    }
+}
+
+/// Each run of a net does, and so does the plain solver.
+fn expect_case(rt: &(impl Abort + AllocGlobal), case: &Case) {
+    let net = net_of(rt, case.sources, case.sinks, case.arcs);
+    let solved = take_ok(rt, solve(rt.alloc(), &net));
     expect_tried(rt, case.name, "solved", 0, is_solved(&solved, case));
     for blocks in BLOCKS {
-        expect_finished(rt, case, &net, *blocks)?;
-        for order in ORDERS {
-            let is_right = ends(rt, case, &net, *blocks, order)?;
-            expect_tried(rt, case.name, "run in blocks", *blocks, is_right);
-        }
+        expect_orders(rt, case, &net, *blocks);
     }
-    Ok(())
 }
 
 /// Whatever order the events come in, and in however many blocks: one value and one sink side a
 /// net.
 #[test]
-fn core_orders(rt: HostRuntime) -> Result<(), Fail> {
-    for case in [&PAIR, &CHAIN, &STRIPES] {
-        expect_case(&rt, case)?;
-    }
-    Ok(())
+fn core_orders(rt: HostRuntime) {
+    expect_case(&rt, &PAIR);
+    expect_case(&rt, &CHAIN);
+    expect_case(&rt, &STRIPES);
 }

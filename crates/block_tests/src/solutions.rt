@@ -1,17 +1,14 @@
 //! Least cuts, by hand and from a script that tries every cut, of the plain solver and of that over
 //! blocks.
-use crate::building::{Row, net_of};
-use crate::rows::expect;
+use crate::building::{Row, core_of, net_of};
+use crate::rows::{expect, hold, take_ok};
 use crate::small_nets::{COUNT, NUMBERS};
-use block_net::{ARC_LIMIT, BLOCK_LIMIT};
 use discharge::finish;
 use flow_network::{Net, Solved, check_cut};
-use parcel::State;
 use plain_cut::{smallest_side, solve};
 use std::alloc::{AllocError, Global};
 use std::process::Abort;
 use std::slice::Iter;
-use std::test::Fail;
 
 /// What the source can send, what the nodes can send the sink, the arcs, the value of the least
 /// cut, and the smallest such cut as a number whose bit v is the node v.
@@ -73,66 +70,59 @@ const BLOCKS: &[usize] = &[2, 3, 256];
 /// The same for a net of a script.
 const FEW_BLOCKS: &[usize] = &[3];
 
-/// Whether an answer is certified, and has this value and this side.
-fn is_answer(
-    alloc: Global,
-    net: &Net,
-    solved: &Solved,
-    value: u64,
-    side: u32,
-) -> Result<bool, AllocError> {
-    Ok(
-        check_cut(alloc, net, solved)?
-            && solved.value == value
-            && bits_of(solved.sink_side.as_slice()) == side,
-    )
+/// A value and a side.
+type Answer = (u64, u32);
+
+/// Whether an answer is certified, and is what is wanted.
+fn is_answer(rt: &(impl Abort + AllocGlobal), net: &Net, solved: &Solved, wanted: Answer) -> bool {
+    take_ok(rt, check_cut(rt.alloc(), net, solved))
+        && solved.value == wanted.0
+        && bits_of(solved.sink_side.as_slice()) == wanted.1
 }
 
-/// The opening state of a net in so many blocks.
-fn state_of(
+/// Whether the solver over blocks ends in this answer, where it takes over a net that was opened in
+/// so many blocks.
+fn is_finished(rt: &(impl Abort + AllocGlobal), net: &Net, blocks: usize, wanted: Answer) -> bool {
+    let state = core_of(rt, net, blocks).into_state();
+    is_answer(rt, net, &take_ok(rt, finish(rt.alloc(), state)), wanted)
+}
+
+/// Whether it does so in each of these numbers of blocks.
+fn are_finished(
     rt: &(impl Abort + AllocGlobal),
     net: &Net,
-    blocks: usize,
-) -> Result<State, AllocError> {
-    assert!(rt; 1 <= blocks);
-    assert!(rt; blocks <= BLOCK_LIMIT);
-    assert!(rt; net.arcs().len() <= ARC_LIMIT);
-    State::open(rt.alloc(), net, blocks)
+    several: &[usize],
+    wanted: Answer,
+) -> bool {
+    for blocks in several {
+        if !is_finished(rt, net, *blocks, wanted) {
+            return false;
+        }
+    }
+    true
+}
+
+/// Whether the solver over nodes, and that over one block, ends in this answer.
+fn is_solved_whole(rt: &(impl Abort + AllocGlobal), net: &Net, wanted: Answer) -> bool {
+    let solved = take_ok(rt, solve(rt.alloc(), net));
+    let in_one_block = take_ok(rt, discharge::solve(rt.alloc(), net));
+    is_answer(rt, net, &solved, wanted) && is_answer(rt, net, &in_one_block, wanted)
 }
 
 /// Whether the net is solved by this value and the smallest least cut, in one block and in several
 /// too, and where the solver takes it over.
-fn is_solved(
-    rt: &(impl Abort + AllocGlobal),
-    net: Net,
-    several: &[usize],
-    value: u64,
-    side: u32,
-) -> Result<bool, AllocError> {
-    let alloc = rt.alloc();
-    for blocks in several {
-        let in_blocks = finish(alloc, state_of(rt, &net, *blocks)?)?;
-        if !is_answer(alloc, &net, &in_blocks, value, side)? {
-            return Ok(false);
-        }
-    }
-    let solved = solve(alloc, &net)?;
-    let in_one_block = discharge::solve(alloc, &net)?;
-    Ok(
-        is_answer(alloc, &net, &solved, value, side)?
-            && is_answer(alloc, &net, &in_one_block, value, side)?
-            && bits_of(smallest_side(alloc, net)?.as_slice()) == side,
-    )
+fn is_solved(rt: &(impl Abort + AllocGlobal), net: Net, several: &[usize], wanted: Answer) -> bool {
+    are_finished(rt, &net, several, wanted)
+        && is_solved_whole(rt, &net, wanted)
+        && bits_of(take_ok(rt, smallest_side(rt.alloc(), net)).as_slice()) == wanted.1
 }
 
 #[test]
-fn solves_nets_worked_by_hand(rt: HostRuntime) -> Result<(), Fail> {
-    for (place, (sources, sinks, rows, value, side)) in CASES.iter().enumerate() {
-        let net = net_of(&rt, sources, sinks, rows)?;
-        let is_right = is_solved(&rt, net, BLOCKS, *value, *side)?;
-        expect(&rt, "CASES", place, is_right);
+fn solves_nets_worked_by_hand(rt: HostRuntime) {
+    for (place, case) in CASES.iter().enumerate() {
+        let net = net_of(&rt, case.0, case.1, case.2);
+        expect(&rt, place, is_solved(&rt, net, BLOCKS, (case.3, case.4)));
     }
-    Ok(())
 }
 
 fn next_number(numbers: &mut Iter<'_, u32>) -> u32 {
@@ -170,27 +160,27 @@ fn next_rows(
 }
 
 /// The next net of the table.
-fn next_net(
-    rt: &(impl AllocGlobal + Abort),
-    numbers: &mut Iter<'_, u32>,
-) -> Result<Net, AllocError> {
+fn next_net(rt: &(impl AllocGlobal + Abort), numbers: &mut Iter<'_, u32>) -> Net {
     let nodes = next_number(numbers);
     let count = next_number(numbers);
-    let (sources, sinks) = next_ends(rt.alloc(), numbers, nodes)?;
-    let rows = next_rows(rt.alloc(), numbers, count)?;
+    let (sources, sinks) = take_ok(rt, next_ends(rt.alloc(), numbers, nodes));
+    let rows = take_ok(rt, next_rows(rt.alloc(), numbers, count));
     net_of(rt, sources.as_slice(), sinks.as_slice(), rows.as_slice())
 }
 
+/// Whether the next net of the table has the answer that follows it there.
+fn is_next_solved(rt: &(impl AllocGlobal + Abort), numbers: &mut Iter<'_, u32>) -> bool {
+    let net = next_net(rt, numbers);
+    let value = u64::from(next_number(numbers));
+    let side = next_number(numbers);
+    is_solved(rt, net, FEW_BLOCKS, (value, side))
+}
+
 #[test]
-fn solves_nets_with_cuts_from_brute_force(rt: HostRuntime) -> Result<(), Fail> {
+fn solves_nets_with_cuts_from_brute_force(rt: HostRuntime) {
     let mut numbers = NUMBERS.iter();
     for place in 0..COUNT {
-        let net = next_net(&rt, &mut numbers)?;
-        let value = u64::from(next_number(&mut numbers));
-        let side = next_number(&mut numbers);
-        let is_right = is_solved(&rt, net, FEW_BLOCKS, value, side)?;
-        expect(&rt, "NUMBERS", place, is_right);
+        expect(&rt, place, is_next_solved(&rt, &mut numbers));
     }
-    assert!(rt; numbers.next().is_none());
-    Ok(())
+    hold(&rt, numbers.next().is_none());
 }

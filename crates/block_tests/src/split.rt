@@ -1,12 +1,10 @@
 //! Nets split into blocks.
-
-use crate::building::net_of;
-use crate::rows::expect;
-use block_net::{ARC_LIMIT, BLOCK_LIMIT};
+use crate::building::{net_of, parts_of};
+use crate::rows::{expect, hold};
+use block_net::Border;
 use block_split::Parts;
-use std::alloc::AllocError;
+use parcel::Direction;
 use std::process::Abort;
-use std::test::Fail;
 
 /// A number of blocks, and of each block the number of its nodes and of its directions to other
 /// blocks.
@@ -21,12 +19,9 @@ const SIZES: &[Sizes] = &[
 ];
 
 /// The chain in so many blocks.
-fn chain_in(rt: &(impl Abort + AllocGlobal), blocks: usize) -> Result<Parts, AllocError> {
-    let net = net_of(rt, &[4, 0, 0, 0], &[0, 0, 1, 0], &[(0, 1, 4), (1, 2, 4)])?;
-    assert!(rt; 1 <= blocks);
-    assert!(rt; blocks <= BLOCK_LIMIT);
-    assert!(rt; net.arcs().len() <= ARC_LIMIT);
-    Parts::split(rt.alloc(), &net, blocks)
+fn chain_in(rt: &(impl Abort + AllocGlobal), blocks: usize) -> Parts {
+    let net = net_of(rt, &[4, 0, 0, 0], &[0, 0, 1, 0], &[(0, 1, 4), (1, 2, 4)]);
+    parts_of(rt, &net, blocks)
 }
 
 /// Whether the blocks have so many nodes and so many directions to other blocks.
@@ -43,24 +38,29 @@ fn are_sizes(parts: &Parts, nodes: &[usize], borders: &[usize]) -> bool {
 }
 
 #[test]
-fn a_chain_in_blocks(rt: HostRuntime) -> Result<(), Fail> {
-    for (blocks, nodes, borders) in SIZES {
-        let parts = chain_in(&rt, *blocks)?;
-        expect(&rt, "SIZES", *blocks, are_sizes(&parts, nodes, borders));
+fn a_chain_in_blocks(rt: HostRuntime) {
+    for (place, sizes) in SIZES.iter().enumerate() {
+        let parts = chain_in(&rt, sizes.0);
+        expect(&rt, place, are_sizes(&parts, sizes.1, sizes.2));
     }
-    Ok(())
+}
+
+/// Whether a direction is that back along the second arc, from the first node of its block to block
+/// 0, and carries nothing yet.
+fn is_way_back(border: &Border) -> bool {
+    border.direction == Direction { arc: 1, back: true }
+        && border.near == 0
+        && border.to == 0
+        && border.capacity == 4
+        && border.residual == 0
 }
 
 #[test]
-fn the_border_of_two_blocks(rt: HostRuntime) -> Result<(), Fail> {
-    let parts = chain_in(&rt, 2)?;
-    assert!(rt; parts.firsts.as_slice() == [0, 2].as_slice());
-    assert!(rt; parts.blocks.len() == 2);
+fn the_border_of_two_blocks(rt: HostRuntime) {
+    let parts = chain_in(&rt, 2);
+    hold(&rt, parts.firsts.as_slice() == [0, 2].as_slice());
+    hold(&rt, parts.blocks.len() == 2);
     let block = &parts.blocks[1];
-    assert!(rt; block.borders() == 1 && block.top() == 6);
-    let border = block.border(0);
-    assert!(rt; border.direction.arc == 1 && border.direction.back);
-    assert!(rt; border.near == 0 && border.to == 0);
-    assert!(rt; border.capacity == 4 && border.residual == 0);
-    Ok(())
+    hold(&rt, block.borders() == 1 && block.top() == 6);
+    hold(&rt, is_way_back(&block.border(0)));
 }
