@@ -1,50 +1,51 @@
 //! One round, and rounds of many options before the solver goes on.
-ghost use Rattle.block_events.specs.Events.{IsQuiet};
-ghost use Rattle.worker_options.specs.Ranges.{AreInRange};
-
-use crate::building::state_raised;
+use crate::building::{state_opened, state_raised};
 use crate::gates::Open;
 use crate::picture::net_of_move;
+use crate::rows::{expect, hold, take_ok};
+use crate::solving::is_wanted;
 use block_state::State;
 use cut_in_blocks::finish;
-use flow_network::{Net, Solved, check_cut};
+use flow_network::{Net, Solved};
 use plain_cut::solve;
-use rounds::{RoundError, run_round};
-use std::alloc::AllocError;
+use rounds::run_round;
 use std::process::Abort;
 use std::sync::Wait;
-use std::test::Fail;
 use std::thread::Threads;
 use worker_options::{Gate, Options};
 
-/// The state after a round from a quiet state in as many blocks as the options say.
+/// A state after a round over these options, which have to be in their ranges and tell as many
+/// blocks as it has.
 fn round_from<R: Threads + Wait + Abort + AllocGlobal + Sync, G: Gate>(
     rt: &R,
     state: State,
     options: &Options,
     gate: &G,
-) -> Result<State, AllocError>
-    requires quiet { IsQuiet state }
-    requires options { AreInRange options.now }
-{
-    match run_round(rt, rt.alloc(), state, options, gate) {
-        Ok(after) => Ok(after),
-        Err(RoundError::OutOfMemory) => Err(AllocError),
-        Err(RoundError::Workers) => rt.abort(),
-    }
+) -> State {
+    hold(rt, options.check().is_ok());
+    hold(rt, state.is_quiet());
+    take_ok(rt, run_round(rt, rt.alloc(), state, options, gate))
 }
 
-/// The state of a net after a round over these options, which have to be in their ranges. It begins
-/// with exact labels.
+/// The state of a net after a round over these options. It begins with exact labels.
 pub fn round<R: Threads + Wait + Abort + AllocGlobal + Sync, G: Gate>(
     rt: &R,
     net: &Net,
     options: &Options,
     gate: &G,
-) -> Result<State, AllocError> {
-    assert!(*rt; options.check().is_ok());
-    let state = state_raised(rt, net, options.blocks as usize)?;
-    assert!(*rt; state.is_quiet());
+) -> State {
+    let state = state_raised(rt, net, options.blocks as usize);
+    round_from(rt, state, options, gate)
+}
+
+/// And after a round that begins with all labels 0.
+pub fn round_from_zero<R: Threads + Wait + Abort + AllocGlobal + Sync, G: Gate>(
+    rt: &R,
+    net: &Net,
+    options: &Options,
+    gate: &G,
+) -> State {
+    let state = state_opened(rt, net, options.blocks as usize);
     round_from(rt, state, options, gate)
 }
 
@@ -73,24 +74,22 @@ fn is_right<R: Threads + Wait + Abort + AllocGlobal + Sync>(
     net: &Net,
     wanted: &Solved,
     options: &Options,
-) -> Result<bool, AllocError> {
-    let state = round(rt, net, options, &Open)?;
-    let solved = finish(rt.alloc(), state)?;
-    Ok(
-        check_cut(rt.alloc(), net, &solved)?
-            && solved.value == wanted.value
-            && solved.sink_side.as_slice() == wanted.sink_side.as_slice(),
-    )
+) -> bool {
+    let state = round(rt, net, options, &Open);
+    let solved = take_ok(rt, finish(rt.alloc(), state));
+    is_wanted(rt, net, &solved, wanted)
 }
 
 /// 200 rounds over the net of a move.
 #[test]
-fn rounds_end_alike(rt: HostRuntime) -> Result<(), Fail> {
-    let net = net_of_move(&rt)?;
-    let wanted = solve(rt.alloc(), &net)?;
+fn rounds_end_alike(rt: HostRuntime) {
+    let net = net_of_move(&rt);
+    let wanted = take_ok(&rt, solve(rt.alloc(), &net));
     for number in 0..200 {
-        let options = options_of(number);
-        assert!(rt; is_right(&rt, &net, &wanted, &options)?);
+        expect(
+            &rt,
+            number,
+            is_right(&rt, &net, &wanted, &options_of(number)),
+        );
     }
-    Ok(())
 }

@@ -6,15 +6,13 @@ use crate::building::{
 use crate::gates::Open;
 use crate::overlap::TWO;
 use crate::picture::{large_net_of_move, net_of_move};
-use crate::rows::expect;
+use crate::rows::{expect, hold, take_ok};
 use block_state::State;
 use flow_network::Net;
 use global_relabel::distances;
 use rounds::distances_by_blocks;
-use std::alloc::AllocError;
 use std::process::Abort;
 use std::sync::Wait;
-use std::test::Fail;
 use std::thread::Threads;
 use worker_options::Options;
 
@@ -23,12 +21,12 @@ fn is_plain<R: Threads + Abort + AllocGlobal + Sync>(
     rt: &R,
     state: &State,
     threads: usize,
-) -> Result<bool, AllocError> {
-    assert!(*rt; threads > 0);
-    let wanted = distances(rt.alloc(), state)?;
-    match distances_by_blocks(rt, rt.alloc(), state, threads)? {
-        Some(labels) => Ok(labels.as_slice() == wanted.as_slice()),
-        None => Ok(false),
+) -> bool {
+    hold(rt, threads > 0);
+    let wanted = take_ok(rt, distances(rt.alloc(), state));
+    match take_ok(rt, distances_by_blocks(rt, rt.alloc(), state, threads)) {
+        Some(labels) => labels.as_slice() == wanted.as_slice(),
+        None => false,
     }
 }
 
@@ -38,8 +36,8 @@ fn is_plain_at_opening<R: Threads + Abort + AllocGlobal + Sync>(
     net: &Net,
     blocks: u32,
     threads: usize,
-) -> Result<bool, AllocError> {
-    let state = state_raised(rt, net, blocks as usize)?;
+) -> bool {
+    let state = state_raised(rt, net, blocks as usize);
     is_plain(rt, &state, threads)
 }
 
@@ -49,13 +47,13 @@ fn is_plain_after_round<R: Threads + Wait + Abort + AllocGlobal + Sync>(
     net: &Net,
     blocks: u32,
     threads: usize,
-) -> Result<bool, AllocError> {
+) -> bool {
     let options = Options {
         blocks,
         turns: 16,
         ..TWO
     };
-    let state = round(rt, net, &options, &Open)?;
+    let state = round(rt, net, &options, &Open);
     is_plain(rt, &state, threads)
 }
 
@@ -63,53 +61,33 @@ const BLOCKS: &[u32] = &[1, 2, 3, 7, 16, 64];
 
 /// In states of the net at the opening and after a round, in few and many blocks, the labels that
 /// blocks find by 1 to 8 threads are those of the search on one.
-fn expect_plain<R: Threads + Wait + Abort + AllocGlobal + Sync>(
-    rt: &R,
-    net: &Net,
-) -> Result<(), AllocError> {
-    for place in 0..BLOCKS.len() {
-        let blocks = BLOCKS[place];
-        let is_right = is_plain_at_opening(rt, net, blocks, 1 + place % 8)?;
-        expect(rt, "at the opening", place, is_right);
-        let is_right = is_plain_after_round(rt, net, blocks, 8 - place % 8)?;
-        expect(rt, "after a round", place, is_right);
+fn expect_plain<R: Threads + Wait + Abort + AllocGlobal + Sync>(rt: &R, net: &Net) {
+    for (place, blocks) in BLOCKS.iter().enumerate() {
+        let is_right = is_plain_at_opening(rt, net, *blocks, 1 + place % 8)
+            && is_plain_after_round(rt, net, *blocks, 8 - place % 8);
+        expect(rt, place, is_right);
     }
-    Ok(())
-}
-
-/// The same of a net that was just made.
-fn expect_plain_of<R: Threads + Wait + Abort + AllocGlobal + Sync>(
-    rt: &R,
-    net: Result<Net, AllocError>,
-) -> Result<(), AllocError> {
-    let net = net?;
-    expect_plain(rt, &net)
 }
 
 #[test]
-fn blocks_find_exact_labels(rt: HostRuntime) -> Result<(), Fail> {
-    expect_plain_of(&rt, two_nodes(&rt))?;
-    expect_plain_of(&rt, idle_nodes(&rt))?;
-    expect_plain_of(&rt, fan(&rt))?;
-    expect_plain_of(&rt, between_two(&rt))?;
-    expect_plain_of(&rt, two_ways(&rt))?;
-    Ok(())
+fn blocks_find_exact_labels(rt: HostRuntime) {
+    expect_plain(&rt, &two_nodes(&rt));
+    expect_plain(&rt, &idle_nodes(&rt));
+    expect_plain(&rt, &fan(&rt));
+    expect_plain(&rt, &between_two(&rt));
+    expect_plain(&rt, &two_ways(&rt));
 }
 
 #[test]
-fn blocks_of_moves_find_exact_labels(rt: HostRuntime) -> Result<(), Fail> {
-    expect_plain(&rt, &net_of_move(&rt)?)?;
-    expect_plain(&rt, &large_net_of_move(&rt)?)?;
-    Ok(())
+fn blocks_of_moves_find_exact_labels(rt: HostRuntime) {
+    expect_plain(&rt, &net_of_move(&rt));
+    expect_plain(&rt, &large_net_of_move(&rt));
 }
 
 /// The labels that two blocks of a way find by two threads.
-fn labels_of_way<R: Threads + Abort + AllocGlobal + Sync>(
-    rt: &R,
-    net: &Net,
-) -> Result<Option<Vec<u32>>, AllocError> {
-    let state = state_raised(rt, net, 2)?;
-    distances_by_blocks(rt, rt.alloc(), &state, 2)
+fn labels_of_way<R: Threads + Abort + AllocGlobal + Sync>(rt: &R, net: &Net) -> Option<Vec<u32>> {
+    let state = state_raised(rt, net, 2);
+    take_ok(rt, distances_by_blocks(rt, rt.alloc(), &state, 2))
 }
 
 /// Whether the labels are those of a way over 64 nodes that goes from block to block at each step:
@@ -129,22 +107,16 @@ fn are_of_short_way(labels: &[u32]) -> bool {
 }
 
 /// Whether blocks find the labels of a short way.
-fn finds_short_way<R: Threads + Abort + AllocGlobal + Sync>(rt: &R) -> Result<bool, AllocError> {
-    match labels_of_way(rt, &short_way(rt)?)? {
-        Some(labels) => Ok(are_of_short_way(&labels)),
-        None => Ok(false),
+fn finds_short_way<R: Threads + Abort + AllocGlobal + Sync>(rt: &R) -> bool {
+    match labels_of_way(rt, &short_way(rt)) {
+        Some(labels) => are_of_short_way(&labels),
+        None => false,
     }
 }
 
-/// Whether a way of 4,096 nodes is left to one thread.
-fn leaves_long_way<R: Threads + Abort + AllocGlobal + Sync>(rt: &R) -> Result<bool, AllocError> {
-    let net = long_way(rt)?;
-    Ok(labels_of_way(rt, &net)?.is_none())
-}
-
+/// A way of 4,096 nodes is left to one thread.
 #[test]
-fn ways_over_the_border(rt: HostRuntime) -> Result<(), Fail> {
-    assert!(rt; finds_short_way(&rt)?);
-    assert!(rt; leaves_long_way(&rt)?);
-    Ok(())
+fn ways_over_the_border(rt: HostRuntime) {
+    hold(&rt, finds_short_way(&rt));
+    hold(&rt, labels_of_way(&rt, &long_way(&rt)).is_none());
 }

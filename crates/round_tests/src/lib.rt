@@ -1,9 +1,8 @@
-//! Tests of what workers are told, share and do: the ranges of their options, a book from which two
-//! threads draw, a ring between two threads, and two blocks at one worker and at two. And of rounds
-//! of running workers: that their turns overlap, that a round goes on while work and turns are
-//! left, which block has a turn when, and that after rounds of any options the solver over blocks
-//! finds the one answer. The same of the solver that makes the rounds itself, and how many it
-//! makes. And that a second thread is started where several are to share the work.
+//! Tests of what workers do: a ring between two threads, and rounds of running workers: that their
+//! turns overlap, that a round goes on while work and turns are left, which block has a turn when,
+//! and that after rounds of any options the solver over blocks finds the one answer. The same of the
+//! solver that makes the rounds itself, and how many it makes. And that a second thread is started
+//! where several are to share the work.
 #![tactic(auto)]
 
 #[cfg(test)]
@@ -15,10 +14,6 @@ mod calls;
 #[cfg(test)]
 mod counting;
 #[cfg(test)]
-mod crews;
-#[cfg(test)]
-mod drawing;
-#[cfg(test)]
 mod gates;
 #[cfg(test)]
 mod labels;
@@ -26,8 +21,6 @@ mod labels;
 mod overlap;
 #[cfg(test)]
 mod picture;
-#[cfg(test)]
-mod ranges;
 #[cfg(test)]
 mod rings;
 #[cfg(test)]

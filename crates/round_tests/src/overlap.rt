@@ -3,11 +3,11 @@
 use crate::alike::round;
 use crate::building::{idle_nodes, long_way, two_nodes};
 use crate::gates::{Alternate, Closed, Held, Overlap};
+use crate::rows::{hold, take_ok};
 use block_state::State;
-use std::alloc::{AllocError, Global};
+use global_relabel::distances;
 use std::process::Abort;
 use std::sync::Wait;
-use std::test::Fail;
 use std::thread::Threads;
 use worker_options::{Gate, Options};
 
@@ -23,12 +23,10 @@ pub const TWO: Options = Options {
 /// Each block is held at its turns 0 and 1 until the other has called for the same turn: all four
 /// calls meet, which they do not where one worker works after the other.
 #[test]
-fn gate_overlap(rt: HostRuntime) -> Result<(), Fail> {
-    let net = two_nodes(&rt)?;
+fn gate_overlap(rt: HostRuntime) {
     let gate = Overlap::new();
-    round(&rt, &net, &TWO, &gate)?;
-    assert!(rt; gate.met() == 4);
-    Ok(())
+    let _after = round(&rt, &two_nodes(&rt), &TWO, &gate);
+    hold(&rt, gate.met() == 4);
 }
 
 /// Whether no node with such a label below the highest has excess.
@@ -43,12 +41,9 @@ fn are_at_rest(state: &State, labels: &[u32]) -> bool {
 }
 
 /// Whether no message is on the way, and no node whose distance to the sink is known has excess.
-fn is_finished(alloc: Global, state: &State) -> Result<bool, AllocError> {
-    if !state.is_quiet() {
-        return Ok(false);
-    }
-    let labels = global_relabel::distances(alloc, state)?;
-    Ok(are_at_rest(state, labels.as_slice()))
+fn is_finished(rt: &(impl Abort + AllocGlobal), state: &State) -> bool {
+    let labels = take_ok(rt, distances(rt.alloc(), state));
+    state.is_quiet() && are_at_rest(state, labels.as_slice())
 }
 
 /// Options with turns enough for the long way.
@@ -58,23 +53,18 @@ pub const LONG: Options = Options {
 };
 
 /// Whether the state after a round over the long way is finished, and the sink has its unit.
-fn is_drained<R: Threads + Wait + Abort + AllocGlobal + Sync, G: Gate>(
-    rt: &R,
-    gate: &G,
-) -> Result<bool, AllocError> {
-    let net = long_way(rt)?;
-    let state = round(rt, &net, &LONG, gate)?;
-    Ok(is_finished(rt.alloc(), &state)? && state.got() == 1)
+fn is_drained<R: Threads + Wait + Abort + AllocGlobal + Sync, G: Gate>(rt: &R, gate: &G) -> bool {
+    let state = round(rt, &long_way(rt), &LONG, gate);
+    is_finished(rt, &state) && state.got() == 1
 }
 
 /// A unit of flow crosses the border of two blocks 4,095 times, once a turn at most: the round goes
 /// on until the sink has it, and does not leave it to what comes after the round.
 #[test]
-fn round_drains(rt: HostRuntime) -> Result<(), Fail> {
+fn round_drains(rt: HostRuntime) {
     let gate = Alternate::new();
-    assert!(rt; is_drained(&rt, &gate)?);
-    assert!(rt; gate.went_far());
-    Ok(())
+    hold(&rt, is_drained(&rt, &gate));
+    hold(&rt, gate.went_far());
 }
 
 /// One thread, with the other options as for two.
@@ -83,20 +73,16 @@ pub const ONE: Options = Options { threads: 1, ..TWO };
 /// A block with nothing to do has one turn after another as long as another is marked busy, which
 /// block 0 is until its turn 0 is over.
 #[test]
-fn idle_block_waits(rt: HostRuntime) -> Result<(), Fail> {
-    let net = idle_nodes(&rt)?;
+fn idle_block_waits(rt: HostRuntime) {
     let gate = Held::new();
-    round(&rt, &net, &TWO, &gate)?;
-    assert!(rt; gate.met());
-    Ok(())
+    let _after = round(&rt, &idle_nodes(&rt), &TWO, &gate);
+    hold(&rt, gate.met());
 }
 
 /// Where no block is busy, none has a turn beside its turn 0.
 #[test]
-fn idle_blocks_end(rt: HostRuntime) -> Result<(), Fail> {
-    let net = idle_nodes(&rt)?;
+fn idle_blocks_end(rt: HostRuntime) {
     let gate = Closed::new();
-    round(&rt, &net, &ONE, &gate)?;
-    assert!(rt; gate.calls() == 2);
-    Ok(())
+    let _after = round(&rt, &idle_nodes(&rt), &ONE, &gate);
+    hold(&rt, gate.calls() == 2);
 }

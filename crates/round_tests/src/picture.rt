@@ -1,13 +1,13 @@
 //! The net of one expansion on a noisy picture.
 ghost use Rattle.std.specs.Prelude.{◌<◌};
 
+use crate::rows::take_ok;
 use compile_cut::compile;
 use flow_network::Net;
 use pseudo_bool::{Energy, EnergyError};
 use regular::check;
-use std::alloc::{AllocError, Global};
+use std::alloc::Global;
 use std::process::Abort;
-use std::test::Fail;
 
 /// How many sites each row and each column of a small picture has.
 const SIDE: u32 = 16;
@@ -65,21 +65,20 @@ fn energy_of_side(alloc: Global, side: u32) -> Result<Energy, EnergyError> {
     Ok(energy)
 }
 
-/// The net of an energy.
-fn net_of_energy(rt: &(impl Abort + AllocGlobal), energy: &Energy) -> Result<Net, AllocError> {
-    let regular = check(energy).expect(rt, "regular");
-    let compiled = compile(rt.alloc(), regular)?;
-    Ok(compiled.net)
+/// The net of such a move.
+fn net_of_side(rt: &(impl Abort + AllocGlobal), side: u32) -> Net {
+    let energy = take_ok(rt, energy_of_side(rt.alloc(), side));
+    let regular = take_ok(rt, check(&energy));
+    let compiled = take_ok(rt, compile(rt.alloc(), regular));
+    compiled.net
 }
 
-/// The net of such a move of a small picture.
-pub fn net_of_move(rt: &(impl Abort + AllocGlobal)) -> Result<Net, Fail> {
-    let energy = energy_of_side(rt.alloc(), SIDE)?;
-    Ok(net_of_energy(rt, &energy)?)
+/// The net of the move of a small picture.
+pub fn net_of_move(rt: &(impl Abort + AllocGlobal)) -> Net {
+    net_of_side(rt, SIDE)
 }
 
 /// And of a large one.
-pub fn large_net_of_move(rt: &(impl Abort + AllocGlobal)) -> Result<Net, Fail> {
-    let energy = energy_of_side(rt.alloc(), LARGE_SIDE)?;
-    Ok(net_of_energy(rt, &energy)?)
+pub fn large_net_of_move(rt: &(impl Abort + AllocGlobal)) -> Net {
+    net_of_side(rt, LARGE_SIDE)
 }

@@ -3,13 +3,12 @@ ghost use Rattle.std.specs.Prelude.{◌≤◌};
 ghost use Rattle.block_events.specs.Workers.{IsFair};
 ghost use Rattle.block_workers.specs.Ports.{IsSamePort};
 
+use crate::rows::{hold, take_ok};
 use block_discharge::Letter;
 use block_events::{Direction, Message};
 use block_workers::{Port, join_blocks, take_left};
-use std::alloc::{AllocError, Global};
 use std::process::Abort;
 use std::sync::Wait;
-use std::test::Fail;
 use std::thread;
 use std::thread::Threads;
 
@@ -98,9 +97,9 @@ fn are_last(left: &[Letter]) -> bool {
 
 /// Two threads, one of which puts what the other takes: each message comes once and in order, and
 /// those that were not taken are left in the ring.
-fn exchange<R: Threads + Wait + Abort + Sync>(rt: &R, alloc: Global) -> Result<(), AllocError> {
-    let (first, second) = join_blocks(alloc, 0, 1, RING)?;
-    let mut left = Vec::with_capacity(alloc, RING)?;
+fn exchange<R: Threads + Wait + Abort + AllocGlobal + Sync>(rt: &R) -> bool {
+    let (first, second) = take_ok(rt, join_blocks(rt.alloc(), 0, 1, RING));
+    let mut left = take_ok(rt, Vec::with_capacity(rt.alloc(), RING));
     let (first, (second, in_order)) = thread::join(
         rt,
         move || put_all(rt, first),
@@ -109,12 +108,10 @@ fn exchange<R: Threads + Wait + Abort + Sync>(rt: &R, alloc: Global) -> Result<(
     let mut first = first;
     let mut second = second;
     take_left(&mut first, &mut second, &mut left);
-    assert!(*rt; in_order && are_last(left.as_slice()));
-    Ok(())
+    in_order && are_last(left.as_slice())
 }
 
 #[test]
-fn ring_in_order(rt: HostRuntime) -> Result<(), Fail> {
-    exchange(&rt, rt.alloc())?;
-    Ok(())
+fn ring_in_order(rt: HostRuntime) {
+    hold(&rt, exchange(&rt));
 }

@@ -1,7 +1,8 @@
 //! A second thread is started for parts of work, and for what blocks do side by side: a search,
 //! their opening and the first pushes.
-use crate::building::{chain, full_chain, state_raised};
+use crate::building::{chain, full_chain, state_opened, state_raised};
 use crate::gates::Calls;
+use crate::rows::{expect, hold, take_ok};
 use block_net::ARC_LIMIT;
 use block_state::State;
 use cut_in_blocks::push_first;
@@ -14,7 +15,6 @@ use std::process::Abort;
 use std::rt::Files;
 use std::sync::Wait;
 use std::sync::atomic::{AtomicBool, Ordering};
-use std::test::Fail;
 use std::thread::Threads;
 use std::{fs, thread};
 
@@ -32,19 +32,17 @@ fn answer_of(alloc: Global, calls: &Calls, part: usize) -> Result<Vec<u8>, Alloc
 
 /// Each of two parts waits for the other, and meets it, since two threads do them side by side.
 #[test]
-fn parts_meet(rt: HostRuntime) -> Result<(), Fail> {
+fn parts_meet(rt: HostRuntime) {
     let alloc = rt.alloc();
     let calls = Calls::new();
     let fork = ByThreads {
         rt: &rt,
         threads: 2,
     };
-    let answers = fork.do_parts(alloc, 2, &|part| answer_of(alloc, &calls, part))?;
-    assert!(rt; answers.len() == 2);
-    for answer in answers {
-        assert!(rt; answer?.as_slice() == [1].as_slice());
+    let answers = fork.do_parts(alloc, 2, &|part| answer_of(alloc, &calls, part));
+    for (part, answer) in take_ok(&rt, answers).into_iter().enumerate() {
+        expect(&rt, part, take_ok(&rt, answer).as_slice() == [1].as_slice());
     }
-    Ok(())
 }
 
 /// How many threads the process has, as the system tells it: 0 where it does not.
@@ -77,40 +75,45 @@ fn watch<R: Files + AllocGlobal>(rt: &R, done: &AtomicBool, seen: &AtomicBool) {
     }
 }
 
-/// Whether so many threads find the labels of the chain: each node is a step further from the sink
-/// than the next, and the last gives it.
+/// Whether the labels are those of the chain: each node is a step further from the sink than the
+/// next, and the last gives it.
+fn are_of_chain(labels: &[u32]) -> bool {
+    for (node, label) in labels.iter().enumerate() {
+        if node.wrapping_add(*label as usize) != 65_536 {
+            return false;
+        }
+    }
+    labels.len() == 65_536
+}
+
+/// Whether so many threads find the labels of the chain.
 fn finds_chain<R: Threads + Sync + Abort + AllocGlobal>(
     rt: &R,
     state: &State,
     threads: usize,
-) -> Result<bool, AllocError> {
-    assert!(*rt; threads > 0);
-    let mut search = LabelSearch::reserve(rt.alloc(), state, threads)?;
+) -> bool {
+    hold(rt, threads > 0);
+    let mut search = take_ok(rt, LabelSearch::reserve(rt.alloc(), state, threads));
     search.find(rt, state, threads);
-    let labels = search.into_workspace().labels;
-    for (node, label) in labels.iter().enumerate() {
-        if node.wrapping_add(*label as usize) != 65_536 {
-            return Ok(false);
+    are_of_chain(&search.into_workspace().labels)
+}
+
+/// Whether each node has a unit.
+fn have_units(state: &State) -> bool {
+    for node in 0..state.nodes() {
+        if state.excess(node) != 1 {
+            return false;
         }
     }
-    Ok(labels.len() == 65_536)
+    true
 }
 
 /// Whether so many threads open the full chain in two blocks: each node has its unit.
-fn opens_chain<R: Threads + Sync + Abort + AllocGlobal>(
-    rt: &R,
-    net: &Net,
-    threads: usize,
-) -> Result<bool, AllocError> {
-    assert!(*rt; threads > 0);
-    assert!(*rt; net.arcs().len() <= ARC_LIMIT);
-    let state = State::open_by(rt, rt.alloc(), net, 2, threads)?;
-    for node in 0..state.nodes() {
-        if state.excess(node) != 1 {
-            return Ok(false);
-        }
-    }
-    Ok(true)
+fn opens_chain<R: Threads + Sync + Abort + AllocGlobal>(rt: &R, net: &Net, threads: usize) -> bool {
+    hold(rt, threads > 0);
+    hold(rt, net.arcs().len() <= ARC_LIMIT);
+    let state = take_ok(rt, State::open_by(rt, rt.alloc(), net, 2, threads));
+    have_units(&state)
 }
 
 /// How often the first pushes are made on a net that was opened.
@@ -122,15 +125,13 @@ fn pushes_chain<R: Threads + Sync + Abort + AllocGlobal>(
     rt: &R,
     net: &Net,
     threads: usize,
-) -> Result<bool, AllocError> {
-    assert!(*rt; threads > 0);
-    assert!(*rt; net.arcs().len() <= ARC_LIMIT);
-    let state = State::open(rt.alloc(), net, 2)?;
-    let mut state = push_first(rt, state, threads);
-    for _ in 1..PUSHES {
+) -> bool {
+    hold(rt, threads > 0);
+    let mut state = state_opened(rt, net, 2);
+    for _ in 0..PUSHES {
         state = push_first(rt, state, threads);
     }
-    Ok(state.got() == 1)
+    state.got() == 1
 }
 
 /// What several threads do side by side.
@@ -142,20 +143,13 @@ enum Work<'a> {
 }
 
 /// Whether so many threads do the work right.
-fn does_work<R: Threads + Sync + Abort + AllocGlobal>(
-    rt: &R,
-    work: Work,
-    threads: usize,
-) -> Result<bool, AllocError> {
+fn does_work<R: Threads + Sync + Abort + AllocGlobal>(rt: &R, work: Work, threads: usize) -> bool {
     match work {
         Work::Search { state } => finds_chain(rt, state, threads),
         Work::Open { net } => opens_chain(rt, net, threads),
         Work::Push { net } => pushes_chain(rt, net, threads),
     }
 }
-
-/// How often the work is done until a further thread is seen.
-const TRIES: u32 = 1_000;
 
 /// Does the work until a further thread was seen, at most so many times. Whether it was right each
 /// time.
@@ -165,16 +159,16 @@ fn work_until<R: Threads + Sync + Abort + AllocGlobal>(
     threads: usize,
     tries: u32,
     seen: &AtomicBool,
-) -> Result<bool, AllocError> {
+) -> bool {
     for _ in 0..tries {
-        if !does_work(rt, work, threads)? {
-            return Ok(false);
+        if !does_work(rt, work, threads) {
+            return false;
         }
         if seen.load(Ordering::SeqCst) {
-            return Ok(true);
+            return true;
         }
     }
-    Ok(true)
+    true
 }
 
 /// Whether so many threads do the work right, and whether a further one was seen.
@@ -183,7 +177,7 @@ fn watch_work<R: Threads + Wait + Sync + Files + Abort + AllocGlobal>(
     work: Work,
     threads: usize,
     tries: u32,
-) -> Result<(bool, bool), AllocError> {
+) -> (bool, bool) {
     let done = AtomicBool::new(false);
     let seen = AtomicBool::new(false);
     let (is_right, _) = thread::join(
@@ -195,36 +189,31 @@ fn watch_work<R: Threads + Wait + Sync + Files + Abort + AllocGlobal>(
         },
         || watch(rt, &done, &seen),
     );
-    Ok((is_right?, seen.load(Ordering::SeqCst)))
+    (is_right, seen.load(Ordering::SeqCst))
+}
+
+/// Whether two threads do the work side by side, at most 1,000 times, and one thread does it alone.
+fn is_shared<R: Threads + Wait + Sync + Files + Abort + AllocGlobal>(rt: &R, work: Work) -> bool {
+    watch_work(rt, work, 2, 1_000) == (true, true) && watch_work(rt, work, 1, 20) == (true, false)
 }
 
 /// Of 65,536 nodes two threads search the labels by blocks, and one thread searches them alone.
 #[test]
-fn blocks_search_side_by_side(rt: HostRuntime) -> Result<(), Fail> {
-    let net = chain(&rt)?;
-    let state = state_raised(&rt, &net, 2)?;
-    let work = Work::Search { state: &state };
-    assert!(rt; watch_work(&rt, work, 2, TRIES)? == (true, true));
-    assert!(rt; watch_work(&rt, work, 1, 20)? == (true, false));
-    Ok(())
+fn blocks_search_side_by_side(rt: HostRuntime) {
+    let state = state_raised(&rt, &chain(&rt), 2);
+    hold(&rt, is_shared(&rt, Work::Search { state: &state }));
 }
 
 /// Two threads open such a net in blocks, and one thread opens it alone.
 #[test]
-fn blocks_open_side_by_side(rt: HostRuntime) -> Result<(), Fail> {
-    let net = full_chain(&rt)?;
-    let work = Work::Open { net: &net };
-    assert!(rt; watch_work(&rt, work, 2, TRIES)? == (true, true));
-    assert!(rt; watch_work(&rt, work, 1, 20)? == (true, false));
-    Ok(())
+fn blocks_open_side_by_side(rt: HostRuntime) {
+    let net = full_chain(&rt);
+    hold(&rt, is_shared(&rt, Work::Open { net: &net }));
 }
 
 /// Two threads make the first pushes within blocks, and one thread makes them alone.
 #[test]
-fn blocks_push_side_by_side(rt: HostRuntime) -> Result<(), Fail> {
-    let net = full_chain(&rt)?;
-    let work = Work::Push { net: &net };
-    assert!(rt; watch_work(&rt, work, 2, TRIES)? == (true, true));
-    assert!(rt; watch_work(&rt, work, 1, 20)? == (true, false));
-    Ok(())
+fn blocks_push_side_by_side(rt: HostRuntime) {
+    let net = full_chain(&rt);
+    hold(&rt, is_shared(&rt, Work::Push { net: &net }));
 }
