@@ -7,9 +7,16 @@ import tempfile
 import time
 from pathlib import Path
 
+DOWN, UP, PAUSE = {"type": "pointerDown", "button": 0}, {"type": "pointerUp", "button": 0}, {"type": "pause"}
+
+# The errors of Firefox's console, which is emptied. An even flag is an error, an odd one a warning.
+COMPLAINTS = """const told = Services.console.getMessageArray(); Services.console.reset();
+  return told.filter((it) => it instanceof Ci.nsIScriptError && it.flags % 2 === 0 && /^(file|blob):/.test(it.sourceName))
+    .map((it) => it.errorMessage)"""
+
 
 class Browser:
-    """What both can do: run scripts in the page, choose files, take screenshots."""
+    """Beside these, both can `open`, `run`, `click`, `choose_files`, `drag`, `touch`, `keys`, `size`, `shot`."""
 
     def wait(self, script, seconds=120):
         """What a script answers, as soon as that is true."""
@@ -26,7 +33,7 @@ class Browser:
 
 
 class Chromium(Browser):
-    name = "Chromium"
+    name, sizes = "Chromium", ((1300, 900), (390, 800))
 
     def __init__(self, width=1300, height=900):
         from selenium import webdriver
@@ -100,20 +107,21 @@ class Chromium(Browser):
 
 
 class Firefox(Browser):
-    name = "Firefox"
+    name, sizes = "Firefox", ((1300, 900),)  # no window of it is as narrow as a telephone
 
     def __init__(self, width=1300, height=900):
         self.profile = tempfile.TemporaryDirectory()
         port = free_port()
         Path(self.profile.name, "user.js").write_text(f'user_pref("marionette.port", {port});\n')
         self.process = subprocess.Popen(
-            ["firefox-esr", "--headless", "--no-remote", "--marionette", "--profile", self.profile.name,
-             "--width", str(width), "--height", str(height)],
+            ["firefox-esr", "--headless", "--no-remote", "--marionette", "--remote-allow-system-access", "--profile",
+             self.profile.name],
             stdout=subprocess.DEVNULL, stderr=subprocess.DEVNULL)
         self.wire, self.count = self.connected(port), 0
         self.hear()
         self.ask("WebDriver:NewSession", capabilities={})
         self.ask("WebDriver:SetTimeouts", script=300000)
+        self.size(width, height)
 
     def connected(self, port):
         for _ in range(300):
@@ -151,8 +159,57 @@ class Firefox(Browser):
         words = "return (window.wrappedJSObject ?? window).eval(arguments[0])"
         return json.loads(self.ask("WebDriver:ExecuteScript", script=words, args=[text])["value"])
 
+    def size(self, width, height):
+        """Sets the window so that the page in it has a size."""
+        self.ask("WebDriver:SetWindowRect", width=width, height=height)
+        inner = self.ask("WebDriver:ExecuteScript", script="return [innerWidth, innerHeight]", args=[])["value"]
+        self.ask("WebDriver:SetWindowRect", width=2 * width - inner[0], height=2 * height - inner[1])
+
+    def find(self, selector):
+        found = self.ask("WebDriver:FindElement", using="css selector", value=selector)["value"]
+        return found, *found.values()
+
+    def click(self, selector):
+        self.ask("WebDriver:ElementClick", id=self.find(selector)[1])
+
+    def choose_files(self, selector, paths):
+        self.ask("WebDriver:ElementSendKeys", id=self.find(selector)[1], text="\n".join(map(str, paths)))
+
+    def keys(self, selector, *keys):
+        self.ask("WebDriver:ElementSendKeys", id=self.find(selector)[1], text="".join(keys))
+
+    def act(self, **pointers):
+        """What pointers do side by side: of each its kind, and its steps."""
+        self.ask("WebDriver:PerformActions", actions=[
+            {"type": "pointer", "id": name, "parameters": {"pointerType": kind}, "actions": steps}
+            for name, (kind, steps) in pointers.items()])
+        self.ask("WebDriver:ReleaseActions")
+
+    def stroke(self, selector, points):
+        origin = self.find(selector)[0]
+        first, *rest = [{"type": "pointerMove", "duration": 20, "origin": origin, "x": round(x), "y": round(y)}
+                        for x, y in points]
+        return [first, DOWN, *rest, UP]
+
+    def drag(self, selector, points):
+        self.act(mouse=("mouse", self.stroke(selector, points)))
+
+    def touch(self, selector, points, other):
+        first, down, *rest, up = self.stroke(selector, points)
+        second, _, _ = self.stroke(selector, [other])
+        pauses = [PAUSE] * len(rest)
+        self.act(one=("touch", [first, down, PAUSE, PAUSE, *rest, up]),
+                 two=("touch", [PAUSE, PAUSE, second, DOWN, *pauses, UP]))
+
     def shot(self, path):
         Path(path).write_bytes(base64.b64decode(self.ask("WebDriver:TakeScreenshot", full=False)["value"]))
+
+    def complaints(self):
+        """What the browser's console says is wrong in the page."""
+        self.ask("Marionette:SetContext", value="chrome")
+        found = self.ask("WebDriver:ExecuteScript", script=COMPLAINTS, args=[])["value"]
+        self.ask("Marionette:SetContext", value="content")
+        return found
 
     def close(self):
         try:

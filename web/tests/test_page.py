@@ -1,17 +1,13 @@
 #!/usr/bin/env python3
 """Tries the page in real browsers, by its own buttons, beside the built program and the native library.
 
-    python3 tests/test_page.py --page gco.html --module gco.wasm --package gco.tgz --library PATH [--gco PATH]
-        [--shots FOLDER]
+    python3 tests/test_page.py --page gco.html --module gco.wasm --package gco.tgz --library PATH --gco PATH --shots FOLDER
 
-Wants Debian's chromium, chromium-driver, python3-selenium and firefox-esr. The first thing that is not as it should be
-ends the run in status 1.
+The first thing that is not as it should be ends the run in status 1.
 """
 import argparse
 import functools
 import http.server
-import importlib.util
-import shutil
 import subprocess
 import sys
 import tarfile
@@ -30,7 +26,6 @@ from wasm_module import edited, with_memory_of
 EXAMPLES = HERE.parent.parent / "examples"
 EXPORTS = ["__heap_base", "gco_free", "gco_malloc", "gco_restore_pgm", "gco_segment_pgm", "gco_stereo_pgm", "memory"]
 PAGE_LIMIT = 300_000
-WANTED = {"chromium": "chromium", "chromedriver": "chromium-driver", "firefox-esr": "firefox-esr"}
 
 # Each picture: the mode, the files, the settings, the program's words.
 PICTURES = [
@@ -55,10 +50,6 @@ PICTURES = [
 def wants(holds, what):
     if not holds:
         raise SystemExit(f"test_page: {what}")
-
-
-def told(what, begun):
-    print(f"{what}: {time.time() - begun:.1f} s", flush=True)
 
 
 def bytes_of(browser, expression):
@@ -135,15 +126,26 @@ def try_random_calls(browser, cases):
 
 # --- The page's own buttons ---
 
-def same_by_program(gco, words, asked, found):
-    ran = subprocess.run([gco, *words], input=asked, capture_output=True)
-    wants(ran.returncode == 0, f"gco {' '.join(words)} says {ran.stderr.decode()}")
-    wants(ran.stdout == found, f"the page's bytes are not those of gco {' '.join(words)}")
+class Program:
+    """The built program, which is asked each question once."""
+
+    def __init__(self, path):
+        self.path, self.known = path, {}
+
+    def answer(self, words, asked):
+        """The picture that a command writes, and the seconds that it takes."""
+        question = (*words, asked)
+        if question not in self.known:
+            begun = time.time()
+            ran = subprocess.run([self.path, *words], input=asked, capture_output=True)
+            wants(ran.returncode == 0, f"gco {' '.join(words)} says {ran.stderr.decode()}")
+            self.known[question] = ran.stdout, time.time() - begun
+        return self.known[question]
 
 
-def try_pictures(browser, native, gco):
+def try_pictures(browser, native, program):
+    """Each by the page, the native library and the program: by the words that are meant, and by those that the page tells."""
     for mode, names, settings, words in PICTURES:
-        begun = time.time()
         browser.click(f"[data-mode={mode}]")
         settle(browser, live=False, **{name: it for name, it in settings.items() if name == "most"})
         load(browser, [EXAMPLES / names[0]] if names[-1] == "painted.png" else [EXAMPLES / name for name in names])
@@ -152,22 +154,35 @@ def try_pictures(browser, native, gco):
             browser.wait("return hasBothStrokes()")
         settle(browser, **settings)
         run_now(browser)
-        page_seconds = browser.run("return state.last.seconds")
+        taken = browser.run("return state.last.seconds")
         asked, found = bytes_of(browser, "state.last.job.input"), bytes_of(browser, "state.last.pgm")
-        start = time.time()
         options = {"moves": "expansion", "labelCost": 0, **browser.run("return state.last.job.options")}
-        wanted = native.answer(mode, options, asked)
-        seconds = time.time() - start
-        wants(wanted["pgm"] == found.hex(), f"{mode} of {names}: the page's bytes are not the native library's")
-        if gco:
-            same_by_program(gco, [mode, *words.split()], asked, found)
-            same_by_program(gco, browser.run("return wordsOf(state.last.job)").split()[1:], asked, found)
-        told(f"  {mode} {'+'.join(names)}: the same bytes; {page_seconds:.2f} s in the Worker, natively {seconds:.2f} s", begun)
+        wants(native.answer(mode, options, asked)["pgm"] == found.hex(),
+              f"{mode} of {names}: the page's bytes are not the native library's")
+        for command in (f"{mode} {words}", browser.run("return wordsOf(state.last.job)").removeprefix("gco ")):
+            wanted, seconds = program.answer(command.split(), asked)
+            wants(found == wanted, f"the page's bytes are not those of gco {command}")
+        print(f"  {mode} {'+'.join(names)}: the same bytes; {taken:.2f} s, and {seconds:.2f} s by the program", flush=True)
+
+
+def tell_times(browser, gco):
+    """How long a cut out of 512 by 512 pixels takes in a fresh page, and how long the program takes for it."""
+    settle(browser, live=False, most=262144)
+    load(browser, [EXAMPLES / "camera.jpg"])
+    browser.choose_files("#strokes", [EXAMPLES / "painted.png"])
+    browser.wait("return hasBothStrokes()")
+    seconds = []
+    for _ in range(8):
+        run_now(browser)
+        seconds.append(browser.run("return state.last.seconds"))
+    words, asked = browser.run("return wordsOf(state.last.job)").split()[1:], bytes_of(browser, "state.last.job.input")
+    least = min(Program(gco).answer(words, asked)[1] for _ in range(8))
+    print(f"  cut out of 512 by 512: {seconds[0]:.3f} s, then at least {min(seconds[1:]):.3f} s; by the program at least"
+          f" {least:.3f} s", flush=True)
 
 
 def try_strokes(browser):
     """A stroke in the figure and one on the background, by mouse, and a third by a finger; undo, rubber, keys."""
-    begun = time.time()
     browser.click("[data-mode=segment]")
     settle(browser, live=True, byGrey=False, size=14, neighbours=4)
     load(browser, [EXAMPLES / "camera.jpg"])
@@ -191,7 +206,6 @@ def try_strokes(browser):
     answered(browser)
     wants(browser.run("return state.seeds.filter(Boolean).length") < painted, "the rubber takes nothing away")
     try_keys(browser)
-    told("  strokes by mouse, finger and keys, undo, rubber", begun)
 
 
 def try_keys(browser):
@@ -213,7 +227,6 @@ def try_keys(browser):
 
 
 def try_stop(browser):
-    begun = time.time()
     browser.click("[data-mode=stereo]")
     load(browser, [EXAMPLES / "left.jpg"])
     wants(browser.said() == "Now the right view, or both views together.", f"with one view: {browser.said()}")
@@ -227,12 +240,10 @@ def try_stop(browser):
     wants(browser.said() == "Stopped." and browser.run("return state.job === null"), "Stop does not stop")
     settle(browser, labels=4)
     run_now(browser)
-    told("  Stop, and the next run", begun)
 
 
 def try_sentences(browser, folder):
     """What is wrong is told in a sentence, and the page goes on."""
-    begun = time.time()
     browser.click("[data-mode=segment]")
     broken, huge = folder / "broken.jpg", folder / "huge.pgm"
     broken.write_bytes((EXAMPLES / "camera.jpg").read_bytes()[:60])
@@ -255,7 +266,6 @@ def try_sentences(browser, folder):
     wants(said.startswith("The run ended by an error that is no refusal"), f"an error: {said}")
     browser.run("JOBS.segment = JOBS.kept")
     run_now(browser)
-    told("  a broken file, a huge one, no strokes, a number out of its range, an error", begun)
 
 
 def made_page(module, folder, name):
@@ -269,7 +279,6 @@ def made_page(module, folder, name):
 
 def try_little_memory(browser, module, folder):
     """A module of 12 MB at most refuses a large run, and does a small one."""
-    begun = time.time()
     browser.open(made_page(with_memory_of(module, 192), folder, "little"))
     browser.click("[data-mode=restore]")
     settle(browser, levels=8, trunc=2)
@@ -279,7 +288,6 @@ def try_little_memory(browser, module, folder):
     wants(said == "Refused: there is not enough memory.", f"with little memory: {said}")
     load(browser, [EXAMPLES / "noisy.pgm"])
     run_now(browser)
-    told("  memory refused, and the next run", begun)
 
 
 def with_small_stack(module):
@@ -291,14 +299,12 @@ def with_small_stack(module):
 
 def try_deep_stack(browser, module, folder):
     """A stack that is too deep ends the Worker with a sentence: it reaches addresses that are out of bounds."""
-    begun = time.time()
     browser.open(made_page(with_small_stack(module), folder, "deep"))
     browser.click("[data-mode=restore]")
     load(browser, [EXAMPLES / "noisy.pgm"])
     browser.click("#run")
     said = answered(browser)
     wants(said.startswith("The run ended by an error that is no refusal"), f"with a small stack: {said}")
-    told("  a stack that is too deep", begun)
 
 
 class Quiet(http.server.SimpleHTTPRequestHandler):
@@ -308,7 +314,6 @@ class Quiet(http.server.SimpleHTTPRequestHandler):
 
 def try_package(browser, package, folder):
     """The package, as another page imports it from a server."""
-    begun = time.time()
     with tarfile.open(package) as archive:
         archive.extractall(folder)
     (folder / "other.html").write_text(
@@ -321,99 +326,75 @@ def try_package(browser, package, folder):
         energy = browser.wait("return window.told", 20)
         server.shutdown()
     wants(energy == 5, f"a page that imports the package is told the energy {energy}")
-    told("  the package in another page", begun)
 
 
 # --- What it looks like ---
 
 def shoot(browser, page, folder):
-    """Four states at the size of a desk and of a telephone."""
-    begun = time.time()
-    for width, height in ((1300, 900), (390, 800)):
+    """Four states at each size."""
+    for width, height in browser.sizes:
         browser.size(width, height)
         browser.open(page)
         browser.wait("return document.getElementById('status').textContent !== ''")
-        browser.shot(folder / f"start_{width}.png")
+        browser.shot(folder / f"{browser.name}_start_{width}.png")
         for mode in ("segment", "restore", "stereo"):
-            browser.open("about:blank")
             browser.open(f"{page}#{mode}-example")
             browser.wait("return state.last !== null && !state.job")
             time.sleep(0.3)
-            browser.shot(folder / f"{mode}_{width}.png")
+            browser.shot(folder / f"{browser.name}_{mode}_{width}.png")
             wide = browser.run("return document.documentElement.scrollWidth")
             wants(wide <= width, f"at {width} the page is {wide} wide")
         unnamed = browser.run(
             "return [...document.querySelectorAll('button, input, select, canvas')].filter((it) => !it.labels?.length"
             " && !it.textContent.trim() && !it.getAttribute('aria-label')).map((it) => it.outerHTML)")
         wants(unnamed == [], f"without a label: {unnamed}")
-    browser.size(1300, 900)
-    told(f"  screenshots in {folder}", begun)
-
-
-def missing():
-    found = [package for command, package in WANTED.items() if shutil.which(command) is None]
-    return found + ([] if importlib.util.find_spec("selenium") else ["python3-selenium"])
+    browser.size(*browser.sizes[0])
 
 
 def main():
     parser = argparse.ArgumentParser(description=__doc__.split("\n")[0])
     for name in ("page", "module", "package", "gco", "library", "shots"):
-        parser.add_argument(f"--{name}", type=Path, required=name not in ("gco", "shots"))
+        parser.add_argument(f"--{name}", type=Path, required=True)
     parser.add_argument("--count", type=int, default=2000)
     options = parser.parse_args()
-    if missing():
-        raise SystemExit(f"missing: apt-get install {' '.join(missing())} (for {sys.executable})")
-    page, module = options.page.resolve(), options.module.read_bytes()
+    native, program = Native(options.library.resolve()), Program(options.gco.resolve())
     cases = random_cases(options.library.resolve(), options.count, 1)
     print(f"{len(cases)} random calls by status: {statuses(cases)}", flush=True)
     wants(set(statuses(cases)) == WANTED_STATUSES, "the random calls do not have each status")
+    options.shots.mkdir(parents=True, exist_ok=True)
+    for make in (Chromium, Firefox):
+        browser = make()
+        try:
+            try_browser(browser, options, native, program, cases)
+        finally:
+            browser.close()
+    print(f"test_page: all passed; the screenshots are in {options.shots}")
+
+
+def try_browser(browser, options, native, program, cases):
+    page, module = options.page.resolve(), options.module.read_bytes()
+
+    def step(what, call, *values):
+        begun = time.time()
+        call(browser, *values)
+        print(f"{browser.name}: {what}: {time.time() - begun:.1f} s", flush=True)
+
     with tempfile.TemporaryDirectory() as room:
         folder = Path(room)
-        shots = options.shots or folder
-        shots.mkdir(parents=True, exist_ok=True)
-        gco = options.gco and options.gco.resolve()
-        in_chromium(page, module, Native(options.library.resolve()), gco, cases, folder, shots, options.package)
-        in_firefox(page, cases, shots)
-    print("test_page: all passed")
-
-
-def in_chromium(page, module, native, gco, cases, folder, shots, package):
-    browser = Chromium()
-    try:
-        begun = time.time()
         browser.open(page.as_uri())
-        try_module(browser, page)
+        step("the module", try_module, page)
         browser.complaints()  # of the fetch
-        try_random_calls(browser, cases)
-        told("Chromium: the module, and the random calls", begun)
-        try_pictures(browser, native, gco)
-        try_strokes(browser)
-        try_stop(browser)
-        try_sentences(browser, folder)
-        shoot(browser, page.as_uri(), shots)
-        wants(browser.complaints() == [], f"the console says {browser.complaints()}")
-        try_little_memory(browser, module, folder)
-        try_deep_stack(browser, module, folder)
-        try_package(browser, package, folder)
-    finally:
-        browser.close()
-
-
-def in_firefox(page, cases, shots):
-    begun = time.time()
-    browser = Firefox()
-    try:
-        browser.open(page.as_uri())
-        try_module(browser, page)
-        try_random_calls(browser, cases)
-        for mode in ("segment", "restore", "stereo"):
-            browser.open(f"{page.as_uri()}#{mode}-example")
-            browser.wait("return state.last !== null && !state.job")
-            time.sleep(0.3)
-            browser.shot(shots / f"firefox_{mode}.png")
-    finally:
-        browser.close()
-    told("Firefox: the module, the random calls, three examples", begun)
+        step("times", tell_times, program.path)
+        step("the random calls", try_random_calls, cases)
+        step("eight pictures", try_pictures, native, program)
+        step("strokes by mouse, finger and keys, undo, rubber", try_strokes)
+        step("Stop, and the next run", try_stop)
+        step("a broken file, a huge one, no strokes, a number out of its range, an error", try_sentences, folder)
+        step("screenshots", shoot, page.as_uri(), options.shots)
+        wants(browser.complaints() == [], "the console complains")
+        step("memory refused, and the next run", try_little_memory, module, folder)
+        step("a stack that is too deep", try_deep_stack, module, folder)
+        step("the package in another page", try_package, options.package, folder)
 
 
 if __name__ == "__main__":
