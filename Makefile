@@ -100,7 +100,7 @@ check: check-pages check-program check-bindings release
 	@echo "check: all passed"
 
 # The library of ARM must not stay where that of this machine is looked for.
-check-arm: $(GCO)
+check-arm: check-packages-arm $(GCO)
 	$(MAKE) release ARCH=aarch64
 	$(BINDINGS) clean
 	$(BINDINGS) all
@@ -128,12 +128,15 @@ web:
 npm:
 	$(WEB) npm
 
-check-web: $(GCO)
+check-web: check-packages-web $(GCO)
 	$(BINDINGS) IMAGES_CRATE=$(PICTURES) test_images
 	$(WEB) test GCO=$(abspath $(GCO)) LIBRARY=$(abspath bindings/dist/lib/libgco_pictures.so)
 
 check-packages:
 	@$(PYTHON) tools/checks/check_packages.py
+
+check-packages-%:
+	@$(PYTHON) tools/checks/check_packages.py $*
 
 bench: $(GCO)
 	$(MAKE) -C bench GCO=$(abspath $(GCO)) PYTHON=$(PYTHON) BENCH_OPTIONS="$(BENCH_OPTIONS)"
