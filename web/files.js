@@ -99,17 +99,17 @@ function listenToFiles() {
   $("example").onclick = showExample;
 }
 
+async function examplePicture(name) {
+  return (await readPictures(new Blob([bytesOf(EXAMPLES[name])]), value("most")))[0];
+}
+
 // The example of each command.
 async function showExample() {
-  const picture = async (name) => {
-    const blob = new Blob([bytesOf(EXAMPLES[name])]);
-    return (await readPictures(Object.assign(blob, { name }), value("most")))[0];
-  };
   if (state.mode === "stereo") {
     choose({ labels: 20, cap: 30, stereoWeight: 8, stereoTrunc: 4 });
-    begin(await picture("left"), await picture("right"));
-  } else if (state.mode === "restore") begin(withNoise(await picture("figure"), 40));
-  else begin(await picture("figure"), exampleStrokes());
+    begin(await examplePicture("left"), await examplePicture("right"));
+  } else if (state.mode === "restore") begin(withNoise(await examplePicture("figure"), 40));
+  else begin(await examplePicture("figure"), exampleStrokes());
   if (state.mode !== "segment") run();
 }
 

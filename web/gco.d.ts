@@ -98,8 +98,8 @@ export class Gco {
   segment(pair: Uint8Array, options: SegmentOptions): Labelled;
 }
 
-/** A library of the bytes of gco.wasm. Without them it takes those beside the module. */
-export function load(module?: ArrayBuffer | ArrayBufferView): Promise<Gco>;
+/** A library of gco.wasm: of its bytes, or compiled. Without them it takes the file beside gco.mjs. */
+export function load(module?: ArrayBuffer | ArrayBufferView | WebAssembly.Module): Promise<Gco>;
 
 /** The picture that begins at a place of PGM bytes, and the place behind it; null where none does. */
 export function readPgm(bytes: Uint8Array, from?: number):

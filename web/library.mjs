@@ -133,8 +133,8 @@ export class Gco {
   }
 }
 
-/** A library of the module's bytes. */
+/** A library of the module, or of its bytes. */
 export async function instantiate(module) {
-  const { instance } = await WebAssembly.instantiate(module, {});
-  return new Gco(instance);
+  const made = await WebAssembly.instantiate(module, {});
+  return new Gco(made.instance ?? made);
 }

@@ -19,13 +19,29 @@ const state = {
 
 // --- The Worker ---
 
+const WARMING_CUTS = 8;
+
 let worker = null, whenReady = null, sent = 0, ticking = 0;
 
-function startWorker() {
+// It is compiled once, for each Worker that comes.
+const libraryModule = compiled(bytesOf(MODULE));
+
+async function compiled(packed) {
+  const stream = new Blob([packed]).stream().pipeThrough(new DecompressionStream("gzip"));
+  return WebAssembly.compile(await new Response(stream).arrayBuffer());
+}
+
+function newWorker() {
   const source = URL.createObjectURL(new Blob([WORKER], { type: "text/javascript" }));
-  worker = new Worker(source);
+  const made = new Worker(source);
   URL.revokeObjectURL(source);
+  return made;
+}
+
+function startWorker() {
+  const own = worker = newWorker();
   whenReady = new Promise((ready, failed) => {
+    libraryModule.then((module) => own.postMessage({ module }), failed);
     worker.onmessage = ({ data }) => {
       if (data.ready) ready();
       else if (data.id === undefined) failed(new Error(data.failed));
@@ -33,11 +49,21 @@ function startWorker() {
     };
     worker.onerror = (event) => failed(new Error(event.message || "the Worker did not start"));
   });
-  worker.postMessage({ module: bytesOf(MODULE) });
   whenReady.catch((error) => {
     finish();
     say(`This browser cannot run the library: ${error.message}.`, true);
   });
+}
+
+// A browser compiles a function well once it has run for a while. So another Worker cuts the example out before the
+// first cut that a person asks for.
+async function warmUp() {
+  const input = writePgm(await examplePicture("figure"), exampleStrokes());
+  const options = { low: 128, high: 128, strong: 100, weak: 3, edge: 8, neighbours: 4, cycles: CYCLES };
+  const helper = newWorker();
+  let left = WARMING_CUTS;
+  helper.onmessage = () => (left-- > 0 ? helper.postMessage({ id: 0, command: "segment", input, options }) : helper.terminate());
+  helper.postMessage({ module: await libraryModule });
 }
 
 function restartWorker() {
@@ -296,5 +322,6 @@ listenToStrokes();
 listenToFiles();
 document.addEventListener("keydown", keyOfPage);
 startWorker();
+warmUp().catch(() => {}); // then the first cut takes a little longer
 setMode(["segment", "restore", "stereo"].find((mode) => location.hash.startsWith(`#${mode}`)) ?? "segment");
 if (location.hash.endsWith("example")) showExample();

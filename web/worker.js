@@ -1,11 +1,6 @@
 // The Worker: each message is one command over the bytes of PGM. library.mjs stands before this text.
 let library = null;
 
-async function unpacked(packed) {
-  const stream = new Blob([packed]).stream().pipeThrough(new DecompressionStream("gzip"));
-  return new Response(stream).arrayBuffer();
-}
-
 function answer({ id, command, input, options }) {
   const begun = performance.now();
   const found = library.run(command, input, options);
@@ -16,7 +11,7 @@ function answer({ id, command, input, options }) {
 onmessage = async ({ data }) => {
   try {
     if (data.module) {
-      library = await instantiate(await unpacked(data.module));
+      library = await instantiate(data.module);
       postMessage({ ready: true });
     } else answer(data);
   } catch (error) {

@@ -5,11 +5,13 @@ import vm from "node:vm";
 import { Refused, load, readPgm, writePgm } from "gco-proved";
 
 const gco = await load();
+const other = await load(await WebAssembly.compile(fs.readFileSync("node_modules/gco-proved/gco.wasm")));
 const row = (samples, maxval) => ({ width: samples.length, height: 1, maxval, samples });
 
 // The middle level goes: keeping it costs 2 for the pairs and 4 for two levels.
 const restored = gco.restore(row([0, 3, 0], 3), { labelCost: 2 });
 assert.deepEqual([...restored.labels], [0, 0, 0]);
+assert.deepEqual(other.restore(row([0, 3, 0], 3), { labelCost: 2 }), restored);
 assert.deepEqual([restored.energy, restored.data, restored.smooth, restored.label, restored.maxval], [5, 3, 0, 2, 3]);
 assert.deepEqual(restored.pgm, writePgm(row([0, 0, 0], 3)));
 

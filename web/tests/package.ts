@@ -11,7 +11,7 @@ const labels: Uint8Array = restored.labels;
 const times: number | undefined = matched[0].bound ? (2 * matched[0].bound.vmax) / matched[0].bound.vmin : undefined;
 const samples: ArrayLike<number> | undefined = readPgm(parted[0].pgm)?.samples;
 const told = (error: unknown): number => (error instanceof Refused ? error.status + error.place : gco.memory);
-const fromBytes: Promise<Gco> = load(new Uint8Array(8));
+const fromBytes: Promise<Gco> = load(new Uint8Array(8)), fromModule: Promise<Gco> = load(new WebAssembly.Module(new Uint8Array(8)));
 
 // @ts-expect-error: 6 neighbours are none of 4 and 8
 gco.restore(picture, { neighbours: 6 });
@@ -22,4 +22,4 @@ gco.stereo(picture, picture, { labelCost: 1 });
 // @ts-expect-error: a library comes from load
 new Gco();
 
-export { fromBytes, labels, samples, times, told };
+export { fromBytes, fromModule, labels, samples, times, told };

@@ -1,7 +1,8 @@
 #!/usr/bin/env python3
 """Tries the page in real browsers, by its own buttons, beside the built program and the native library.
 
-    python3 tests/test_page.py --page gco.html --module gco.wasm --package gco.tgz --library PATH --gco PATH --shots FOLDER
+    python3 tests/test_page.py --page gco.html --module gco.wasm --package gco.tgz --library PATH --gco PATH \
+        --shots FOLDER
 
 The first thing that is not as it should be ends the run in status 1.
 """
@@ -98,11 +99,8 @@ def try_module(browser, page, limit=PAGE_LIMIT):
                 "fetch('data:,').then(() => 'open', () => 'closed').then((it) => { window.told = it; })")
     wants(browser.wait("return window.told") == "closed", "the browser lets the page fetch")
     browser.run(
-        "window.told = null;"
-        "(async () => { const stream = new Blob([bytesOf(MODULE)]).stream().pipeThrough(new DecompressionStream('gzip'));"
-        " const made = new WebAssembly.Module(await new Response(stream).arrayBuffer());"
-        " window.told = { imports: WebAssembly.Module.imports(made), exports: WebAssembly.Module.exports(made).map((it) => it.name) };"
-        "})()")
+        "window.told = null; libraryModule.then((made) => { window.told = { imports: WebAssembly.Module.imports(made),"
+        " exports: WebAssembly.Module.exports(made).map((it) => it.name) }; })")
     found = browser.wait("return window.told")
     wants(found["imports"] == [], f"the module imports {found['imports']}")
     wants(sorted(found["exports"]) == EXPORTS, f"the module exports {found['exports']}")
@@ -113,12 +111,12 @@ def try_random_calls(browser, cases):
     browser.run(
         "window.told = null;"
         "const own = WORKER + arguments[0] + `\\nonmessage = async ({ data }) => {"
-        " library = await instantiate(await unpacked(data.module));"
+        " library = await instantiate(data.module);"
         " postMessage(differing(library, Refused, data.cases)); };`;"
         "const tried = new Worker(URL.createObjectURL(new Blob([own], { type: 'text/javascript' })));"
         "tried.onerror = (event) => { window.told = { wrong: [String(event.message)] }; };"
         "tried.onmessage = ({ data }) => { window.told = { wrong: data }; tried.terminate(); };"
-        "tried.postMessage({ module: bytesOf(MODULE), cases: arguments[1] })",
+        "const cases = arguments[1]; libraryModule.then((module) => tried.postMessage({ module, cases }))",
         (HERE / "compare.js").read_text(), cases)
     wrong = browser.wait("return window.told", 250)["wrong"]
     wants(wrong == [], f"{browser.name} answers otherwise than the native library: {wrong}")
@@ -171,6 +169,7 @@ def tell_times(browser, gco):
     load(browser, [EXAMPLES / "camera.jpg"])
     browser.choose_files("#strokes", [EXAMPLES / "painted.png"])
     browser.wait("return hasBothStrokes()")
+    time.sleep(2)  # less than a person takes to paint
     seconds = []
     for _ in range(8):
         run_now(browser)
