@@ -27,7 +27,7 @@ EMULATOR = ["qemu-aarch64", "-L", ROOT]
 ARM = (183).to_bytes(2, "little")  # e_machine of an ELF file
 C = ["-std=c99", "-O1", "-Wall", "-Wextra", "-Werror", "-pthread"]
 RANDOM = 500
-# Runs that workers share, and the words of each.
+# Runs, and the words of each.
 RUNS = [
     ("noisy.pgm", ["restore", "--weight", "4"]),
     ("noisy.pgm", ["restore", "--moves", "swap"]),
@@ -36,6 +36,9 @@ RUNS = [
     ("small.toml", ["energy"]),
     ("districts.toml", ["label", "--bound"]),
 ]
+# Runs that two threads share: the parts of large moves, and the nets of moves with label costs.
+SHARED = [["restore", "--weight", "2"], ["restore", "--weight", "2", "--label-cost", "50"]]
+SIDE = 256
 
 
 def elf_machine(data):
@@ -67,16 +70,32 @@ def run_program(trial, tree):
         wants((found[0], told), (0, wanted), f"gco {' '.join(words)} < {name}")
 
 
+def large_picture():
+    """Tiles of four grey levels, with noise."""
+    pixels = (((x // 32 + y // 32) % 4 + (x * x * 7 + y * y * 3 + x * y) % 11 // 9) % 4
+              for y in range(SIDE) for x in range(SIDE))
+    return b"P5\n%d %d\n3\n" % (SIDE, SIDE) + bytes(pixels)
+
+
 def run_threads(trial, tree):
     """The same bytes as the program of this machine, on one thread and by two, and the same refusals."""
     examples = tree / "share/doc/gco/examples"
-    for name, words in [*RUNS, ("noisy.pgm", ["energy"]), ("small.toml", ["restore"])]:
-        data = (examples / name).read_bytes()
+    known = [((examples / name).read_bytes(), words)
+             for name, words in [*RUNS, ("noisy.pgm", ["energy"]), ("small.toml", ["restore"])]]
+    for data, words in [*known, *((large_picture(), words) for words in SHARED)]:
         done = subprocess.run([trial.gco, *words], input=data, capture_output=True)
         wanted = (done.returncode, done.stdout, done.stderr)
         for more in ([], ["--threads", "2"]):
             found = on_arm([trial.prefix / "bin/gco", *words, *more], input=data)
-            wants(found, wanted, f"gco {' '.join([*words, *more])} < {name}")
+            wants(found, wanted, f"gco {' '.join([*words, *more])}")
+
+
+def start_threads(trial, tree):
+    """The shared runs do start threads."""
+    log = trial.folder / "calls"
+    for words in SHARED:
+        on_arm(["-strace", "-D", log, trial.prefix / "bin/gco", *words, "--threads", "2"], input=large_picture())
+        wants(" clone(" in log.read_text(), True, f"gco {' '.join(words)} --threads 2 starts a thread")
 
 
 def flags(trial, *libraries):
@@ -149,8 +168,8 @@ def main():
         trial = Trial(Path(name), options.package.resolve())
         trial.gco = options.gco.resolve()
         tree = unpack(trial, options.archive.resolve())
-        for step in (try_machine, install, run_program, run_threads, run_calls, run_growths, random_calls,
-                     random_runs, uninstall, try_package):
+        for step in (try_machine, install, run_program, run_threads, start_threads, run_calls, run_growths,
+                     random_calls, random_runs, uninstall, try_package):
             begun = time.monotonic()
             step(trial, tree)
             print(f"{step.__name__}: {time.monotonic() - begun:.1f} s", flush=True)
