@@ -1,5 +1,5 @@
 -- Where a run stands after a move, and how many moves are left.
-use Rattle.std.proofs.Common.{◌≡◌, ℕ, ◌+◌, ◌-◌, ◌*◌, ◌<◌, ◌≤◌, suc, Bool, true, false, not, List, [], ◌∷◌, length, take, drop, get_or, Option, Some, None, refl, sym, ap, subst, arith, rules, ◌⊎◌, inl, inr, ◌==◌, slice_index}
+use Rattle.std.proofs.Common.{◌≡◌, ℕ, ◌+◌, ◌-◌, ◌*◌, ◌<◌, ◌≤◌, suc, Bool, true, false, not, List, [], ◌∷◌, length, take, drop, get_or, Option, Some, None, refl, sym, ap, ◌∙◌, subst, arith, rules, ◌⊎◌, inl, inr, ◌==◌, slice_index}
 use Rattle.std.specs.Prelude.{slice_get}
 use Rattle.std.proofs.lemmas.Bool.{ne_eqb, eq-eqb}
 use Rattle.sums.specs.Sums.{sum_below, count_if}
@@ -12,6 +12,8 @@ use Rattle.label_energies.proofs.Chains.{cycles_more, chain_settles, chain_runs_
 use Rattle.moves.specs.declared.runs.Ended.{Ended}
 use Rattle.moves.specs.declared.course.Course.{Course}
 use Rattle.moves.specs.Cycles.{AreBestFrom, IsSoFar}
+use Rattle.moves.specs.declared.bookmark.Mark.{Mark}
+use Rattle.moves.specs.Bookmarks.{IsBetween, IsMarkOf}
 use Rattle.moves.specs.Courses.{IsBetweenMoves, StandsOnCourse, HasComeTo, LeadsBest, cycles_unless, cycle_of, left_unless, moves_left}
 use Rattle.one_move.specs.Building.{TellsChange}
 use Rattle.moves.proofs.Running.{so_far_starts, so_far_more, moves_split, stopped_leads, ended_leads, ended_known}
@@ -81,6 +83,22 @@ begin_stands m moves allowed course f ended done place last changed (inr (inr he
       cycles = subst C (sym done) refl;
       so_far = subst S (sym place) (subst B (sym changed) (subst L (sym last) (so_far_starts m moves f (length moves) none)));
     })
+
+-- a run that was left before its first move is where it began
+pub marked_first : (m : Instance) (moves : List Move) (mark : Mark) (f g : List ℕ) → mark.cycles ≡ 0 → mark.place ≡ 0 → IsMarkOf m moves mark f g → g ≡ f
+marked_first m moves mark f g none first (inl begins) = begins.2
+marked_first m moves mark f g none first (inr between) =
+    let C : ℕ → Type 0 = λ n. Cycles m moves n f between.start in
+    let L : ℕ → Type 0 = λ n. MovesLead m (take n moves) between.start g in
+    let began : between.start ≡ f = subst C none between.cycles in
+    let leads : g ≡ between.start = subst L first between.so_far.leads in
+    leads ∙ began
+
+-- one that was left later stands within its chain
+pub marked_later : (m : Instance) (moves : List Move) (mark : Mark) (f g : List ℕ) → ((mark.cycles ≡ 0) × (mark.place ≡ 0) → ⊥) → IsMarkOf m moves mark f g
+    → IsBetween m moves mark f g
+marked_later m moves mark f g later (inl begins) = absurd (later (begins.0, begins.1))
+marked_later m moves mark f g later (inr between) = between
 
 -- where it has come to: to the place of the last change, so that it has ended, or to another
 pub come_stands : (m : Instance) (moves : List Move) (allowed : ℕ) (course : Course) (f start g : List ℕ) (ended : Option Ended)

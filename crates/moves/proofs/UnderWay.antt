@@ -18,7 +18,8 @@ use Rattle.moves.specs.declared.under_way.RunUnderWay.{RunUnderWay}
 use Rattle.moves.specs.Problems.{IsRunOfCycles}
 use Rattle.moves.specs.Courses.{IsBetweenMoves, StandsOnCourse, LeadsBest, cycle_of}
 use Rattle.moves.proofs.Courses.{beginning_at, has_come}
-use Rattle.moves.specs.Stages.{IsUnderWay}
+use Rattle.moves.specs.Stages.{IsUnderWay, AreStampsOf}
+use Rattle.moves.specs.Bookmarks.{IsWorkingOn, IsRunOver, IsRunIn}
 use Rattle.moves.specs.UnderWay.{IsRunFrom, IsStepOf, ended_of}
 
 -- the moves of its cycles are those of the problem's labels
@@ -112,6 +113,34 @@ run_kept {F} {V} f v problem kind cycles start field old new space changes cours
     run_from f v problem kind cycles start field new (subst C (sym changes) (subst S (sym space) run.under_way)) (subst K (sym course) run.kind_is)
     (subst L (sym course) run.labels_are) (subst A (sym course) run.allowed_is)
     (λ m meant. (let P : Course → Type 0 = λ c. StandsOnCourse m (moves_of kind m.labels) cycles c start field.at c.ended in subst P (sym course) (run.stands m meant)))
+
+-- a run works at its labels
+pub over_of : {F V : Type 0} (f : Closure F) (v : Closure V) (problem : Problem F V) (kind : Moves) (cycles : ℕ) (start : List ℕ) (field : LabelField)
+    (run : RunUnderWay) → IsRunFrom f v problem kind cycles start field run → IsRunOver f v problem field run
+over_of {F} {V} f v problem kind cycles start field run from = record {
+  working = record { posed = from.under_way.posed; fits = from.under_way.fits; of_problem = from.under_way.of_problem };
+  labels_are = from.labels_are;
+}
+
+-- and is under way in each instance that the problem means
+pub run_in_of : {F V : Type 0} (f : Closure F) (v : Closure V) (problem : Problem F V) (kind : Moves) (cycles : ℕ) (start : List ℕ) (field : LabelField)
+    (run : RunUnderWay) → IsRunFrom f v problem kind cycles start field run → (m : Instance) → IsMeant f v problem m → IsRunIn m kind cycles start field.at run
+run_in_of {F} {V} f v problem kind cycles start field run from m meant = record {
+  kind_is = from.kind_is;
+  allowed_is = from.allowed_is;
+  stands = from.stands m meant;
+  stamped = from.under_way.stamped m meant;
+}
+
+-- what works at labels and remembers what is true of them is under way
+pub under_way_of : {F V : Type 0} (f : Closure F) (v : Closure V) (problem : Problem F V) (field : LabelField) (space : Workspace) (changes : Changes)
+    → IsWorkingOn f v problem field space → AreStampsOf f v problem field changes → IsUnderWay f v problem field space changes
+under_way_of {F} {V} f v problem field space changes working stamped = record {
+  posed = working.posed;
+  fits = working.fits;
+  of_problem = working.of_problem;
+  stamped = stamped;
+}
 
 -- a finished run
 pub finished : {F V : Type 0} (f : Closure F) (v : Closure V) (problem : Problem F V) (kind : Moves) (cycles : ℕ) (start : List ℕ) (field : LabelField)

@@ -12,6 +12,8 @@ pub use Rattle.move_energy.specs.Choices.{choice_at, value_of, open_count, IsNum
 pub use Rattle.move_energy.specs.Choices.{AreOpenSites}
 pub use Rattle.move_energy.specs.OpenMoves.{IsAllowedFrom}
 pub use Rattle.move_energy.specs.declared.choice.Choice.TheVariants.{Zero}
+pub use Rattle.moves.specs.Bookmarks.{IsMarkOf, IsPastEnd, WasLeftAt, IsWorkingOn, IsRunOver}
+pub use Rattle.moves.specs.Bookmarks.{IsRunIn, IsStepIn}
 pub use Rattle.moves.specs.Bounds.{IsBoundOf, IsWithinBound}
 pub use Rattle.moves.specs.Instances.{IsInstanceOf, data_entry, instance_of}
 pub use Rattle.moves.specs.Prices.{ArePrices}
@@ -21,9 +23,10 @@ pub use Rattle.moves.specs.Runs.{MayMake, AnswersRun, IsRunInRange}
 pub use Rattle.moves.specs.Stages.{IsStageReady, AreStageZeros, AreStageFresh, IsTakenLeast}
 pub use Rattle.moves.specs.Stages.{IsLater, IsUnderWay, AreStampsOf, EndsMove}
 pub use Rattle.moves.specs.Stages.{KeepsFreshSites}
-pub use Rattle.moves.specs.Courses.{LeadsBest, labels_changed}
+pub use Rattle.moves.specs.Courses.{LeadsBest, labels_changed, IsBegun}
 pub use Rattle.moves.specs.UnderWay.{IsRunFrom, IsSomeRun, IsStepOf, TellsStep, IsAhead, ended_of}
 pub use Rattle.moves.specs.UnderWay.{cycles_of, left_of}
+pub use Rattle.moves.specs.Stretches.{IsPauseOf, AnswersStretch}
 pub use Rattle.one_move.specs.Building.{IsOfProblem, KeepsDecided, site_values, TellsChange}
 pub use Rattle.one_move.specs.Building.{HasTaken, IsReadyMove, HasNumbersOf}
 pub use Rattle.one_move.specs.Moved.{IsMade, IsCutRefusal, IsMoveRefusal, IsMoved}

@@ -1,8 +1,9 @@
 //! Where a run stands in its cycles of moves.
-ghost use Rattle.std.specs.Prelude.{◌≡◌, ◌<◌, ◌≤◌, length, None};
+ghost use Rattle.std.specs.Prelude.{◌≡◌, ◌<◌, ◌≤◌, length, None, IfSome};
 ghost use Rattle.label_field.specs.Limits.{label_limit};
 ghost use Rattle.label_energies.specs.Chains.{moves_of};
 
+use crate::bookmark::Mark;
 use crate::runs::Ended;
 use label_energies::{Move, Moves};
 
@@ -36,6 +37,7 @@ impl Course {
     ghost use Rattle.moves.specs.Cycles.{IsSoFar};
     ghost use Rattle.moves.specs.Courses.{StandsOnCourse, IsBetweenMoves, LeadsBest, cycle_of};
     ghost use Rattle.moves.specs.Courses.{moves_left};
+    ghost use Rattle.moves.specs.Bookmarks.{IsMarkOf, IsPastEnd};
     ghost use Rattle.one_move.specs.Building.{TellsChange};
 
     /// Where a run stands that begins. It has ended where no cycle is allowed, and where a cycle
@@ -71,6 +73,27 @@ impl Course {
             changed: false,
             ended,
         }
+    }
+
+    /// Where a run stands that was left at a mark. `None` where no run of so many cycles of these
+    /// moves goes on from there.
+    pub(crate) fn resume(moves: Moves, labels: u32, allowed: u32, mark: Mark) -> Option<Course>
+        requires { (1 ≤ labels) × (labels ≤ label_limit) }
+        ensures asked { IfSome result (λ course. (course.moves ≡ moves) × (course.labels ≡ labels)
+            × (course.allowed ≡ allowed)) }
+        ensures stands { (m : Instance) (f g : List ℕ) →
+            IsMarkOf m (moves_of moves labels) mark f g → IfSome result
+            (λ course. StandsOnCourse m (cycle_of course) allowed course f g course.ended) }
+        ensures none { result ≡ None → IsPastEnd (moves_of moves labels) allowed mark }
+    {
+        let begun = Course::begin(moves, labels, allowed);
+        if mark.cycles == 0 && mark.place == 0 {
+            return Some(begun);
+        }
+        if mark.cycles >= allowed || mark.place >= moves.count(labels) {
+            return None;
+        }
+        Some(begun.come_to(mark.cycles, mark.place, mark.changed, mark.last))
     }
 
     /// The next move of a run that goes on.

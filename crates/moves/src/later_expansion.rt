@@ -7,7 +7,8 @@ ghost use Rattle.moves.specs.Prelude.{AreFree, WhereMeant, AreOfOneSize, made_of
 ghost use Rattle.moves.specs.Prelude.{changed_after, WasExpanded, is_marked, AreTaking};
 ghost use Rattle.moves.specs.Prelude.{IsOfProblem, IsMade, IsCutRefusal, IsMoveRefusal};
 ghost use Rattle.moves.specs.Prelude.{IsStageReady, AreStageZeros, AreStageFresh, IsTakenLeast};
-ghost use Rattle.moves.specs.Prelude.{HasTaken, IsLater, IsUnderWay, TellsChange, HasNumbersOf};
+ghost use Rattle.moves.specs.Prelude.{HasTaken, IsLater, IsWorkingOn, TellsChange, HasNumbersOf};
+ghost use Rattle.moves.specs.Prelude.{AreStamped};
 ghost use Rattle.moves.specs.Prelude.{IsAllowedFrom};
 
 use crate::opening_apart::open_apart;
@@ -176,8 +177,9 @@ fn take(labelling: &mut Labelling, alpha: u32, sites: &[u32]) -> bool
 /// An expansion of a label that was expanded before, where few sites changed since: it looks at
 /// those and at what is near them, and at more, stage by stage, until nothing that was not looked
 /// at can matter. It answers nothing, and changes nothing, where the expansion is to be made whole.
-/// Refused as an expansion is, the labels as they were.
-pub(crate) fn make_later<F: Fn(u32, u32) -> i64 + Sync, V: Fn(u32, u32) -> i64 + Sync, H: Sharing>(
+/// Refused as an expansion is, the labels as they were. The labels are those of the whole expansion
+/// where what is remembered is true of the labels before.
+pub(crate) fn make_later<F: Fn(u32, u32) -> i64 + Sync, V: Fn(u32, u32) -> i64 + Sync, H: How>(
     problem: &Problem<F, V>,
     space: &mut Workspace,
     labelling: &mut Labelling,
@@ -186,11 +188,12 @@ pub(crate) fn make_later<F: Fn(u32, u32) -> i64 + Sync, V: Fn(u32, u32) -> i64 +
     how: &H,
 ) -> Result<Option<bool>, MoveError>
     requires ready { H.ready how.now }
-    requires under_way { IsUnderWay F.Fn V.Fn problem.now labelling.old space.old changes.now }
+    requires working { IsWorkingOn F.Fn V.Fn problem.now labelling.old space.old }
     ensures of_problem { IsOfProblem F.Fn V.Fn problem.now space.new }
     ensures sizes { AreOfOneSize labelling.old labelling.new }
     ensures moved { WhereMeant F.Fn V.Fn problem.now
-        (λ m. IsLater m alpha labelling.old.at labelling.new.at result) }
+        (λ m. AreStamped m (labelling_of labelling.old.at) changes.now →
+        IsLater m alpha labelling.old.at labelling.new.at result) }
     ensures made { IfOk result (λ later. IfSome later
         (IsMade (Expand alpha) labelling.old.at labelling.new.at)) }
     ensures taken { IfOk result (λ later. IfSome later (λ _.

@@ -3,7 +3,7 @@ ghost use Rattle.std.specs.Prelude.{◌≡◌, ℕ, List, length, IfErr, OnErr};
 ghost use Rattle.moves.specs.Prelude.{Expand, labelling as labelling_of, IsBest};
 ghost use Rattle.moves.specs.Prelude.{costs_of as costs_in, AreFree, WhereMeant, FitsProblem};
 ghost use Rattle.moves.specs.Prelude.{AreOfOneSize, AreStamped, is_marked, AreTaking};
-ghost use Rattle.moves.specs.Prelude.{site_values, IsMoved, IsMoveRefusal, HasTaken, IsUnderWay};
+ghost use Rattle.moves.specs.Prelude.{site_values, IsMoved, IsMoveRefusal, HasTaken, IsWorkingOn};
 ghost use Rattle.moves.specs.Prelude.{AreStampsOf};
 
 use crate::later_expansion::make_later;
@@ -78,12 +78,8 @@ fn note_later<F: Fn(u32, u32) -> i64 + Sync, V: Fn(u32, u32) -> i64 + Sync>(
 
 impl RunUnderWay {
     /// The next move of a run, where its labels are those of the last. Of swaps nothing is
-    /// remembered.
-    pub(crate) fn make_next<
-        F: Fn(u32, u32) -> i64 + Sync,
-        V: Fn(u32, u32) -> i64 + Sync,
-        H: Sharing,
-    >(
+    /// remembered. It is the chain's where what is remembered is true of the labels before.
+    pub(crate) fn make_next<F: Fn(u32, u32) -> i64 + Sync, V: Fn(u32, u32) -> i64 + Sync, H: How>(
         &mut self,
         problem: &Problem<F, V>,
         labelling: &mut Labelling,
@@ -91,14 +87,16 @@ impl RunUnderWay {
         how: &H,
     ) -> Result<bool, MoveError>
         requires ready { H.ready how.now }
-        requires under_way { IsUnderWay F.Fn V.Fn problem.now labelling.old self.old.space
-            self.old.changes }
-        ensures under_way { IsUnderWay F.Fn V.Fn problem.now labelling.new self.new.space
-            self.new.changes }
+        requires working { IsWorkingOn F.Fn V.Fn problem.now labelling.old self.old.space }
+        ensures working { IsWorkingOn F.Fn V.Fn problem.now labelling.new self.new.space }
+        ensures stamped { WhereMeant F.Fn V.Fn problem.now
+            (λ m. AreStamped m (labelling_of labelling.old.at) self.old.changes →
+            AreStamped m (labelling_of labelling.new.at) self.new.changes) }
         ensures same { (self.new.course ≡ self.old.course) × (self.new.before ≡ self.old.before) }
         ensures sizes { AreOfOneSize labelling.old labelling.new }
         ensures moved { WhereMeant F.Fn V.Fn problem.now
-            (λ m. IsMoved m change labelling.old.at labelling.new.at result) }
+            (λ m. AreStamped m (labelling_of labelling.old.at) self.old.changes →
+            IsMoved m change labelling.old.at labelling.new.at result) }
         ensures unchanged { OnErr result (labelling.new ≡ labelling.old) }
         ensures refused { IfErr result
             (IsMoveRefusal (H.refuses how.now) labelling.old.labels change) }
@@ -123,14 +121,16 @@ impl RunUnderWay {
         how: &H,
     ) -> Result<bool, MoveError>
         requires ready { H.ready how.now }
-        requires under_way { IsUnderWay F.Fn V.Fn problem.now labelling.old self.old.space
-            self.old.changes }
-        ensures under_way { IsUnderWay F.Fn V.Fn problem.now labelling.new self.new.space
-            self.new.changes }
+        requires working { IsWorkingOn F.Fn V.Fn problem.now labelling.old self.old.space }
+        ensures working { IsWorkingOn F.Fn V.Fn problem.now labelling.new self.new.space }
+        ensures stamped { WhereMeant F.Fn V.Fn problem.now
+            (λ m. AreStamped m (labelling_of labelling.old.at) self.old.changes →
+            AreStamped m (labelling_of labelling.new.at) self.new.changes) }
         ensures same { (self.new.course ≡ self.old.course) × (self.new.before ≡ self.old.before) }
         ensures sizes { AreOfOneSize labelling.old labelling.new }
         ensures moved { WhereMeant F.Fn V.Fn problem.now
-            (λ m. IsMoved m (Expand alpha) labelling.old.at labelling.new.at result) }
+            (λ m. AreStamped m (labelling_of labelling.old.at) self.old.changes →
+            IsMoved m (Expand alpha) labelling.old.at labelling.new.at result) }
         ensures unchanged { OnErr result (labelling.new ≡ labelling.old) }
         ensures refused { IfErr result
             (IsMoveRefusal (H.refuses how.now) labelling.old.labels (Expand alpha)) }

@@ -1,12 +1,13 @@
 //! Runs of moves over tables of costs.
 ghost use Rattle.std.specs.Prelude.{◌≡◌, ◌+◌, ◌*◌, ◌<◌, ◌≤◌, pos, ◌≤ℤ◌, All, IsTrue, IsNone, IfErr};
-ghost use Rattle.std.specs.Prelude.{IfOk, IfSome, length, slice_index};
+ghost use Rattle.std.specs.Prelude.{IfOk, IfSome, Ok, length, slice_index, ℕ, List};
 ghost use Rattle.moves.specs.Prelude.{Expansion, Instance, IsMetric, data_limit, site_cost_limit};
 ghost use Rattle.moves.specs.Prelude.{smooth_limit, costs_of, AreFree, AreLabelCosts, HasCosts};
 ghost use Rattle.moves.specs.Prelude.{IsPosed, WhereMeant, FitsProblem, IsCost, IsMetricTable};
 ghost use Rattle.moves.specs.Prelude.{Keeps, entry_at, IsBoundOf, IsInstanceOf, data_entry};
 ghost use Rattle.moves.specs.Prelude.{instance_of, ArePrices, IsRunRefusal, TellsPairNotRegular};
 ghost use Rattle.moves.specs.Prelude.{IsRefusalOver, AnswersRun, IsRunInRange, MayMake};
+ghost use Rattle.moves.specs.Prelude.{IsRunOfCycles, moves_of};
 
 use crate::{Bound, Ended, MoveError, Sharing, expansion_bound, run};
 use cost_store::{DataCost, Problem, SmoothCost, is_metric};
@@ -191,21 +192,40 @@ fn run_problem<F: Fn(u32, u32) -> i64 + Sync, V: Fn(u32, u32) -> i64 + Sync, H: 
         request.cycles,
         how,
     ) {
-        Ok(ended) => {
-            let data = problem.data_energy(&labelling);
-            let smooth = problem.smooth_energy(&labelling);
-            let label = problem.label_energy(&labelling);
-            let bound = bound_of(problem, request.moves, ended);
-            Ok(Run {
-                labelling,
-                ended,
-                data,
-                smooth,
-                label,
-                bound,
-            })
-        }
+        Ok(ended) => Ok(end_run(problem, labelling, request.moves, ended)),
         Err(error) => Err(error),
+    }
+}
+
+/// Where a run ended: the energy of its labels, and their bound, where one is known.
+pub(crate) fn end_run<F: Fn(u32, u32) -> i64 + Sync, V: Fn(u32, u32) -> i64 + Sync>(
+    problem: &Problem<F, V>,
+    labelling: Labelling,
+    moves: Moves,
+    ended: Ended,
+) -> Run
+    requires posed { IsPosed F.Fn V.Fn problem.now }
+    requires fits { FitsProblem problem.now labelling }
+    requires known { WhereMeant F.Fn V.Fn problem.now
+        (λ m. IsMetric m.labels m.smooth_cost → IsTrue problem.now.smooth_cost.by_metric) }
+    ensures run { WhereMeant F.Fn V.Fn problem.now (λ m. (cycles : ℕ) (start : List ℕ) →
+        IsRunOfCycles m (moves_of moves m.labels) cycles start labelling.at (Ok ended) →
+        MayMake m moves → AnswersRun m moves cycles start (Ok result)) }
+    ensures same { result.labelling ≡ labelling }
+    ensures range { IsRunInRange labelling result }
+{
+    labelling.keeps();
+    let data = problem.data_energy(&labelling);
+    let smooth = problem.smooth_energy(&labelling);
+    let label = problem.label_energy(&labelling);
+    let bound = bound_of(problem, moves, ended);
+    Run {
+        labelling,
+        ended,
+        data,
+        smooth,
+        label,
+        bound,
     }
 }
 

@@ -9,6 +9,8 @@ ghost use Rattle.moves.specs.Prelude.{IsRunRefusal};
 ghost use Rattle.moves.specs.Prelude.{IsRunFrom, IsSomeRun, IsStepOf, TellsStep, LeadsBest};
 ghost use Rattle.moves.specs.Prelude.{IsAhead};
 ghost use Rattle.moves.specs.Prelude.{ended_of, cycles_of, left_of, labels_changed};
+ghost use Rattle.moves.specs.Prelude.{IsRunOver, IsRunIn, IsStepIn, AreStamped};
+ghost use Rattle.moves.specs.Prelude.{labelling as labelling_of};
 
 use crate::course::Course;
 use crate::run_moves::begin_changes;
@@ -163,21 +165,27 @@ impl RunUnderWay {
         self.before.extend_from_slice(labelling.as_slice())
     }
 
-    /// Makes the next move of the chain.
-    fn advance<F: Fn(u32, u32) -> i64 + Sync, V: Fn(u32, u32) -> i64 + Sync, H: Sharing>(
+    /// Makes the next move of the chain: it is the chain's where what is remembered is true.
+    pub(crate) fn advance<F: Fn(u32, u32) -> i64 + Sync, V: Fn(u32, u32) -> i64 + Sync, H: How>(
         &mut self,
         problem: &Problem<F, V>,
         labelling: &mut Labelling,
         how: &H,
     ) -> Result<(), MoveError>
         requires ready { H.ready how.now }
-        requires under_way { IsSomeRun F.Fn V.Fn problem.now labelling.old self.old }
+        requires over { IsRunOver F.Fn V.Fn problem.now labelling.old self.old }
         requires open { ended_of self.old ≡ None }
+        ensures over { IsRunOver F.Fn V.Fn problem.now labelling.new self.new }
         ensures chain { (kind : Kind) (cycles : ℕ) (start : List ℕ) →
             IsRunFrom F.Fn V.Fn problem.now kind cycles start labelling.old self.old →
             IsStepOf F.Fn V.Fn problem.now kind cycles start labelling.new self.new result }
-        ensures best { WhereMeant F.Fn V.Fn problem.now (λ m. OnOk result ((change : Change) →
-            IsAhead self.old self.old.course.done change
+        ensures goes_on { WhereMeant F.Fn V.Fn problem.now (λ m.
+            (kind : Kind) (cycles : ℕ) (start : List ℕ) →
+            IsRunIn m kind cycles start labelling.old.at self.old →
+            IsStepIn m kind cycles start labelling.new.at self.new result) }
+        ensures best { WhereMeant F.Fn V.Fn problem.now
+            (λ m. AreStamped m (labelling_of labelling.old.at) self.old.changes →
+            OnOk result ((change : Change) → IsAhead self.old self.old.course.done change
             → LeadsBest m change labelling.old.at labelling.new.at)) }
         ensures left { OnOk result (left_of self.new < left_of self.old) }
         ensures same { self.new.before ≡ self.old.before }

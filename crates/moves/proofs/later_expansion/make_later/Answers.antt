@@ -15,14 +15,14 @@ use Rattle.moves.proofs.Stages.{metric_allowed, taken_best}
 use Rattle.moves.proofs.later_expansion.make_later.Goals as goal
 
 pub returns-in_err-look-clause-moved : goal.returns-in_err-look-clause-moved
-returns-in_err-look-clause-moved g c = λ m meant.
+returns-in_err-look-clause-moved g c = λ m meant stamped.
     let a = c.args.alpha in
     let f = c.args.labelling.now.at in
     let sizes = c.can_look.ensures.sizes c.if-not-can_look.false in
-    let here : a < m.labels = omega (arith, sizes.1, c.requires.under_way.fits.labels, meant.labels_are) in
-    let metric = metric_meant _ _ _ m c.requires.under_way.posed meant (c.can_look.ensures.metric c.if-not-can_look.false) in
-    let allowed = metric_allowed m a c.args.labelling.now.labels f c.as_slice.result.now (pairs_meant _ _ _ m c.requires.under_way.posed meant) metric here
-    (c.requires.under_way.fits.labels ∙ sym meant.labels_are) (c.requires.under_way.fits.sites ∙ sym meant.sites_are) c.as_slice.ensures.value c.as_slice.ensures.below in
+    let here : a < m.labels = omega (arith, sizes.1, c.requires.working.fits.labels, meant.labels_are) in
+    let metric = metric_meant _ _ _ m c.requires.working.posed meant (c.can_look.ensures.metric c.if-not-can_look.false) in
+    let allowed = metric_allowed m a c.args.labelling.now.labels f c.as_slice.result.now (pairs_meant _ _ _ m c.requires.working.posed meant) metric here
+    (c.requires.working.fits.labels ∙ sym meant.labels_are) (c.requires.working.fits.sites ∙ sym meant.sites_are) c.as_slice.ensures.value c.as_slice.ensures.below in
     let p = err_from_is_err_and c.from_residual.result c.from_residual.ensures.1 in
     rw (p.1, p.2) (
       refl,
@@ -30,25 +30,25 @@ returns-in_err-look-clause-moved g c = λ m meant.
     )
 
 pub returns-clause-moved : goal.returns-clause-moved
-returns-clause-moved g c = λ m meant.
+returns-clause-moved g c = λ m meant stamped.
     let a = c.args.alpha in
     let f = c.args.labelling.now.at in
     let took = is_marked c.look.new.space.stage.taken.items in
-    let pairs = pairs_meant _ _ _ m c.requires.under_way.posed meant in
+    let pairs = pairs_meant _ _ _ m c.requires.working.posed meant in
     let sizes = c.can_look.ensures.sizes c.if-not-can_look.false in
-    let size = c.requires.under_way.fits.sites ∙ sym meant.sites_are in
-    let here : a < m.labels = omega (arith, sizes.1, c.requires.under_way.fits.labels, meant.labels_are) in
-    let metric = metric_meant _ _ _ m c.requires.under_way.posed meant (c.can_look.ensures.metric c.if-not-can_look.false) in
+    let size = c.requires.working.fits.sites ∙ sym meant.sites_are in
+    let here : a < m.labels = omega (arith, sizes.1, c.requires.working.fits.labels, meant.labels_are) in
+    let metric = metric_meant _ _ _ m c.requires.working.posed meant (c.can_look.ensures.metric c.if-not-can_look.false) in
     let allowed = metric_allowed m a c.args.labelling.now.labels f c.as_slice.result.now pairs metric here
-    (c.requires.under_way.fits.labels ∙ sym meant.labels_are) size c.as_slice.ensures.value c.as_slice.ensures.below in
+    (c.requires.working.fits.labels ∙ sym meant.labels_are) size c.as_slice.ensures.value c.as_slice.ensures.below in
     let free = costs_free m c.args.problem.now.label_costs meant.costs_are (c.can_look.ensures.free c.if-not-can_look.false) in
     let W : List ℕ → Type 0 = λ h. WasExpanded m a (changed_after c.args.changes.now a) (labelling h) in
     let L : List ℕ → Type 0 = λ h. IsSmallestLeast m.sites (move_value m (Expand a) (labelling h)) took in
-    let was = (c.requires.under_way.stamped m meant).known a (c.can_look.ensures.known c.if-not-can_look.false) in
+    let was = stamped.known a (c.can_look.ensures.known c.if-not-can_look.false) in
     let least = subst L c.as_slice.ensures.value (c.in_ok-look.ensures.least m meant c.if-not-branch.false (subst W (sym c.as_slice.ensures.value) was)) in
     let taking = c.in_ok-look.ensures.taking c.if-not-branch.false in
     let taken = c.take.ensures.each took (λ p l.
-    subst (λ (xs : List ℕ). (took p ≡ true) ↔ Contains xs p) (sym c.deref.ensures.value) (taking.listed p (omega (arith, l, c.requires.under_way.fits.sites)))) in
+    subst (λ (xs : List ℕ). (took p ≡ true) ↔ Contains xs p) (sym c.deref.ensures.value) (taking.listed p (omega (arith, l, c.requires.working.fits.sites)))) in
     (here, allowed, taken_best m a f c.take.new.labelling.at took pairs free size c.take.ensures.sizes.sites least taken, c.take.ensures.changed, tt)
 
 pub returns-clause-made : goal.returns-clause-made
@@ -56,7 +56,7 @@ returns-clause-made g c =
     let took = is_marked c.look.new.space.stage.taken.items in
     let taking = c.in_ok-look.ensures.taking c.if-not-branch.false in
     let taken = c.take.ensures.each took (λ p l.
-    subst (λ (xs : List ℕ). (took p ≡ true) ↔ Contains xs p) (sym c.deref.ensures.value) (taking.listed p (omega (arith, l, c.requires.under_way.fits.sites)))) in
+    subst (λ (xs : List ℕ). (took p ≡ true) ↔ Contains xs p) (sym c.deref.ensures.value) (taking.listed p (omega (arith, l, c.requires.working.fits.sites)))) in
     (values_reach (Expand c.args.alpha) c.args.labelling.now.at c.take.new.labelling.at took taken, c.take.ensures.changed)
 
 pub returns-clause-taken : goal.returns-clause-taken
@@ -64,13 +64,13 @@ returns-clause-taken g c =
     let took = is_marked c.look.new.space.stage.taken.items in
     let taking = c.in_ok-look.ensures.taking c.if-not-branch.false in
     let taken = c.take.ensures.each took (λ p l.
-    subst (λ (xs : List ℕ). (took p ≡ true) ↔ Contains xs p) (sym c.deref.ensures.value) (taking.listed p (omega (arith, l, c.requires.under_way.fits.sites)))) in
+    subst (λ (xs : List ℕ). (took p ≡ true) ↔ Contains xs p) (sym c.deref.ensures.value) (taking.listed p (omega (arith, l, c.requires.working.fits.sites)))) in
     let T : ℕ → Type 0 = λ n. AreTaking n c.look.new.space.stage in
-    (subst T (sym c.requires.under_way.fits.sites) taking, taken, c.can_look.ensures.free c.if-not-can_look.false)
+    (subst T (sym c.requires.working.fits.sites) taking, taken, c.can_look.ensures.free c.if-not-can_look.false)
 
 pub look-requires-clause-asked : goal.look-requires-clause-asked
 look-requires-clause-asked g c = λ κs lives.
-    let u = c.requires.under_way in
+    let u = c.requires.working in
     let sizes = c.can_look.ensures.sizes c.if-not-can_look.false in
     let B : ℕ → Type 0 = λ k. All (λ label. label < k) c.as_slice.result.now in
     record {
@@ -86,7 +86,7 @@ look-requires-clause-asked g c = λ κs lives.
 
 pub look-requires-clause-allowed : goal.look-requires-clause-allowed
 look-requires-clause-allowed g c = λ κs lives m meant.
-    let u = c.requires.under_way in
+    let u = c.requires.working in
     let at = c.as_slice.result.now in
     let sizes = c.can_look.ensures.sizes c.if-not-can_look.false in
     metric_allowed m c.args.alpha c.args.labelling.now.labels at at (pairs_meant _ _ _ m u.posed meant)

@@ -1,5 +1,6 @@
 use Rattle.std.proofs.Common.{◌∙◌, refl}
 use Rattle.std.proofs.lemmas.Result.{err_from_is_err_and}
+use Rattle.moves.proofs.UnderWay.{over_of}
 use Rattle.moves.proofs.under_way.RunUnderWay.finish.Goals as goal
 
 pub loop-self-init : goal.loop-self-init
@@ -24,9 +25,9 @@ returns-in-Some-clause-chain g c = λ kind cycles start from. record {
   own = tt;
 }
 
-pub advance-requires-clause-under_way : goal.advance-requires-clause-under_way
-advance-requires-clause-under_way g c = λ κs lives.
-    let run = c.requires.under_way in (run.0, run.1, run.2, c.loop-self.invariant.run run.0 run.1 run.2 run.3)
+pub advance-requires-clause-over : goal.advance-requires-clause-over
+advance-requires-clause-over g c = λ κs lives.
+    let run = c.requires.under_way in over_of _ _ _ run.0 run.1 run.2 _ _ (c.loop-self.invariant.run run.0 run.1 run.2 run.3)
 
 pub returns-in_err-advance-clause-chain : goal.returns-in_err-advance-clause-chain
 returns-in_err-advance-clause-chain g c = λ kind cycles start from.

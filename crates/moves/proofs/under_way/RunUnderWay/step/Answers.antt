@@ -2,7 +2,10 @@ use Rattle.std.proofs.Common.{◌≡◌, Some, slice_get, refl, sym, subst}
 use Rattle.std.proofs.lemmas.Result.{err_from_is_err_and}
 use Rattle.moves.specs.declared.course.Course.{Course}
 use Rattle.moves.specs.Courses.{cycle_of}
-use Rattle.moves.proofs.UnderWay.{run_kept}
+use Rattle.label_energies.specs.Energies.{labelling}
+use Rattle.near_changes.specs.declared.changes.Changes.{Changes}
+use Rattle.near_changes.specs.Changes.{AreStamped}
+use Rattle.moves.proofs.UnderWay.{over_of, run_kept}
 use Rattle.moves.proofs.under_way.RunUnderWay.step.Goals as goal
 
 pub returns-in_err-advance-clause-chain : goal.returns-in_err-advance-clause-chain
@@ -26,5 +29,16 @@ returns-clause-chain g c = λ kind cycles start from.
 
 pub returns-clause-best : goal.returns-clause-best
 returns-clause-best g c = λ m meant.
+    let run = c.requires.under_way.3 in
+    let kept = c.remember.ensures.same in
     let S : Course → Type 0 = λ s. slice_get (cycle_of s) s.place ≡ Some c.ahead-change.result in
-    c.in_ok-advance.ensures.best m meant c.ahead-change.result (refl, subst S (sym c.remember.ensures.same.2) c.ahead-change.ensures.at)
+    let R : Changes → Type 0 = λ s. AreStamped m (labelling c.args.labelling.now.at) s in
+    c.in_ok-advance.ensures.best m meant (subst R (sym kept.1) (run.under_way.stamped m meant)) c.ahead-change.result
+    (refl, subst S (sym kept.2) c.ahead-change.ensures.at)
+
+pub advance-requires-clause-over : goal.advance-requires-clause-over
+advance-requires-clause-over g c = λ κs lives.
+    let run = c.requires.under_way in
+    let kept = c.remember.ensures.same in
+    over_of _ _ c.args.problem.now run.0 run.1 run.2 _ _
+    (run_kept _ _ c.args.problem.now run.0 run.1 run.2 c.args.labelling.now c.args.self.now c.remember.new.self kept.0 kept.1 kept.2 run.3)
