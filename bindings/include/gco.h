@@ -22,7 +22,7 @@
  * What the caller owes, since nothing in C can test it: each array has as many elements as its count says, is aligned as
  * its type asks, overlaps no other that the call writes, and is left alone by other threads while the call runs. A
  * pointer to an array of no elements may be NULL. What a call writes are `labels` and `told` (`assignment` and `told`
- * of gco_minimise), nothing else. Its memory comes from malloc and is given back before it returns; it takes about 10 KB
+ * of gco_minimise; of gco_label_stretch what it is lent, too), nothing else. Its memory comes from malloc and is given back before it returns; it takes about 10 KB
  * of stack, whatever the size of the problem. Not to be called from a signal handler.
  *
  * What the caller may give: anything else. Each length, range, label, site and pair is tested before it is used, and what
@@ -91,6 +91,9 @@ enum {
     GCO_LABEL_COST_IN_SWAP = 27, /* swaps, where some label costs more than 0 by itself */
     GCO_NOT_REGULAR = 24,       /* the term of pairs[place] in the move of alpha and beta is not regular: the smooth costs
                                  * are no metric */
+    GCO_NO_SUCH_COURSE = 28,    /* gco_label_stretch: stamp_count is not site_count, made_count is not label_count, or the
+                                 * course is past the end of its cycles */
+    GCO_UNFINISHED = 29,        /* gco_label_stretch: no refusal. The moves are made, and the run is not at its end */
     GCO_TERM_NOT_REGULAR = 20   /* gco_minimise: term `place` is not regular; of three variables, where `fixed` is `fixed_at` */
 };
 
@@ -126,6 +129,61 @@ uint32_t gco_label_int32(uint32_t label_count,
                          uint32_t moves, uint32_t cycles,
                          uint32_t *labels, size_t site_count,
                          gco_outcome *told);
+
+/* Where a run stands between two of its moves. All is 0 before the first one. */
+typedef struct gco_course {
+    uint32_t cycles;  /* how many whole cycles were made */
+    uint32_t place;   /* the place of the next move in its cycle, from 0 */
+    uint32_t last;    /* the place of the move that changed a label last; the number of moves of a cycle where none did */
+    uint32_t changed; /* 1 where a move of this cycle changed a label, else 0 */
+    uint32_t noted;   /* the number of the last expansion that was noted */
+} gco_course;
+
+/* A stretch of what gco_label does: at most `most` moves, and then control comes back. So a long run can be watched, and
+ * left after any call. It is lent the labels, where the run stands, and two arrays: `stamps` has a number for each site,
+ * `made` one for each label. They are all 0 where a run begins. Each call hands them back for the next.
+ *
+ *     gco_course course = {0};
+ *     uint32_t *stamps = calloc(site_count, 4), *made = calloc(label_count, 4);
+ *     do
+ *         status = gco_label_stretch(.., GCO_EXPANSION, GCO_ALL_CYCLES, 8, &course, stamps, site_count, made, label_count,
+ *                                    labels, site_count, &told);
+ *     while (status == GCO_UNFINISHED && go_on(&told));
+ *
+ * GCO_UNFINISHED: the labels are where a beginning of the run ends; `told.cycles` says how many cycles were whole.
+ * GCO_OK: the run ended, with the labels, cycles and bound of gco_label. `course`, `stamps` and `made` are as they were.
+ * Else the call was refused, and all that it was lent is as it was.
+ *
+ * All calls of a run take the same problem, `moves` and `cycles`. This is not tested, nor is what the arrays say. Of other
+ * numbers than those of the call before no more is promised than that the labels are below label_count.
+ *
+ * A call tests its arrays and groups the pairs anew, so make as many moves as take half a second.
+ *
+ * Told: data, smooth, label, cycles; where the run ended vmin, vmax and settled, too. */
+uint32_t gco_label_stretch(uint32_t label_count,
+                           const int64_t *data, size_t data_count,
+                           const int64_t *smooth, size_t smooth_count,
+                           const int64_t *label_costs, size_t label_cost_count,
+                           const gco_pair *pairs, size_t pair_count,
+                           uint32_t moves, uint32_t cycles, uint32_t most,
+                           gco_course *course,
+                           uint32_t *stamps, size_t stamp_count,
+                           uint32_t *made, size_t made_count,
+                           uint32_t *labels, size_t site_count,
+                           gco_outcome *told);
+
+/* What gco_label_stretch does, over costs of 32 bits. */
+uint32_t gco_label_stretch_int32(uint32_t label_count,
+                                 const int32_t *data, size_t data_count,
+                                 const int32_t *smooth, size_t smooth_count,
+                                 const int32_t *label_costs, size_t label_cost_count,
+                                 const gco_pair *pairs, size_t pair_count,
+                                 uint32_t moves, uint32_t cycles, uint32_t most,
+                                 gco_course *course,
+                                 uint32_t *stamps, size_t stamp_count,
+                                 uint32_t *made, size_t made_count,
+                                 uint32_t *labels, size_t site_count,
+                                 gco_outcome *told);
 
 /* One move: every site keeps its label or takes `alpha`, to the best of these labellings.
  *

@@ -34,21 +34,32 @@ class Problem:
             return f
         return min((g for g in reached if self.energy(g) == least), key=lambda g: g.count(move[-1]))
 
-    def run(self, moves, cycles, f):
+    def order(self, moves):
         k = self.labels
+        return [(a,) for a in range(k)] if moves == "expansion" else [(a, b) for a in range(k) for b in range(a + 1, k)]
+
+    def run(self, moves, cycles, f):
+        *_, told = self.steps(moves, cycles, f)
+        return told
+
+    def steps(self, moves, cycles, f):
+        """The labels after each move of a run, and at last what the run answers."""
         if moves == "swap" and any(self.costs):
-            return ("refused", 27, 0, 0, 0)
-        order = [(a,) for a in range(k)] if moves == "expansion" else [(a, b) for a in range(k) for b in range(a + 1, k)]
+            yield ("refused", 27, 0, 0, 0)
+            return
         for cycle in range(cycles):
             before = f
-            for move in order:
+            for move in self.order(moves):
                 place = self.irregular(move, f)
                 if place is not None:
-                    return ("refused", 24, place, move[0], move[-1])
+                    yield ("refused", 24, place, move[0], move[-1])
+                    return
                 f = self.best(move, f)
+                yield f
             if f == before:
-                return (f, *self.parts(f), cycle + 1, True)
-        return (f, *self.parts(f), cycles, False)
+                yield (f, *self.parts(f), cycle + 1, True)
+                return
+        yield (f, *self.parts(f), cycles, False)
 
 
 def least_cut(nodes, tedges, edges):

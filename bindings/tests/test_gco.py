@@ -162,10 +162,11 @@ def progress():
     whole = gco.label(DATA, gco.potts(3), PAIRS)
     steps = gco.label(DATA, gco.potts(3), PAIRS, progress=lambda *words: told.append(words))
     assert list(steps.labels) == list(whole.labels) and steps[1:] == whole[1:]
-    assert [words[:2] for words in told] == [(c, l) for c in range(1, whole.cycles + 1) for l in range(3)]
-    assert told[-1][3] == whole.energy and all(words[2] == 0 for words in told[-3:]) and any(words[2] for words in told)
-    stopped = gco.label(DATA, gco.potts(3), PAIRS, progress=lambda cycle, label, changed, energy: label < 1)
-    assert stopped.cycles == 1 and not stopped.settled and stopped.energy == told[1][3]
+    moves = [(c, l) for c in range(1, whole.cycles + 1) for l in range(3)]
+    assert told[0][:2] == moves[0] and told[-1][:2] == moves[-1] and told[-1][3] == whole.energy
+    assert sorted({words[:2] for words in told}) == [words[:2] for words in told] and any(words[2] for words in told)
+    stopped = gco.label(DATA, gco.potts(3), PAIRS, progress=lambda cycle, label, changed, energy: False)
+    assert stopped.cycles == 1 and not stopped.settled and stopped.energy == told[0][3]
 
 
 class Bar:
@@ -179,9 +180,9 @@ class Bar:
     def set_postfix(self, energy, changed, refresh):
         self.energy = energy
 
-    def update(self):
+    def update(self, more=1):
         assert not self.closed
-        self.n += 1
+        self.n += more
 
     def close(self):
         self.closed = True

@@ -1,4 +1,4 @@
-"""The shared library: where it is found, its structures and its six calls."""
+"""The shared library: where it is found, its structures and its calls."""
 import ctypes
 import os
 import pathlib
@@ -8,6 +8,7 @@ ANY_SIZE = 2**64 - 1
 SITE_LIMIT, LABEL_LIMIT, PAIR_LIMIT = 1048576, 256, 4194304
 WEIGHT_LIMIT, DATA_LIMIT, SMOOTH_LIMIT, LABEL_COST_LIMIT = 1000, 10000000, 10000, 10000000
 VARIABLE_LIMIT, TERM_LIMIT, VALUE_LIMIT = 2097152, 8388608, 1000000000
+UNFINISHED = 29  # the status of a stretch whose run is not at its end
 MOVES = {"expansion": 0, "swap": 1}
 
 
@@ -18,6 +19,13 @@ class Outcome(ctypes.Structure):
                 ("place", ctypes.c_uint64), ("vmin", ctypes.c_uint64), ("vmax", ctypes.c_uint64),
                 ("cycles", ctypes.c_uint32), ("settled", ctypes.c_uint32),
                 ("changed", ctypes.c_uint32), ("alpha", ctypes.c_uint32), ("beta", ctypes.c_uint32)]
+
+
+class Course(ctypes.Structure):
+    """gco_course of gco.h: all is 0 where a run begins."""
+
+    _fields_ = [("cycles", ctypes.c_uint32), ("place", ctypes.c_uint32), ("last", ctypes.c_uint32),
+                ("changed", ctypes.c_uint32), ("noted", ctypes.c_uint32)]
 
 
 class Minimum(ctypes.Structure):
@@ -54,6 +62,9 @@ _TABLES = [_U32, *_SLICE, *_SLICE, *_SLICE, *_SLICE]
 for _call, _types in [
     (calls.gco_label, [*_TABLES, _U32, _U32, *_SLICE, _OUT]),
     (calls.gco_label_int32, [*_TABLES, _U32, _U32, *_SLICE, _OUT]),
+    (calls.gco_label_stretch, [*_TABLES, _U32, _U32, _U32, _OUT, *_SLICE, *_SLICE, *_SLICE, _OUT]),
+    (calls.gco_label_stretch_int32,
+     [*_TABLES, _U32, _U32, _U32, _OUT, *_SLICE, *_SLICE, *_SLICE, _OUT]),
     (calls.gco_expand, [*_TABLES, _U32, *_SLICE, _OUT]),
     (calls.gco_swap, [*_TABLES, _U32, _U32, *_SLICE, _OUT]),
     (calls.gco_lower_bound, [*_TABLES, _U32, ctypes.c_uint64, *_SLICE, _OUT]),

@@ -3,7 +3,7 @@ import ctypes
 import math
 import signal
 import threading
-from typing import Any, Callable, List, NamedTuple, Optional, Tuple
+from typing import Any, NamedTuple, Optional, Tuple
 
 from . import _library, arrays
 from ._library import ALL_CYCLES, MOVES, calls
@@ -11,9 +11,10 @@ from .arrays import is_narrow, run_of, shape_of, taken, whole
 from .grids import run_of_pairs
 from .progress import bar
 from .refusals import Refused
+from .stretches import run
 
-# a problem of so many costs or more is run move by move, so that Ctrl-C stops it after the move
-LONG = 1 << 22
+# a problem of so many costs or more is run by stretches, so that Ctrl-C stops it after one
+LONG = 1 << 16
 
 
 class _Found(NamedTuple):
@@ -165,12 +166,16 @@ class Problem:
 
     def make(self, call: Any, *numbers: int) -> _library.Outcome:
         """One call of the library over these arrays, or a Refused."""
-        told = self.told
-        status = call(self.label_count, *self.slices, *numbers, self.at, self.sites,
-                      ctypes.addressof(told))
+        status = self.status_of(call, *numbers)
         if status:
             raise self.refused(status)
-        return told
+        return self.told
+
+    def status_of(self, call: Any, *numbers: int) -> int:
+        """The status of one call of the library over these arrays."""
+        status: int = call(self.label_count, *self.slices, *numbers, self.at, self.sites,
+                           ctypes.addressof(self.told))
+        return status
 
     def energy(self) -> int:
         return self.told.data + self.told.smooth + self.told.label
@@ -211,13 +216,14 @@ def label(data: Any, smooth: Any, pairs: Any, *, label_costs: Any = None,
     to 10,000,000, or none. Raises Refused, ValueError for a wrong shape, TypeError for numbers with
     a fraction, and OverflowError for numbers beyond their bits.
 
-    `progress` is called after each move with the cycle (from 1), the label of the move (of a swap
-    both), how many sites changed, and the energy. Where it answers False the run stops there, not
-    settled. True stands for a bar of tqdm where that is there, else for lines on standard error.
+    `progress` is called about twice a second, after some moves, with the cycle (from 1), the label
+    of the last of them (of a swap both), how many sites changed since the call before, and the
+    energy. Where it answers False the run stops there, not settled. True stands for a bar of tqdm
+    where that is there, else for lines on standard error.
 
-    Ctrl-C stops a run that is `stoppable` after the move that is being made: the KeyboardInterrupt
-    has what was found till then as `partial`, which is None before the first move. A run is
-    stoppable if it has 4,194,304 data costs or more, where nothing else is said. It takes longer.
+    Ctrl-C stops a run that is `stoppable` within half a second, or after the move that is being
+    made: the KeyboardInterrupt has what was found till then as `partial`, which is None before the
+    first move. A run is stoppable if it has 65,536 data costs or more, where nothing else is said.
 
     `scale` lets costs and weights have fractions, and costs be below 0; inf in `data` is a label
     that is never taken. They are shifted and scaled as gco_proved.scaling says, and the answer is a
@@ -236,12 +242,11 @@ def label(data: Any, smooth: Any, pairs: Any, *, label_costs: Any = None,
 
 
 def _labelled(data, smooth, pairs, label_costs, moves, cycles, start, progress, stoppable):
-    """label, by one call of the library or move by move."""
+    """label, by one call of the library or by stretches."""
     if moves not in MOVES:
         raise ValueError(f"moves: expansion or swap is wanted, and not {moves!r}")
     allowed = ALL_CYCLES if cycles is None else whole(cycles, 0, ALL_CYCLES, "cycles")
-    narrow = progress is None and not stoppable
-    problem = Problem(data, smooth, pairs, label_costs, start, narrow=narrow)
+    problem = Problem(data, smooth, pairs, label_costs, start, narrow=True)
     if stoppable is None:
         stoppable = _stops(problem)
     if progress is None and not stoppable:
@@ -249,69 +254,17 @@ def _labelled(data, smooth, pairs, label_costs, moves, cycles, start, progress, 
         told = problem.make(call, MOVES[moves], allowed)
         bound = (told.vmin, told.vmax) if told.vmax else None
         return problem.found(told.cycles, bool(told.settled), bound)
-    if problem.narrow:
-        problem = Problem(data, smooth, pairs, label_costs, start)
-    problem.make(calls.gco_label, MOVES[moves], 0)  # all that a run refuses but an irregular term
     step = bar(problem.label_count, moves) if progress is True else progress
     return run(problem, moves, allowed, step)
 
 
 def _stops(problem):
-    """Whether a run is to be stopped by Ctrl-C: it is long, and this thread is told of it."""
+    """Whether a run is to be stopped by Ctrl-C: it takes long enough to be, and this thread is told
+    of it.
+    """
     return (problem.sites * problem.label_count >= LONG
             and threading.current_thread() is threading.main_thread()
             and callable(signal.getsignal(signal.SIGINT)))
-
-
-def run(problem: Problem, moves: str, allowed: int, progress: Optional[Callable]) -> Found:
-    """The cycles of a run, move by move.
-
-    A move that comes again with no change since it was made changes nothing, so it is not made.
-    """
-    k = problem.label_count
-    order: List[Tuple[int, ...]]
-    if moves == "expansion":
-        call, order = calls.gco_expand, [(alpha,) for alpha in range(k)]
-    else:
-        call = calls.gco_swap
-        order = [(alpha, beta) for alpha in range(k) for beta in range(alpha + 1, k)]
-    still, cycle = 0, 0  # how many moves in a row are known to change nothing
-    try:
-        for cycle in range(1, allowed + 1):
-            changed_any = False
-            for change in order:
-                changed = 0
-                if still < len(order):
-                    changed = _moved(problem, call, change, progress is not None)
-                    still = 1 if changed else still + 1
-                changed_any = changed_any or changed > 0
-                named = change[0] if len(change) == 1 else change
-                if progress and progress(cycle, named, changed, problem.energy()) is False:
-                    return problem.found(cycle, False)
-            if not changed_any:
-                return problem.found(cycle, True, _bound(problem, moves))
-    except KeyboardInterrupt as stop:
-        stop.partial = problem.found(cycle, False)  # type: ignore[attr-defined]
-        raise
-    return problem.found(allowed, False)
-
-
-def _moved(problem, call, change, counted):
-    """How many sites one move changed; 1 for some where they are not counted."""
-    if not counted:
-        return int(problem.make(call, *change).changed)
-    before = problem.labels[:] if arrays.numpy is None else problem.labels.copy()
-    if not problem.make(call, *change).changed:
-        return 0
-    return arrays.differing(before, problem.labels)
-
-
-def _bound(problem, moves):
-    """The bound of a run that settled, which hangs on the smooth and label costs alone."""
-    told = _library.Outcome()
-    slices = [0, 0, *problem.slices[2:6], 0, 0]
-    calls.gco_label(problem.label_count, *slices, MOVES[moves], 1, 0, 0, ctypes.addressof(told))
-    return (told.vmin, told.vmax) if told.vmax else None
 
 
 def expand(data: Any, smooth: Any, pairs: Any, alpha: int, *, label_costs: Any = None,

@@ -1,7 +1,7 @@
 //! Why a call was refused, and the numbers that tell it.
 ghost use Rattle.std.specs.Prelude.{◌≡◌, ◌≢◌};
 ghost use Rattle.gco_arrays.specs.Statuses.{fixed_numbers, fixed_of, labels_of, told_place};
-ghost use Rattle.gco_arrays.specs.Statuses.{status_of};
+ghost use Rattle.gco_arrays.specs.Statuses.{status_of, unfinished};
 
 use regular::Fixed;
 
@@ -58,13 +58,15 @@ pub enum Refusal {
     },
     /// A swap, where a label costs something by itself.
     LabelCostInSwap,
+    /// What was lent of a run under way has other sizes, or is past the end of its cycles.
+    NoSuchCourse,
 }
 
 impl Refusal {
     /// The number that a call answers for it.
     pub fn status(self) -> u32
         ensures value { result ≡ status_of self }
-        ensures some { result ≢ 0 }
+        ensures some { (result ≢ 0) × (result ≢ unfinished) }
     {
         match self {
             Refusal::OutOfMemory => 1,
@@ -88,6 +90,7 @@ impl Refusal {
             Refusal::TermNotRegular { .. } => 20,
             Refusal::NotRegular { .. } => 24,
             Refusal::LabelCostInSwap => 27,
+            Refusal::NoSuchCourse => 28,
         }
     }
 

@@ -6,12 +6,14 @@ mod bound;
 mod label;
 mod minimise;
 mod moving;
+mod stretch;
 #[cfg(test)]
 mod tests;
 
 pub use bound::gco_lower_bound;
 pub use gco_arrays::{GcoOne, GcoPair, GcoThree, GcoTwo};
-pub use gco_calls::{GcoBound, GcoMinimum, GcoOutcome};
+pub use gco_calls::{GcoBound, GcoCourse, GcoMinimum, GcoOutcome};
 pub use label::{gco_label, gco_label_int32};
 pub use minimise::gco_minimise;
 pub use moving::{gco_expand, gco_swap};
+pub use stretch::{gco_label_stretch, gco_label_stretch_int32};

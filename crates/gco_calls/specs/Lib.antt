@@ -4,3 +4,4 @@ pub mod Minima
 pub mod Moved
 pub mod Outcomes
 pub mod Refusals
+pub mod Stretches

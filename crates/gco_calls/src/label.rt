@@ -67,7 +67,7 @@ fn run_call<N: Number>(
 }
 
 /// The moves that a number names.
-fn moves_of(number: u32) -> Option<Moves>
+pub(crate) fn moves_of(number: u32) -> Option<Moves>
     ensures some { IfSome result (λ moves. number ≡ moves_number moves) }
     ensures none { result ≡ None → (number ≢ 0) × (number ≢ 1) }
 {

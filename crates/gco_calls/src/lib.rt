@@ -3,14 +3,18 @@
 #![tactic(auto)]
 
 mod bound;
+mod course;
 mod label;
 mod minimise;
 mod moving;
 mod outcome;
 mod running;
+mod stretch;
 
 pub use bound::{GcoBound, answer_bound};
+pub use course::GcoCourse;
 pub use label::answer_run;
 pub use minimise::{GcoMinimum, answer_minimum};
 pub use moving::answer_move;
 pub use outcome::GcoOutcome;
+pub use stretch::answer_stretch;

@@ -1,4 +1,4 @@
-"""A run over a picture: its moves and what each leaves, a bar, and Ctrl-C that stops after one."""
+"""A run over a picture: its moves and what they leave, a bar, and Ctrl-C that stops between them."""
 import contextlib
 import signal
 import sys
@@ -6,7 +6,7 @@ import threading
 from concurrent.futures import Future
 from typing import Any, Callable, Iterator, List, NamedTuple, Optional, Tuple
 
-from .. import labelling, progress
+from .. import labelling, progress, stretches
 from .._library import MOVES, calls
 from ..lower_bound import PASSES, LowerBound, lower_bound
 from ..refusals import Refused
@@ -22,7 +22,8 @@ WHAT_TO_DO = {
 
 
 class Step(NamedTuple):
-    """One move: its cycle, its label or labels, how many pixels changed, and the energy's parts."""
+    """Where some moves ended: the cycle and the label or labels of the last, how many pixels
+    changed, and the energy's parts."""
 
     cycle: int
     change: Any
@@ -33,8 +34,8 @@ class Step(NamedTuple):
 
 
 class Ran(NamedTuple):
-    """What a run found, each move of it, and whether Ctrl-C stopped it. Of a run by tiles there are
-    no steps: `done` says how far it came. `low` is a bound, if one was asked for."""
+    """What a run found, its steps, and whether Ctrl-C stopped it. Of a run by tiles there are no
+    steps. `done` says how far it came. `low` is a bound, if one was asked for."""
 
     found: labelling.Found
     steps: List[Step]
@@ -54,7 +55,8 @@ class Wanted(NamedTuple):
 def ran(data: Any, smooth: Any, pairs: Any, label_costs: Any, moves: str, cycles: int,
         drawn: Optional[bool], kept: bool, wanted: Wanted = Wanted(), start: Any = None) -> Ran:
     """Makes the moves; `drawn` asks for a bar, and None for one where a person looks on. Where
-    there is no bar, and no step is to be `kept`, it is one call of the library: that is quicker.
+    there is no bar, and no step is to be `kept`, it is one call of the library. Where steps are
+    kept, there is one for each move, which takes longer.
 
     A run that is to be refined starts from the labels of the bound. The one from 0 goes beside it,
     and the answer is the one of less energy. With two labels one move from 0 reaches each
@@ -66,8 +68,8 @@ def ran(data: Any, smooth: Any, pairs: Any, label_costs: Any, moves: str, cycles
     def run_from(labels: Any, drawn: bool) -> Ran:
         if not drawn and not kept:
             return Ran(_at_once(data, smooth, pairs, label_costs, moves, cycles, labels), [], False)
-        return _by_moves(labelling.Problem(data, smooth, pairs, label_costs, labels), moves, cycles,
-                         drawn)
+        problem = labelling.Problem(data, smooth, pairs, label_costs, labels, narrow=True)
+        return _by_stretches(problem, moves, cycles, drawn, kept)
 
     def bound_by(passes: int) -> LowerBound:
         return lower_bound(data, smooth, pairs, label_costs=label_costs, passes=passes)
@@ -111,8 +113,9 @@ def _lower(ended: Ran, plain: "Future[Ran]") -> Ran:
     return other._replace(low=ended.low) if other.found.energy < ended.found.energy else ended
 
 
-def _by_moves(problem: labelling.Problem, moves: str, cycles: int, drawn: bool) -> Ran:
-    """The moves one by one, each with what it left."""
+def _by_stretches(problem: labelling.Problem, moves: str, cycles: int, drawn: bool,
+                  each: bool) -> Ran:
+    """The moves by stretches, or one by one where each is to be kept, and what they leave."""
     steps: List[Step] = []
     bar = progress.bar(problem.label_count, moves) if drawn else None
 
@@ -122,13 +125,25 @@ def _by_moves(problem: labelling.Problem, moves: str, cycles: int, drawn: bool) 
         if bar:
             bar(cycle, change, changed, energy)
 
-    problem.make(calls.gco_label, MOVES[moves], 0)
+    call = calls.gco_label_int32 if problem.narrow else calls.gco_label
+    problem.make(call, MOVES[moves], 0)
     told = problem.told
     steps.append(Step(0, None, 0, told.data, told.smooth, told.label))
+    plain = problem.found(0, False)
     try:
-        return Ran(labelling.run(problem, moves, cycles, step), steps, False)
+        return Ran(stretches.run(problem, moves, cycles, step, each), steps, False)
     except KeyboardInterrupt as stop:
-        return Ran(stop.partial, steps, True)  # type: ignore[attr-defined]
+        found = stop.partial or plain  # type: ignore[attr-defined]
+        return Ran(found, steps, True, done=f"{_moves_made(steps[-1], problem, moves)} moves")
+
+
+def _moves_made(step: Step, problem: labelling.Problem, moves: str) -> int:
+    """How many moves of a run were made where its last step is this one."""
+    if not step.cycle:
+        return 0
+    k = problem.label_count
+    whole = (step.cycle - 1) * progress.cycle_length(k, moves)
+    return whole + progress.moves_till(step.change, k)
 
 
 @contextlib.contextmanager
