@@ -179,7 +179,7 @@ fn take(labelling: &mut Labelling, alpha: u32, sites: &[u32]) -> bool
 /// at can matter. It answers nothing, and changes nothing, where the expansion is to be made whole.
 /// Refused as an expansion is, the labels as they were. The labels are those of the whole expansion
 /// where what is remembered is true of the labels before.
-pub(crate) fn make_later<F: Fn(u32, u32) -> i64 + Sync, V: Fn(u32, u32) -> i64 + Sync, H: How>(
+pub(crate) fn make_later<F: Fn(u32, u32) -> i64 + Sync, V: Fn(u32, u32) -> i64 + Sync, H: Sharing>(
     problem: &Problem<F, V>,
     space: &mut Workspace,
     labelling: &mut Labelling,

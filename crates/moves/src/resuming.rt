@@ -8,7 +8,7 @@ ghost use Rattle.moves.specs.Prelude.{IsRunIn, IsStepIn, IsBegun, ended_of};
 use crate::bookmark::{Bookmark, Mark};
 use crate::course::Course;
 use crate::under_way::RunUnderWay;
-use crate::{How, MoveError};
+use crate::{MoveError, Sharing};
 use cost_store::Problem;
 use label_energies::Moves;
 use label_field::Labelling;
@@ -78,7 +78,7 @@ impl RunUnderWay {
 
     /// Makes at most so many moves of the chain, and fewer where the run ends. Refused as the move
     /// that is refused: the run is then under way before that move.
-    pub fn make_moves<F: Fn(u32, u32) -> i64 + Sync, V: Fn(u32, u32) -> i64 + Sync, H: How>(
+    pub fn make_moves<F: Fn(u32, u32) -> i64 + Sync, V: Fn(u32, u32) -> i64 + Sync, H: Sharing>(
         &mut self,
         problem: &Problem<F, V>,
         labelling: &mut Labelling,

@@ -79,7 +79,11 @@ fn note_later<F: Fn(u32, u32) -> i64 + Sync, V: Fn(u32, u32) -> i64 + Sync>(
 impl RunUnderWay {
     /// The next move of a run, where its labels are those of the last. Of swaps nothing is
     /// remembered. It is the chain's where what is remembered is true of the labels before.
-    pub(crate) fn make_next<F: Fn(u32, u32) -> i64 + Sync, V: Fn(u32, u32) -> i64 + Sync, H: How>(
+    pub(crate) fn make_next<
+        F: Fn(u32, u32) -> i64 + Sync,
+        V: Fn(u32, u32) -> i64 + Sync,
+        H: Sharing,
+    >(
         &mut self,
         problem: &Problem<F, V>,
         labelling: &mut Labelling,

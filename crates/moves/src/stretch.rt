@@ -11,7 +11,7 @@ use crate::bookmark::Bookmark;
 use crate::runs::may_make;
 use crate::tables::end_run;
 use crate::under_way::RunUnderWay;
-use crate::{How, LabelPrices, MoveError, Request, Run};
+use crate::{LabelPrices, MoveError, Request, Run, Sharing};
 use cost_store::{DataCost, Problem, SmoothCost};
 use label_field::{Labelling, Pairs};
 use std::alloc::Global;
@@ -44,7 +44,7 @@ pub enum Stretch {
 /// `None` where no run of so many cycles goes on from the bookmark's mark. Refused as
 /// `run_with_table` is. Where the bookmark is that of a run from some start (`WasLeftAt`), the
 /// stretch goes on with its chain, and any stretches one after another end where one run does.
-pub fn stretch_with_table<F: Fn(u32, u32) -> i64 + Sync, H: How>(
+pub fn stretch_with_table<F: Fn(u32, u32) -> i64 + Sync, H: Sharing>(
     alloc: Global,
     pairs: Pairs,
     data_cost: DataCost<F>,
@@ -87,7 +87,7 @@ pub fn stretch_with_table<F: Fn(u32, u32) -> i64 + Sync, H: How>(
 }
 
 /// Makes at most so many moves of a run over a problem, and tells the energy where it stands then.
-fn stretch_problem<F: Fn(u32, u32) -> i64 + Sync, V: Fn(u32, u32) -> i64 + Sync, H: How>(
+fn stretch_problem<F: Fn(u32, u32) -> i64 + Sync, V: Fn(u32, u32) -> i64 + Sync, H: Sharing>(
     alloc: Global,
     problem: &Problem<F, V>,
     request: Request,

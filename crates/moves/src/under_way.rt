@@ -166,7 +166,7 @@ impl RunUnderWay {
     }
 
     /// Makes the next move of the chain: it is the chain's where what is remembered is true.
-    pub(crate) fn advance<F: Fn(u32, u32) -> i64 + Sync, V: Fn(u32, u32) -> i64 + Sync, H: How>(
+    pub(crate) fn advance<F: Fn(u32, u32) -> i64 + Sync, V: Fn(u32, u32) -> i64 + Sync, H: Sharing>(
         &mut self,
         problem: &Problem<F, V>,
         labelling: &mut Labelling,

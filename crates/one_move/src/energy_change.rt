@@ -10,7 +10,7 @@ ghost use Rattle.one_move.specs.Prelude.{turns_label, turned_below, TellsOver, e
 
 use crate::taking::value_of;
 use move_energy::Choice;
-use site_forms::{SiteForm, place_rises, start};
+use site_forms::{SiteForm, rises_of_place, start};
 
 /// The label that a site of this label gets by its value.
 fn label_of(form: &SiteForm, old: u8, value: bool) -> u8
@@ -58,7 +58,7 @@ fn rise_at(form: &SiteForm, choices: &[Choice], site: u32, place: u32) -> i64
         ≡ place_rise (form_of form.now) (turned_below form.now choices.now site) site place }
     ensures small { unsigned_abs result ≤ pair_cost_limit }
 {
-    let rises = place_rises(form, site, place);
+    let rises = rises_of_place(form, site, place);
     let head = form.ends.heads[place as usize];
     if value_below(form, choices, site, head) {
         return i64::from(rises.high);

@@ -19,5 +19,5 @@ mod smooth_costs;
 pub use ends::{head_at, is_first_end};
 pub use lists::FormLists;
 pub use numbers::SiteForm;
-pub use rises::{read_rises, site_rises, start};
+pub use rises::{read_rises, rises_of_place, site_rises, start};
 pub use savings::saving_beside;

@@ -13,7 +13,7 @@ ghost use Rattle.site_forms.specs.Forms.{place_rise};
 ghost use Rattle.site_forms.specs.Numbers.{form_of, Tells, IsSitePlace, AreEndRises};
 ghost use Rattle.site_forms.specs.Numbers.{AreSiteRises};
 
-use crate::ends::{head_at, is_first_end, weight_beside};
+use crate::ends::{head_at, is_first_end, weight_beside, weight_read};
 use crate::numbers::SiteForm;
 use crate::reading::end_rises;
 use move_energy::{Choice, EndRises, Rises, SiteRises, rises_beside};
@@ -45,7 +45,24 @@ pub(crate) fn place_rises<const FEW: bool>(
     )
 }
 
-/// The same at least and at most, by what is known of the neighbour.
+/// The same, for who reads few places: what the form says of all is asked at each.
+pub fn rises_of_place(form: &SiteForm, site: u32, place: u32) -> EndRises
+    requires place { IsSitePlace form.now site place }
+    ensures { AreEndRises form.now (weight_of form.now.ends.now place)
+        (is_first_of form.now.ends.now site place) (labelling form.now.at.now site)
+        (labelling form.now.at.now (neighbour_at form.now.ends.now place)) result }
+{
+    let head = head_at(form, site, place);
+    let weight = weight_read(form, site, place);
+    if form.few {
+        place_rises::<true>(form, site, place, head, weight)
+    } else {
+        place_rises::<false>(form, site, place, head, weight)
+    }
+}
+
+/// The rises of a site as far as the neighbour at a place goes, at least and at most, by what is
+/// known of the neighbour.
 #[inline]
 fn rises_at<const FEW: bool, const EVEN: bool>(
     form: &SiteForm,

@@ -13,8 +13,8 @@ returns-then-value_below-clause-rise c =
     let V = turned_below form a.choices.now a.site in
     let head = head_read form a.site a.place c.index-head.result.now c.requires.place c.index-head.ensures in
     let value : V (neighbour_at form.ends.now a.place) ≡ true = ap V head ∙ sym c.value_below.ensures ∙ c.if-value_below.true in
-    (own_passed c.place_rises-rises.result.high c.from.result c.place_rises-rises.ensures.high_small c.from.ensures).0
-    ∙ c.place_rises-rises.ensures.high ∙ sym (ap (λ (b : Bool). cond b (rise_at_place form true a.site a.place) (rise_at_place form false a.site a.place)) value)
+    (own_passed c.rises_of_place-rises.result.high c.from.result c.rises_of_place-rises.ensures.high_small c.from.ensures).0
+    ∙ c.rises_of_place-rises.ensures.high ∙ sym (ap (λ (b : Bool). cond b (rise_at_place form true a.site a.place) (rise_at_place form false a.site a.place)) value)
 
 pub returns-clause-rise : goal.returns-clause-rise
 returns-clause-rise c =
@@ -23,5 +23,5 @@ returns-clause-rise c =
     let V = turned_below form a.choices.now a.site in
     let head = head_read form a.site a.place c.index-head.result.now c.requires.place c.index-head.ensures in
     let value : V (neighbour_at form.ends.now a.place) ≡ false = ap V head ∙ sym c.value_below.ensures ∙ c.if-value_below.false in
-    (own_passed c.place_rises-rises.result.low c.from-2.result c.place_rises-rises.ensures.low_small c.from-2.ensures).0
-    ∙ c.place_rises-rises.ensures.low ∙ sym (ap (λ (b : Bool). cond b (rise_at_place form true a.site a.place) (rise_at_place form false a.site a.place)) value)
+    (own_passed c.rises_of_place-rises.result.low c.from-2.result c.rises_of_place-rises.ensures.low_small c.from-2.ensures).0
+    ∙ c.rises_of_place-rises.ensures.low ∙ sym (ap (λ (b : Bool). cond b (rise_at_place form true a.site a.place) (rise_at_place form false a.site a.place)) value)
