@@ -8,3 +8,4 @@ pub mod Listing
 pub mod Filling
 pub mod Asking
 pub mod Taking
+pub mod Near

@@ -1,5 +1,6 @@
 -- What is read of a move.
-use Rattle.std.proofs.Common.{◌≡◌, ℕ, ◌*◌, ◌<◌, ◌≤◌, Bool, unsigned_abs, true, false, List, All, ℤ, length, slice_index, sym, ap, ◌∙◌, subst, arith}
+use Rattle.std.proofs.Common.{◌≡◌, ℕ, ◌*◌, ◌<◌, ◌≤◌, Bool, unsigned_abs, true, false, List, [], All, ℤ, pos, length, slice_index, sym, ap, ◌∙◌, subst, arith}
+use Rattle.std.proofs.lemmas.List.Elements.{All-nil}
 use Rattle.label_energies.specs.declared.change.Move.{Move}
 use Rattle.label_energies.specs.declared.change.Move.TheVariants.{Expand, Swap}
 use Rattle.label_energies.specs.Energies.{Instance, labelling}
@@ -11,7 +12,8 @@ use Rattle.move_energy.specs.MoveValues.{data_rise}
 use Rattle.move_energy.specs.declared.rises.EndRises.{EndRises}
 use Rattle.site_forms.specs.declared.smooth_costs.AskedCosts.{AskedCosts}
 use Rattle.site_forms.specs.Fields.{own_at, IsMadeLabel, AreReadOf, HaveRowsOf, AreSymmetric, AreUnitRises, unit_rises_at, AreReadableLists}
-use Rattle.site_forms.specs.Lists.{was_asked, AreAskedCosts, AreMadeAsked, AreCostsSmall}
+use Rattle.site_forms.specs.declared.lists.FormLists.{FormLists}
+use Rattle.site_forms.specs.Lists.{was_asked, AreAskedCosts, AreMadeAsked, AreCostsSmall, IsReadNear}
 use Rattle.site_forms.proofs.Entries.{site_label_within, label_within}
 
 pub some_label : (k : ℕ) (move : Move) → IsMoveOf k move → 0 < k
@@ -73,3 +75,30 @@ lists_of labels own at stays turns smooth symmetric few table within most own_le
   few_labels = λ yes u inside. (let l = label_within at u labels inside within in let f = few_labels yes in omega (arith, l, f));
   rises = λ yes first one other a b. rises yes first one other (site_label_within at labels one within a) (site_label_within at labels other within b);
 }
+
+-- so of lists that have no own rise yet
+pub begun_of : {F V : Type 0} (f : Closure F) (v : Closure V) (problem : Problem F V) (at : List ℕ) (move : Move) (m : Instance) (lists : FormLists)
+    → IsMeant f v problem m → IsAsked problem at move → AreAskedCosts f v problem lists.smooth → AreMadeAsked move at lists.smooth
+    → ((old : ℕ) → old < problem.data_cost.labels → slice_index lists.stays.items old ≡ label_after move old false)
+    → ((old : ℕ) → old < problem.data_cost.labels → slice_index lists.turns.items old ≡ label_after move old true)
+    → ((u : ℕ) → own_at lists.own.items u ≡ pos 0)
+    → IsReadNear m move at lists []
+begun_of {F} {V} f v problem at move m lists meant is known made low high zeros =
+    let labels : problem.data_cost.labels ≡ m.labels = sym meant.labels_are in
+    let L : ℕ → Type 0 = λ n. All (λ l. l < n) at in
+    let M : ℕ → Type 0 = λ n. IsMoveOf n move in
+    let within = subst L labels is.labels in
+    let of = subst M labels is.move_of in
+    record {
+      asked = λ p. false;
+      covers = All-nil _;
+      read = record {
+        sites = is.sites ∙ sym meant.sites_are;
+        labels = within;
+        after = λ old l. (let below : old < problem.data_cost.labels = omega (arith, l, labels) in (low old below, high old below));
+        costs = λ one other a b.
+            known.costs m meant one other (made_within m.labels move at one of within a) (made_within m.labels move at other of within b)
+            (made_was_asked move at one lists.smooth made a) (made_was_asked move at other lists.smooth made b);
+        own_are = λ u l. zeros u;
+      };
+    }

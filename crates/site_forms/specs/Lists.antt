@@ -1,6 +1,7 @@
 -- The lists of which a form is lent.
-use Rattle.std.specs.Prelude.{◌≡◌, ℕ, ◌+◌, ◌*◌, ◌<◌, ◌≤◌, Bool, true, false, List, [], length}
+use Rattle.std.specs.Prelude.{◌≡◌, ℕ, ◌+◌, ◌*◌, ◌<◌, ◌≤◌, Bool, true, false, cond, ℤ, List, [], length}
 use Rattle.std.specs.Prelude.{slice_index, slice_index_or}
+use Rattle.std.specs.List.{All}
 use Rattle.label_field.specs.Limits.{label_limit}
 use Rattle.label_energies.specs.declared.change.Move.{Move}
 use Rattle.label_energies.specs.declared.change.Move.TheVariants.{Expand, Swap}
@@ -8,7 +9,8 @@ use Rattle.label_energies.specs.Energies.{Instance, labelling}
 use Rattle.label_energies.specs.Moves.{label_after}
 use Rattle.cost_store.specs.declared.problem.Problem.{Problem}
 use Rattle.cost_store.specs.Posed.{Closure, WhereMeant}
-use Rattle.site_forms.specs.Fields.{AreReadableLists, AreReadOf, AreSymmetric}
+use Rattle.move_energy.specs.MoveValues.{data_rise}
+use Rattle.site_forms.specs.Fields.{AreReadableLists, AreReadOf, AreSymmetric, own_at}
 use Rattle.site_forms.specs.declared.lists.FormLists.{FormLists}
 use Rattle.site_forms.specs.declared.smooth_costs.AskedCosts.{AskedCosts}
 
@@ -93,3 +95,31 @@ AreFormLists at lists = AreReadableLists lists.own.items at lists.stays.items li
 abbrev pub IsReadOf : Instance → Move → List ℕ → FormLists → Type 0
 IsReadOf m move at lists = AreReadOf m move lists.own.items at lists.stays.items
     lists.turns.items lists.smooth.costs.items
+
+-- ---- at some sites alone
+
+-- the problem in which labels cost only these sites anything
+abbrev pub with_costs_at : (ℕ → Bool) → Instance → Instance
+with_costs_at asked m = record {
+  sites = m.sites;
+  labels = m.labels;
+  data_cost = λ p label. cond (asked p) (m.data_cost p label) 0;
+  smooth_cost = m.smooth_cost;
+  pairs = m.pairs;
+  label_cost = m.label_cost;
+}
+
+-- the own rises of these sites are those of the problem; each of the others is so too, or 0
+pub record AreRisesNear (m : Instance) (move : Move) (at : List ℕ) (own : List ℤ) (sites : List ℕ)
+    : Type 0 where
+  pub asked : ℕ → Bool
+  pub covers : All (λ p. asked p ≡ true) sites
+  pub rises : (u : ℕ) → u < length at
+      → own_at own u ≡ data_rise (with_costs_at asked m) move (labelling at) u
+
+-- the lists were read of a move from these labels, at these sites and maybe at others
+pub record IsReadNear (m : Instance) (move : Move) (at : List ℕ) (lists : FormLists)
+    (sites : List ℕ) : Type 0 where
+  pub asked : ℕ → Bool
+  pub covers : All (λ p. asked p ≡ true) sites
+  pub read : IsReadOf (with_costs_at asked m) move at lists

@@ -1,6 +1,6 @@
 //! The door: the costs of a move, read once into lists. Only this file asks a problem for costs.
 ghost use Rattle.std.specs.Prelude.{◌≡◌, ◌⊎◌, ◌<◌, ◌≤◌, ℕ, length, slice_index, OnOk};
-ghost use Rattle.std.specs.Prelude.{true, unsigned_abs, Bool, ◌+◌, ◌*◌};
+ghost use Rattle.std.specs.Prelude.{true, unsigned_abs, Bool, ◌+◌, ◌*◌, pos, [], All};
 ghost use Rattle.label_field.specs.Limits.{label_limit};
 ghost use Rattle.label_energies.specs.Energies.{labelling, Instance};
 ghost use Rattle.label_energies.specs.Moves.{IsMoveOf, label_after, IsAllowed};
@@ -13,7 +13,7 @@ ghost use Rattle.move_energy.specs.Rising.{table_labels, entry_place};
 ghost use Rattle.site_forms.specs.Fields.{own_at, unit_rise, AreUnitRises, rises_in};
 ghost use Rattle.site_forms.specs.Fields.{unit_rises_at, HaveRowsOf};
 ghost use Rattle.site_forms.specs.Lists.{AreFormLists, IsReadOf, KnowsCosts, HasNoCosts};
-ghost use Rattle.site_forms.specs.Lists.{AreCostsSmall};
+ghost use Rattle.site_forms.specs.Lists.{AreCostsSmall, AreRisesNear, IsReadNear};
 ghost use Rattle.site_forms.specs.Numbers.{IsFormOf, IsOverPairs};
 
 use crate::numbers::SiteForm;
@@ -204,6 +204,40 @@ fn list_own_rises<F: Fn(u32, u32) -> i64 + Sync, V: Fn(u32, u32) -> i64 + Sync>(
     Ok(())
 }
 
+/// Lists 0 for each site.
+fn clear_rises(own: &mut Vec<i32>, sites: usize) -> Result<(), AllocError>
+    ensures count { OnOk result (length own.new.items ≡ sites) }
+    ensures zeros { OnOk result ((u : ℕ) → own_at own.new.items u ≡ pos 0) }
+{
+    own.truncate(0);
+    own.resize(sites, 0)
+}
+
+/// Lists how much more the label costs each of these sites where its value turns from 0 to 1.
+fn add_own_rises<F: Fn(u32, u32) -> i64 + Sync, V: Fn(u32, u32) -> i64 + Sync>(
+    own: &mut [i32],
+    problem: &Problem<F, V>,
+    at: &[u8],
+    change: Move,
+    sites: &[u32],
+)
+    requires posed { IsPosed F.Fn V.Fn problem.now }
+    requires asked { IsAsked problem.now at.now change }
+    requires count { length own.old ≡ length at.now }
+    requires small { (u : ℕ) → unsigned_abs (own_at own.old u) ≤ site_cost_limit }
+    requires inside { All (λ p. p < length at.now) sites.now }
+    ensures count { length own.new ≡ length at.now }
+    ensures small { (u : ℕ) → unsigned_abs (own_at own.new u) ≤ site_cost_limit }
+    ensures rises { WhereMeant F.Fn V.Fn problem.now
+        (λ m. AreRisesNear m change at.now own.old [] →
+        AreRisesNear m change at.now own.new sites.now) }
+{
+    for place in 0..sites.len() {
+        let site = sites[place];
+        own[site as usize] = own_rise(problem, at, change, site);
+    }
+}
+
 impl FormLists {
     /// Of no move. It takes no memory.
     pub fn empty(alloc: Global) -> FormLists
@@ -275,6 +309,52 @@ impl FormLists {
         list_labels(&mut self.turns, change, true, labels)?;
         self.make_table(labels, at.len())?;
         list_own_rises(&mut self.own, problem, at, change)
+    }
+
+    /// Reads the costs of a move from these labels but for what labels cost sites, which
+    /// `read_sites` reads. It refuses only where memory runs out.
+    pub fn begin<F: Fn(u32, u32) -> i64 + Sync, V: Fn(u32, u32) -> i64 + Sync>(
+        &mut self,
+        problem: &Problem<F, V>,
+        at: &[u8],
+        change: Move,
+    ) -> Result<(), AllocError>
+        requires posed { IsPosed F.Fn V.Fn problem.now }
+        requires asked { IsAsked problem.now at.now change }
+        requires few { problem.now.data_cost.labels ≤ label_limit }
+        requires known { KnowsCosts F.Fn V.Fn problem.now self.old }
+        ensures known { KnowsCosts F.Fn V.Fn problem.now self.new }
+        ensures lists { OnOk result (AreFormLists at.now self.new) }
+        ensures read { OnOk result (WhereMeant F.Fn V.Fn problem.now
+            (λ m. IsReadNear m change at.now self.new [])) }
+    {
+        let labels = problem.data_cost.labels;
+        self.smooth.ask_all(problem, at, change)?;
+        list_labels(&mut self.stays, change, false, labels)?;
+        list_labels(&mut self.turns, change, true, labels)?;
+        self.make_table(labels, at.len())?;
+        clear_rises(&mut self.own, at.len())
+    }
+
+    /// Reads how much more the move's label costs each of these sites.
+    pub fn read_sites<F: Fn(u32, u32) -> i64 + Sync, V: Fn(u32, u32) -> i64 + Sync>(
+        &mut self,
+        problem: &Problem<F, V>,
+        at: &[u8],
+        change: Move,
+        sites: &[u32],
+    )
+        requires posed { IsPosed F.Fn V.Fn problem.now }
+        requires asked { IsAsked problem.now at.now change }
+        requires lists { AreFormLists at.now self.old }
+        requires inside { All (λ p. p < length at.now) sites.now }
+        ensures smooth { self.new.smooth ≡ self.old.smooth }
+        ensures lists { AreFormLists at.now self.new }
+        ensures read { WhereMeant F.Fn V.Fn problem.now
+            (λ m. IsReadNear m change at.now self.old [] →
+            IsReadNear m change at.now self.new sites.now) }
+    {
+        add_own_rises(self.own.as_mut_slice(), problem, at, change, sites);
     }
 
     /// The form that the lists tell, of these labels and of the neighbours by these pairs.
