@@ -22,7 +22,7 @@ pub use Rattle.moves.specs.Refusals.{IsRefusalOver}
 pub use Rattle.moves.specs.Runs.{MayMake, AnswersRun, IsRunInRange}
 pub use Rattle.moves.specs.Stages.{IsStageReady, AreStageZeros, AreStageFresh, IsTakenLeast}
 pub use Rattle.moves.specs.Stages.{IsLater, IsUnderWay, AreStampsOf, EndsMove}
-pub use Rattle.moves.specs.Stages.{KeepsFreshSites}
+pub use Rattle.moves.specs.Stages.{KeepsFreshSites, HasNumbersNear}
 pub use Rattle.moves.specs.Courses.{LeadsBest, labels_changed, IsBegun}
 pub use Rattle.moves.specs.UnderWay.{IsRunFrom, IsSomeRun, IsStepOf, TellsStep, IsAhead, ended_of}
 pub use Rattle.moves.specs.UnderWay.{cycles_of, left_of}

@@ -6,10 +6,14 @@ use Rattle.label_field.specs.LabelFields.{LabelField}
 use Rattle.label_field.specs.PairLists.{PairList}
 use Rattle.cost_store.specs.declared.problem.Problem.{Problem}
 use Rattle.cost_store.specs.Posed.{Closure, IsPosed, FitsProblem, WhereMeant}
+use Rattle.label_energies.specs.declared.change.Move.{Move}
 use Rattle.label_energies.specs.declared.change.Move.TheVariants.{Expand}
 use Rattle.label_energies.specs.Energies.{Instance, labelling}
 use Rattle.move_energy.specs.BySite.{AreBySite}
 use Rattle.move_energy.specs.Choices.{choice_at, AreOpenSites}
+use Rattle.move_energy.specs.OpenMoves.{IsAllowedFrom}
+use Rattle.site_forms.specs.declared.lists.FormLists.{FormLists}
+use Rattle.site_forms.specs.Lists.{AreFormLists, IsReadNear}
 use Rattle.site_bounds.specs.Decisions.{IsSmallestLeast}
 use Rattle.move_energy.specs.MoveValues.{move_value}
 use Rattle.near_changes.specs.declared.changes.Changes.{Changes}
@@ -31,6 +35,14 @@ pub record IsStageReady (pairs : PairList) (space : Workspace) : Type 0 where
   pub listed : (p : ℕ) → p < pairs.sites → is_marked space.stage.fresh.items p ≡ true
       → Contains space.stage.fresh_sites.items p
   pub inside : All (λ p. p < pairs.sites) space.stage.fresh_sites.items
+
+-- the lists have the numbers of a move at these sites and maybe at others, and it is allowed
+pub record HasNumbersNear {F V : Type 0} (f : Closure F) (v : Closure V) (problem : Problem F V)
+    (at : List ℕ) (move : Move) (sites : List ℕ) (numbers : FormLists) : Type 0 where
+  pub sites_are : length at ≡ problem.pairs.sites
+  pub allowed : IsAllowedFrom f v problem at move
+  pub lists : AreFormLists at numbers
+  pub read : WhereMeant f v problem (λ m. IsReadNear m move at numbers sites)
 
 -- the fresh sites stay as they are, and what was grouped and decided
 pub record KeepsFreshSites (old new : Workspace) : Type 0 where

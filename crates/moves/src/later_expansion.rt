@@ -1,5 +1,5 @@
 //! An expansion of a label that was expanded before, which looks only near what changed since.
-ghost use Rattle.std.specs.Prelude.{◌≡◌, ◌↔◌, ◌<◌, ℕ, Bool, true, length, OnOk, OnErr, IfOk};
+ghost use Rattle.std.specs.Prelude.{◌≡◌, ◌↔◌, ◌<◌, ℕ, [], Bool, true, length, OnOk, OnErr, IfOk};
 ghost use Rattle.std.specs.Prelude.{IfErr, IfSome, IsTrue, None};
 ghost use Rattle.std.specs.List.{All, Contains};
 ghost use Rattle.moves.specs.Prelude.{Expand, labelling as labelling_of, costs_of as costs_in};
@@ -7,8 +7,8 @@ ghost use Rattle.moves.specs.Prelude.{AreFree, WhereMeant, AreOfOneSize, made_of
 ghost use Rattle.moves.specs.Prelude.{changed_after, WasExpanded, is_marked, AreTaking};
 ghost use Rattle.moves.specs.Prelude.{IsOfProblem, IsMade, IsCutRefusal, IsMoveRefusal};
 ghost use Rattle.moves.specs.Prelude.{IsStageReady, AreStageZeros, AreStageFresh, IsTakenLeast};
-ghost use Rattle.moves.specs.Prelude.{HasTaken, IsLater, IsWorkingOn, TellsChange, HasNumbersOf};
-ghost use Rattle.moves.specs.Prelude.{AreStamped};
+ghost use Rattle.moves.specs.Prelude.{HasTaken, IsLater, IsWorkingOn, TellsChange};
+ghost use Rattle.moves.specs.Prelude.{AreStamped, HasNumbersNear};
 ghost use Rattle.moves.specs.Prelude.{IsAllowedFrom};
 
 use crate::opening_apart::open_apart;
@@ -67,8 +67,8 @@ fn can_look<F: Fn(u32, u32) -> i64 + Sync, V: Fn(u32, u32) -> i64 + Sync>(
         && are_few(&changes.stamps, since, labelling.as_slice(), alpha)
 }
 
-/// Reads the numbers of the expansion, and makes the first stage ready: by parts of the sites that
-/// look by themselves first, where the way to cut asks for parts.
+/// Begins to read the numbers of the expansion, and makes the first stage ready: by parts of the
+/// sites that look by themselves first, where the way to cut asks for parts.
 fn begin_stages<F: Fn(u32, u32) -> i64 + Sync, V: Fn(u32, u32) -> i64 + Sync, H: Sharing>(
     problem: &Problem<F, V>,
     space: &mut Workspace,
@@ -82,8 +82,8 @@ fn begin_stages<F: Fn(u32, u32) -> i64 + Sync, V: Fn(u32, u32) -> i64 + Sync, H:
     requires allowed { IsAllowedFrom F.Fn V.Fn problem.now at.now (Expand alpha) }
     requires stamps { length changes.now.stamps.items ≡ length at.now }
     ensures of_problem { IsOfProblem F.Fn V.Fn problem.now space.new }
-    ensures numbers { OnOk result
-        (HasNumbersOf F.Fn V.Fn problem.now at.now (Expand alpha) space.new) }
+    ensures numbers { OnOk result (HasNumbersNear F.Fn V.Fn problem.now at.now (Expand alpha) []
+        space.new.deciding.numbers) }
     ensures stage { OnOk result (IsStageReady problem.now.pairs space.new) }
     ensures fresh { WhereMeant F.Fn V.Fn problem.now
         (λ m. OnOk result (AreStageFresh m alpha at.now changes.now space.new)) }
@@ -103,7 +103,7 @@ fn begin_stages<F: Fn(u32, u32) -> i64 + Sync, V: Fn(u32, u32) -> i64 + Sync, H:
     space
         .deciding
         .numbers
-        .read(problem, at, Move::Expand(alpha))?;
+        .begin(problem, at, Move::Expand(alpha))?;
     if open_apart(alloc, problem, space, at, alpha, how)? {
         return Ok(());
     }

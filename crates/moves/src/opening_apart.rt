@@ -1,14 +1,15 @@
 //! The first stage of an expansion that is made once more, after parts of the sites looked by
 //! themselves.
-ghost use Rattle.std.specs.Prelude.{◌≡◌, ◌<◌, ◌≤◌, All, length, IfOk, OnOk, IsTrue};
+ghost use Rattle.std.specs.Prelude.{◌≡◌, ◌<◌, ◌≤◌, [], All, length, IfOk, OnOk, IsTrue};
 ghost use Rattle.label_field.specs.Limits.{site_limit};
 ghost use Rattle.move_energy.specs.BySite.{AreBySite};
 ghost use Rattle.move_energy.specs.Choices.{AreOpenSites};
 ghost use Rattle.moves.specs.Prelude.{Expand, WhereMeant, AreStageZeros, KeepsFreshSites};
-ghost use Rattle.moves.specs.Prelude.{HasNumbersOf};
+ghost use Rattle.moves.specs.Prelude.{HasNumbersOf, HasNumbersNear, IsReadyMove, IsOfProblem};
 
 use crate::Sharing;
 use cost_store::Problem;
+use label_energies::Move;
 use near_changes::{PartSizes, Window, choose_first, find_zeros};
 use one_move::Workspace;
 use std::alloc::{AllocError, Global};
@@ -81,7 +82,7 @@ fn open_by_parts<F: Fn(u32, u32) -> i64 + Sync, V: Fn(u32, u32) -> i64 + Sync, H
 }
 
 /// Opens the sites of the first stage after parts of the sites looked by themselves, where the way
-/// to cut asks for parts. It answers whether they did.
+/// to cut asks for parts. What labels cost is read at all sites then. It answers whether they did.
 pub(crate) fn open_apart<F: Fn(u32, u32) -> i64 + Sync, V: Fn(u32, u32) -> i64 + Sync, H: Sharing>(
     alloc: Global,
     problem: &Problem<F, V>,
@@ -91,10 +92,17 @@ pub(crate) fn open_apart<F: Fn(u32, u32) -> i64 + Sync, V: Fn(u32, u32) -> i64 +
     how: &H,
 ) -> Result<bool, AllocError>
     requires ready { H.ready how.now }
-    requires numbers { HasNumbersOf F.Fn V.Fn problem.now at.now (Expand alpha) space.old }
+    requires asked { IsReadyMove F.Fn V.Fn problem.now at.now (Expand alpha) space.old }
+    requires numbers { HasNumbersNear F.Fn V.Fn problem.now at.now (Expand alpha) []
+        space.old.deciding.numbers }
     requires by_site { AreBySite problem.now.pairs space.old.deciding.ends }
     requires inside { All (λ p. p < problem.now.pairs.sites) space.old.stage.fresh_sites.items }
-    ensures same { KeepsFreshSites space.old space.new }
+    ensures of_problem { IsOfProblem F.Fn V.Fn problem.now space.new }
+    ensures by_site { AreBySite problem.now.pairs space.new.deciding.ends }
+    ensures numbers { OnOk result (HasNumbersNear F.Fn V.Fn problem.now at.now (Expand alpha) []
+        space.new.deciding.numbers) }
+    ensures fresh { space.new.stage.fresh ≡ space.old.stage.fresh }
+    ensures listed { space.new.stage.fresh_sites ≡ space.old.stage.fresh_sites }
     ensures count { IfOk result (λ done. IsTrue done →
         length space.new.built.variables.choices.items ≡ length at.now) }
     ensures opened { IfOk result (λ done. IsTrue done →
@@ -109,6 +117,10 @@ pub(crate) fn open_apart<F: Fn(u32, u32) -> i64 + Sync, V: Fn(u32, u32) -> i64 +
     if parts < 2 {
         return Ok(false);
     }
+    space
+        .deciding
+        .numbers
+        .read(problem, at, Move::Expand(alpha))?;
     open_by_parts(alloc, problem, space, at, alpha, how, parts)?;
     Ok(true)
 }

@@ -1,17 +1,19 @@
 //! One stage of an expansion that is made once more: its cut, and what is done with what the cut
 //! shows.
-ghost use Rattle.std.specs.Prelude.{◌≡◌, ◌+◌, ◌<◌, ℕ, false, true, length};
+ghost use Rattle.std.specs.Prelude.{◌≡◌, ◌+◌, ◌<◌, ℕ, [], false, true, length};
 ghost use Rattle.std.specs.Prelude.{OnOk, IfOk, IfErr};
 ghost use Rattle.site_forms.specs.Numbers.{IsOverPairs, WhereRead};
 ghost use Rattle.moves.specs.Prelude.{Expand, WhereMeant, Zero, AreOpenSites};
 ghost use Rattle.moves.specs.Prelude.{choice_at, value_of, open_count, IsNumbering, is_marked};
-ghost use Rattle.moves.specs.Prelude.{IsClosedIn, AreTaking, HasNumbersOf, KeepsDecided};
+ghost use Rattle.moves.specs.Prelude.{IsClosedIn, AreTaking, HasNumbersNear, KeepsDecided};
+ghost use Rattle.moves.specs.Prelude.{IsReadyMove, IsOfProblem};
 ghost use Rattle.moves.specs.Prelude.{IsCutRefusal, IsStageLeast, IsStageReady, AreStageZeros};
 ghost use Rattle.moves.specs.Prelude.{EndsMove};
 
 use crate::{MoveError, Sharing};
 use compile_cut::Quadratic;
 use cost_store::Problem;
+use label_energies::Move;
 use label_field::Pairs;
 use move_energy::MoveEnergy;
 use near_changes::Window;
@@ -104,7 +106,8 @@ fn end_stage(space: &mut Workspace, pairs: &Pairs, bits: &[bool]) -> Result<Stan
     Ok(Standing::Open)
 }
 
-/// One stage: its cut, and what is done with what that shows.
+/// One stage: what labels cost its open sites is read, then its cut is made, and more sites are
+/// opened where that shows so.
 pub(crate) fn make_stage<F: Fn(u32, u32) -> i64 + Sync, V: Fn(u32, u32) -> i64 + Sync, H: Sharing>(
     problem: &Problem<F, V>,
     space: &mut Workspace,
@@ -113,9 +116,13 @@ pub(crate) fn make_stage<F: Fn(u32, u32) -> i64 + Sync, V: Fn(u32, u32) -> i64 +
     how: &H,
 ) -> Result<Standing, MoveError>
     requires ready { H.ready how.now }
-    requires numbers { HasNumbersOf F.Fn V.Fn problem.now at.now (Expand alpha) space.old }
+    requires asked { IsReadyMove F.Fn V.Fn problem.now at.now (Expand alpha) space.old }
+    requires numbers { HasNumbersNear F.Fn V.Fn problem.now at.now (Expand alpha) []
+        space.old.deciding.numbers }
     requires stage { IsStageReady problem.now.pairs space.old }
-    ensures same { KeepsDecided space.old space.new }
+    ensures of_problem { IsOfProblem F.Fn V.Fn problem.now space.new }
+    ensures numbers { HasNumbersNear F.Fn V.Fn problem.now at.now (Expand alpha) []
+        space.new.deciding.numbers }
     ensures fresh { space.new.stage.fresh.items ≡ space.old.stage.fresh.items }
     ensures closed { WhereMeant F.Fn V.Fn problem.now (λ m. IfOk result (λ standing.
         standing ≡ Standing.Closed → EndsMove m alpha at.now space.old space.new)) }
@@ -128,6 +135,10 @@ pub(crate) fn make_stage<F: Fn(u32, u32) -> i64 + Sync, V: Fn(u32, u32) -> i64 +
         AreStageZeros m alpha at.now space.old → AreStageZeros m alpha at.now space.new)) }
     ensures refused { IfErr result (IsCutRefusal (H.refuses how.now)) }
 {
+    space
+        .deciding
+        .numbers
+        .read_sites(problem, at, Move::Expand(alpha), &space.stage.opened);
     let form = space
         .deciding
         .numbers

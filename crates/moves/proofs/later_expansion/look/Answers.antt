@@ -3,10 +3,15 @@ use Rattle.label_energies.specs.Energies.{labelling}
 use Rattle.near_changes.specs.Changes.{changed_after}
 use Rattle.near_changes.specs.Fresh.{AreFresh}
 use Rattle.near_changes.specs.Looking.{is_marked}
-use Rattle.one_move.proofs.OfProblem.{still_of_problem}
-use Rattle.one_move.proofs.Forms.{still_numbers}
-use Rattle.label_energies.specs.declared.change.Move.TheVariants.{Expand}
 use Rattle.moves.proofs.later_expansion.look.Goals as goal
+
+pub make_stage-requires-asked : goal.make_stage-requires-asked
+make_stage-requires-asked g c = record {
+  posed = c.requires.asked.posed;
+  asked = c.requires.asked.asked;
+  few = c.requires.asked.few;
+  of_problem = c.loop-stage.invariant.of_problem;
+}
 
 pub loop-stage-preserved : goal.loop-stage-preserved
 loop-stage-preserved g c =
@@ -14,22 +19,14 @@ loop-stage-preserved g c =
     let stage = c.in_ok-make_stage.ensures in
     let before = c.loop-stage.invariant in
     record {
-      of_problem = still_of_problem _ _ a.problem.now c.loop-stage.space c.make_stage.new.space stage.same before.of_problem;
-      numbers = still_numbers _ _ a.problem.now a.at.now (Expand a.alpha) c.loop-stage.space c.make_stage.new.space stage.same before.numbers;
+      of_problem = stage.of_problem;
+      numbers = stage.numbers;
       ready = stage.open c.in-Open.is;
       fresh = λ m meant.
           let F : List Bool → Type 0 = λ flags. AreFresh m a.alpha (labelling a.at.now) (changed_after a.changes.now a.alpha) (is_marked flags) in
           subst F (sym stage.fresh) (before.fresh m meant);
       zeros = λ m meant. stage.zeros m meant c.in-Open.is (before.zeros m meant);
     }
-
-pub returns-in-Closed-clause-of_problem : goal.returns-in-Closed-clause-of_problem
-returns-in-Closed-clause-of_problem g c =
-    still_of_problem _ _ c.args.problem.now c.loop-stage.space c.make_stage.new.space c.in_ok-make_stage.ensures.same c.loop-stage.invariant.of_problem
-
-pub returns-in_err-make_stage-clause-of_problem : goal.returns-in_err-make_stage-clause-of_problem
-returns-in_err-make_stage-clause-of_problem g c =
-    still_of_problem _ _ c.args.problem.now c.loop-stage.space c.make_stage.new.space c.in_err-make_stage.ensures.same c.loop-stage.invariant.of_problem
 
 pub returns-in-Closed-clause-least : goal.returns-in-Closed-clause-least
 returns-in-Closed-clause-least g c = λ m meant yes was.

@@ -7,6 +7,8 @@ use Rattle.strips.specs.Looking.{IsStageLeast}
 use Rattle.move_energy.specs.MoveValues.{move_value}
 use Rattle.persistency.specs.Fixing.{AreLeastZeros}
 use Rattle.near_changes.specs.Looking.{is_marked, IsClosedIn}
+use Rattle.site_forms.specs.Lists.{with_costs_at}
+use Rattle.moves.proofs.Asked.{stage_of_asked, opened_asked}
 use Rattle.moves.proofs.Stages.{closed_ends, next_zeros}
 use Rattle.moves.proofs.stage_cut.make_stage.Goals as goal
 
@@ -17,9 +19,14 @@ returns-in-Ok-clause-closed g c = λ m meant is changed was fresh zeros.
     let pairs = c.args.problem.now.pairs in
     let choices = c.cut_stage.new.built.variables.choices.items in
     let numbers = c.requires.numbers in
-    let form = c.form-form.ensures.of m (Expand a) meant.sites_are meant.pairs_are (numbers.allowed m meant) (numbers.read m meant) in
-    let L : List ℕ → Type 0 = λ f. IsStageLeast m (Expand a) (labelling f) choices c.in_ok-bits.bits.items in
-    let least = subst L c.form-form.ensures.at (c.in_ok-bits.ensures.least m (Expand a) form) in
+    let near = c.read_sites.ensures.read m meant (numbers.read m meant) in
+    let asked = with_costs_at near.asked m in
+    let form = c.form-form.ensures.of asked (Expand a) meant.sites_are meant.pairs_are (numbers.allowed m meant) near.read in
+    let L : List ℕ → Type 0 = λ f. IsStageLeast asked (Expand a) (labelling f) choices c.in_ok-bits.bits.items in
+    let least = stage_of_asked m (Expand a) (labelling at) choices c.in_ok-bits.bits.items near.asked
+    (λ p l is_open. opened_asked near.asked c.args.space.now.built.variables.choices.items choices c.args.space.now.stage.opened.items p
+    (omega (arith, l, meant.sites_are, c.requires.stage.sites)) c.in_ok-bits.ensures.kept c.requires.stage.opened near.covers is_open)
+    (subst L c.form-form.ensures.at (c.in_ok-bits.ensures.least asked (Expand a) form)) in
     let taken = is_marked c.end_stage.new.space.stage.taken.items in
     let marks = is_marked c.args.space.now.stage.fresh.items in
     let C : List Bool → Type 0 = λ bits. IsClosedIn pairs (value_of choices bits) (choice_at choices) taken marks in
@@ -34,9 +41,14 @@ returns-in-Ok-clause-zeros g c = λ m meant is zeros.
     let at = c.args.at.now in
     let choices = c.cut_stage.new.built.variables.choices.items in
     let numbers = c.requires.numbers in
-    let form = c.form-form.ensures.of m (Expand a) meant.sites_are meant.pairs_are (numbers.allowed m meant) (numbers.read m meant) in
-    let L : List ℕ → Type 0 = λ f. IsStageLeast m (Expand a) (labelling f) choices c.in_ok-bits.bits.items in
-    let least = subst L c.form-form.ensures.at (c.in_ok-bits.ensures.least m (Expand a) form) in
+    let near = c.read_sites.ensures.read m meant (numbers.read m meant) in
+    let asked = with_costs_at near.asked m in
+    let form = c.form-form.ensures.of asked (Expand a) meant.sites_are meant.pairs_are (numbers.allowed m meant) near.read in
+    let L : List ℕ → Type 0 = λ f. IsStageLeast asked (Expand a) (labelling f) choices c.in_ok-bits.bits.items in
+    let least = stage_of_asked m (Expand a) (labelling at) choices c.in_ok-bits.bits.items near.asked
+    (λ p l is_open. opened_asked near.asked c.args.space.now.built.variables.choices.items choices c.args.space.now.stage.opened.items p
+    (omega (arith, l, meant.sites_are, c.requires.stage.sites)) c.in_ok-bits.ensures.kept c.requires.stage.opened near.covers is_open)
+    (subst L c.form-form.ensures.at (c.in_ok-bits.ensures.least asked (Expand a) form)) in
     let Z : List Choice → Type 0 = λ cs. AreLeastZeros m.sites (move_value m (Expand a) (labelling at)) (choice_at cs) in
     next_zeros m a at choices c.end_stage.new.space.built.variables.choices.items c.in_ok-bits.bits.items form.instance
     (c.requires.numbers.allowed m meant) least
