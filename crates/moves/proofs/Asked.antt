@@ -31,9 +31,9 @@ whole_and_rest : (m : Instance) (asked : ℕ → Bool) (g : ℕ → ℕ)
     → plain_energy m g ≡ plain_energy (with_costs_at asked m) g + rest_cost m asked g
 whole_and_rest m asked g =
     let parts : data_energy m g ≡ data_energy (with_costs_at asked m) g + rest_cost m asked g =
-        sum_below-same m.sites (λ p. m.data_cost p (g p)) (λ p. cond (asked p) (m.data_cost p (g p)) 0 + cond (asked p) 0 (m.data_cost p (g p)))
-        (λ p l. two_parts (asked p) (m.data_cost p (g p)))
-        ∙ sum_below-add m.sites (λ p. cond (asked p) (m.data_cost p (g p)) 0) (λ p. cond (asked p) 0 (m.data_cost p (g p))) in
+    sum_below-same m.sites (λ p. m.data_cost p (g p)) (λ p. cond (asked p) (m.data_cost p (g p)) 0 + cond (asked p) 0 (m.data_cost p (g p)))
+    (λ p l. two_parts (asked p) (m.data_cost p (g p)))
+    ∙ sum_below-add m.sites (λ p. cond (asked p) (m.data_cost p (g p)) 0) (λ p. cond (asked p) 0 (m.data_cost p (g p))) in
     let s = smooth_energy m g in
     omega (arith, parts)
 
@@ -67,7 +67,7 @@ stage_of_asked m move f choices bits asked covers stage =
     let whole : (ℕ → Bool) → ℕ = λ x. plain_energy m (made x) in
     let v = stage.values in
     let same : (x y : ℕ → Bool) → rest x ≡ rest y = λ x y. rest_same m asked (made x) (made y)
-        (λ p l no. ap (label_after move (f p)) (fixed_same (choice_at choices p) (x p) (y p) (λ open. (let yes = covers p l open in cc (yes, no))))) in
+    (λ p l no. ap (label_after move (f p)) (fixed_same (choice_at choices p) (x p) (y p) (λ is_open. (let yes = covers p l is_open in cc (yes, no))))) in
     record {
       values = v;
       least = record {

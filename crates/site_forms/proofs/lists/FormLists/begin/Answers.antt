@@ -14,7 +14,7 @@ returns-clause-read g c =
     let M : AskedCosts → Type 0 = λ asked. AreMadeAsked a.change a.at.now asked in
     on_ok_weaker c.clear_rises.result
     (λ zeros m meant. begun_of g.F.Fn g.V.Fn a.problem.now a.at.now a.change m _ meant c.requires.asked
-        (subst K (sym same.2) c.ask_all.ensures.known) (subst M (sym same.2) c.in_ok-ask_all.ensures.made)
-        (λ old l. ap (λ (v : _). slice_index v.items old) same.0 ∙ c.in_ok-list_labels.ensures.each old l)
-        (λ old l. ap (λ (v : _). slice_index v.items old) same.1 ∙ c.in_ok-list_labels-2.ensures.each old l) zeros)
+    (subst K (sym same.2) c.ask_all.ensures.known) (subst M (sym same.2) c.in_ok-ask_all.ensures.made)
+    (λ old l. ap (λ (v : _). slice_index v.items old) same.0 ∙ c.in_ok-list_labels.ensures.each old l)
+    (λ old l. ap (λ (v : _). slice_index v.items old) same.1 ∙ c.in_ok-list_labels-2.ensures.each old l) zeros)
     c.clear_rises.ensures.zeros
