@@ -1,6 +1,6 @@
 -- The energy of a move, and what its least assignment says of the sites.
 use Rattle.std.specs.Prelude.{◌≡◌, ◌≢◌, ◌^◌, ◌<◌, ◌≤◌, ◌==◌, ℕ, Bool, true, false, not}
-use Rattle.std.specs.Prelude.{List, [], length, vec_len, IsTrue, IsFalse, Result, Ok, Err, ℤ, pos, ◌-ℤ◌}
+use Rattle.std.specs.Prelude.{List, [], length, vec_len, IsTrue, IsFalse, Result, Ok, Err, ℤ, pos}
 use Rattle.std.specs.Prelude.{slice_index}
 use Rattle.label_field.specs.LabelFields.{LabelField}
 use Rattle.cost_store.specs.declared.problem.Problem.{Problem}
