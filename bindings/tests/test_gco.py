@@ -202,7 +202,7 @@ def bars():
     with contextlib.redirect_stderr(written):
         found = gco.label(data, gco.potts(4), PAIRS, progress=True)
     lines = written.getvalue().splitlines()
-    assert lines[0].startswith("cycle 1 label ") and lines[-1].endswith(f"energy {found.energy}") and " 0 sites" not in written.getvalue(), lines
+    assert lines[0].startswith("cycle ") and lines[-1].endswith(f"energy {found.energy}") and " 0 sites" not in written.getvalue(), lines
     if kept is None:
         del sys.modules["tqdm"]
     else:
