@@ -321,7 +321,7 @@ enum Content {
 }
 
 /// What a letter about the arc says that names the first place; nothing of another.
-fn said(letter: Option<Letter>) -> Option<Content> {
+fn content_of(letter: Option<Letter>) -> Option<Content> {
     let letter = letter?;
     let (direction, said) = match letter.message {
         Message::Parcel {
@@ -347,7 +347,7 @@ fn said(letter: Option<Letter>) -> Option<Content> {
 /// What the letter says that was put for this block; nothing where another was asked.
 fn said_to(ways: &OneLetter, to: u32) -> Option<Content> {
     if ways.put_for == to {
-        said(ways.put)
+        content_of(ways.put)
     } else {
         None
     }
@@ -431,8 +431,8 @@ fn ends_flight(rt: &impl Abort, block: &mut Block, answer: Option<Letter>, wante
         && holds(rt, block, wanted)
 }
 
-/// How a parcel from the label 1 meets the second block: whether that block's node rises first, what
-/// its answer says, what the second block then holds, and what the first block holds once the
+/// How a parcel from the label 1 meets the second block: whether that block's node rises first,
+/// what its answer says, what the second block then holds, and what the first block holds once the
 /// answer ended the flight.
 struct Meeting {
     rises: bool,

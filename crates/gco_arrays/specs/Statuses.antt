@@ -29,8 +29,8 @@ status_of why.LabelCostInSwap = 27
 status_of why.NoSuchCourse = 28
 
 -- the number of a call that made as many moves as were allowed and is not at the end of its run
-abbrev pub unfinished : ℕ
-unfinished = 29
+abbrev pub unfinished_status : ℕ
+unfinished_status = 29
 
 -- the place that a refusal tells, or 0
 abbrev pub told_place : Refusal → ℕ

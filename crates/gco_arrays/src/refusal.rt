@@ -1,7 +1,7 @@
 //! Why a call was refused, and the numbers that tell it.
 ghost use Rattle.std.specs.Prelude.{◌≡◌, ◌≢◌};
 ghost use Rattle.gco_arrays.specs.Statuses.{fixed_numbers, fixed_of, labels_of, told_place};
-ghost use Rattle.gco_arrays.specs.Statuses.{status_of, unfinished};
+ghost use Rattle.gco_arrays.specs.Statuses.{status_of, unfinished_status};
 
 use regular::Fixed;
 
@@ -66,7 +66,7 @@ impl Refusal {
     /// The number that a call answers for it.
     pub fn status(self) -> u32
         ensures value { result ≡ status_of self }
-        ensures some { (result ≢ 0) × (result ≢ unfinished) }
+        ensures some { (result ≢ 0) × (result ≢ unfinished_status) }
     {
         match self {
             Refusal::OutOfMemory => 1,

@@ -24,7 +24,7 @@ use Rattle.gco_arrays.specs.Calls.{AreCounted, ArePartsOf, AreTables, CallArrays
 use Rattle.gco_arrays.specs.declared.ready.Ready.{Ready}
 use Rattle.gco_calls.specs.Calls.{moves_number}
 use Rattle.gco_calls.specs.Outcomes.{energy_told, outcome_of_parts, run_told}
-use Rattle.gco_calls.specs.Stretches.{IsPauseTold, IsRunLeft, Lent, arrays_from, lent, mark_of}
+use Rattle.gco_calls.specs.Stretches.{IsPauseTold, IsRunLeft, LentArrays, arrays_from, lent_arrays, mark_of}
 use Rattle.gco_calls.specs.declared.course.GcoCourse.{GcoCourse}
 use Rattle.gco_calls.specs.declared.outcome.GcoOutcome.{GcoOutcome}
 
@@ -64,7 +64,7 @@ pub stretch_given : (a : CallArrays) (ready : Ready) (kind : Moves) (number cycl
     → bookmark.mark ≡ mark_of course → bookmark.stamps.items ≡ stamps → bookmark.made.items ≡ made
     → ((start : List ℕ) → WasLeftAt (parts_instance a ready) kind start ready.start.at bookmark.mark bookmark.stamps.items bookmark.made.items
     → AnswersStretch (parts_instance a ready) kind cycles start r)
-    → (start : List ℕ) → IsRunLeft (arrays_from a start) number (lent a.start course stamps made)
+    → (start : List ℕ) → IsRunLeft (arrays_from a start) number (lent_arrays a.start course stamps made)
     → AnswersStretch (instance_given (arrays_from a start)) kind cycles start r
 stretch_given a ready kind number cycles course stamps made bookmark r is named marks stamped noted answers start left =
     let path : instance_given (arrays_from a start) ≡ parts_instance a ready = from_same a start left.sites ∙ sym (parts_same a ready is) in
@@ -129,7 +129,7 @@ pub pause_is_told : (a : CallArrays) (number cycles : ℕ) (labels stamps made :
     → labels ≡ pause.labelling.at → mark_of course ≡ pause.bookmark.mark → course.cycles ≡ pause.bookmark.mark.cycles
     → AreHandedBack pause.bookmark.stamps.items stamps → AreHandedBack pause.bookmark.made.items made → length stamps ≡ length a.start
     → told ≡ run_told (outcome_of_parts pause.«data» pause.smooth pause.label) pause.bookmark.mark.cycles false None
-    → IsPauseTold a number cycles (lent labels course stamps made) told
+    → IsPauseTold a number cycles (lent_arrays labels course stamps made) told
 pause_is_told a number cycles labels stamps made course told kind pause given named is size same marks whole same_stamps same_made counted tells =
     let m = instance_given a in
     let back = left_back m kind a.start pause.labelling.at pause.bookmark.mark pause.bookmark.stamps.items pause.bookmark.made.items stamps made is.left

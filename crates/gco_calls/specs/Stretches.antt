@@ -20,16 +20,16 @@ use Rattle.gco_calls.specs.Refusals.{IsTold, move_refusal}
 use Rattle.gco_calls.specs.declared.course.GcoCourse.{GcoCourse}
 use Rattle.gco_calls.specs.declared.outcome.GcoOutcome.{GcoOutcome}
 
--- what a call is lent of a run, and hands back: its labels, where it stands, and of each site and of
--- each label the number of an expansion
-pub record Lent : Type 0 where
+-- what a call is lent of a run, and hands back: its labels, where it stands, and of each site and
+-- of each label the number of an expansion
+pub record LentArrays : Type 0 where
   pub labels : List ℕ
   pub course : GcoCourse
   pub stamps : List ℕ
   pub made : List ℕ
 
-abbrev pub lent : List ℕ → GcoCourse → List ℕ → List ℕ → Lent
-lent labels course stamps made = record {
+abbrev pub lent_arrays : List ℕ → GcoCourse → List ℕ → List ℕ → LentArrays
+lent_arrays labels course stamps made = record {
   labels = labels;
   course = course;
   stamps = stamps;
@@ -48,7 +48,7 @@ mark_of course = record {
 
 -- the run of these moves from the start of the arrays was left there: what is lent of it is what a
 -- call handed back, or is of a run that begins
-pub record IsRunLeft (a : CallArrays) (number : ℕ) (run : Lent) : Type 0 where
+pub record IsRunLeft (a : CallArrays) (number : ℕ) (run : LentArrays) : Type 0 where
   pub below : All (λ label. label < a.label_count) a.start
   pub sites : length a.start ≡ length run.labels
   pub moves : Moves
@@ -56,10 +56,10 @@ pub record IsRunLeft (a : CallArrays) (number : ℕ) (run : Lent) : Type 0 where
   pub left : WasLeftAt (instance_given a) moves a.start run.labels (mark_of run.course)
       run.stamps run.made
 
--- what was given is in order, the labels are where a beginning of the chain from the start ends, the
--- run can go on from what is handed back, and the outcome tells how many cycles were whole, the
+-- what was given is in order, the labels are where a beginning of the chain from the start ends,
+-- the run can go on from what is handed back, and the outcome tells how many cycles were whole, the
 -- three parts of the energy, and nothing else
-pub record IsPauseTold (a : CallArrays) (number cycles : ℕ) (run : Lent)
+pub record IsPauseTold (a : CallArrays) (number cycles : ℕ) (run : LentArrays)
     (told : GcoOutcome) : Type 0 where
   pub given : IsGiven a
   pub run_left : IsRunLeft a number run
@@ -70,7 +70,7 @@ pub record IsPauseTold (a : CallArrays) (number cycles : ℕ) (run : Lent)
       ≡ run_told (energy_told (instance_given a) run.labels) run.course.cycles false None
 
 -- what is lent is of other sizes, or is past the end of its cycles
-abbrev pub IsCourseRefusal : CallArrays → Moves → ℕ → Lent → Type 0
+abbrev pub IsCourseRefusal : CallArrays → Moves → ℕ → LentArrays → Type 0
 IsCourseRefusal a moves cycles run =
     (length run.stamps ≢ length run.labels) ⊎ (length run.made ≢ a.label_count)
     ⊎ IsPastEnd (moves_of moves a.label_count) cycles (mark_of run.course)
@@ -80,7 +80,7 @@ abbrev pub arrays_from : CallArrays → List ℕ → CallArrays
 arrays_from a start = record a { start = start }
 
 -- why a stretch is refused: what it was given, what it was lent, or the chain's next move
-abbrev pub IsStretchRefusal : CallArrays → Moves → ℕ → ℕ → Lent → Refusal → Type 0
+abbrev pub IsStretchRefusal : CallArrays → Moves → ℕ → ℕ → LentArrays → Refusal → Type 0
 IsStretchRefusal a moves number cycles run refusal =
     IsGivenRefusal a refusal
     ⊎ (IsGiven a × (refusal ≡ why.NoSuchCourse) × IsCourseRefusal a moves cycles run)
@@ -91,7 +91,7 @@ IsStretchRefusal a moves number cycles run refusal =
 
 -- the status and the outcome tell a refusal, and its cause holds: the number names no moves, or
 -- what a stretch of the moves that it names refuses
-pub record IsStretchRefusalTold (a : CallArrays) (number cycles : ℕ) (run : Lent) (status : ℕ)
+pub record IsStretchRefusalTold (a : CallArrays) (number cycles : ℕ) (run : LentArrays) (status : ℕ)
     (told : GcoOutcome) : Type 0 where
   pub refusal : Refusal
   pub is_told : IsTold refusal status told

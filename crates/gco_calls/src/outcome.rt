@@ -2,7 +2,7 @@
 ghost use Rattle.std.specs.Prelude.{◌≡◌, ◌≢◌, cond};
 ghost use Rattle.gco_calls.specs.Outcomes.{bound_numbers, outcome_of_parts, run_told};
 ghost use Rattle.gco_calls.specs.Refusals.{IsTold};
-ghost use Rattle.gco_arrays.specs.Statuses.{unfinished};
+ghost use Rattle.gco_arrays.specs.Statuses.{unfinished_status};
 
 use gco_arrays::Refusal;
 use moves::{Bound, Run};
@@ -85,7 +85,7 @@ pub(crate) fn tell_run(outcome: &mut GcoOutcome, run: &Run)
 
 /// Tells a refusal, and nothing else.
 pub(crate) fn refuse(outcome: &mut GcoOutcome, refusal: Refusal) -> u32
-    ensures some { (result ≢ 0) × (result ≢ unfinished) }
+    ensures some { (result ≢ 0) × (result ≢ unfinished_status) }
     ensures told { IsTold refusal result outcome.new }
 {
     let (alpha, beta) = refusal.labels();

@@ -12,11 +12,11 @@ ghost use Rattle.moves.specs.Instances.{instance_of};
 ghost use Rattle.moves.specs.Problems.{IsRunRefusal};
 ghost use Rattle.moves.specs.Stretches.{AnswersStretch, HasSizesOf};
 ghost use Rattle.gco_arrays.specs.Calls.{IsGiven, arrays_with, instance_given};
-ghost use Rattle.gco_arrays.specs.Statuses.{unfinished};
+ghost use Rattle.gco_arrays.specs.Statuses.{unfinished_status};
 ghost use Rattle.gco_calls.specs.Calls.{IsRunTold, moves_number};
 ghost use Rattle.gco_calls.specs.Outcomes.{outcome_of_parts, run_told};
 ghost use Rattle.gco_calls.specs.Stretches.{IsRunLeft, IsPauseTold, IsStretchRefusal};
-ghost use Rattle.gco_calls.specs.Stretches.{IsStretchRefusalTold, lent, mark_of};
+ghost use Rattle.gco_calls.specs.Stretches.{IsStretchRefusalTold, lent_arrays, mark_of};
 
 use crate::course::{GcoCourse, bookmark_of, course_of, put_back};
 use crate::label::{copy_labels, moves_of};
@@ -47,22 +47,23 @@ pub fn answer_stretch<N: Number>(
 ) -> u32
     ensures ended { result ≡ 0 → (start : List ℕ) →
         IsRunLeft (arrays_with N.value given.now start) moves
-        (lent labels.old course.old stamps.old made.old) →
+        (lent_arrays labels.old course.old stamps.old made.old) →
         IsRunTold (arrays_with N.value given.now start) moves cycles labels.new outcome.new }
-    ensures paused { result ≡ unfinished → (start : List ℕ) →
+    ensures paused { result ≡ unfinished_status → (start : List ℕ) →
         IsRunLeft (arrays_with N.value given.now start) moves
-        (lent labels.old course.old stamps.old made.old) →
+        (lent_arrays labels.old course.old stamps.old made.old) →
         IsPauseTold (arrays_with N.value given.now start) moves cycles
-        (lent labels.new course.new stamps.new made.new) outcome.new }
-    ensures in_order { (result ≡ 0) ⊎ (result ≡ unfinished) →
+        (lent_arrays labels.new course.new stamps.new made.new) outcome.new }
+    ensures in_order { (result ≡ 0) ⊎ (result ≡ unfinished_status) →
         IsGiven (arrays_with N.value given.now labels.old)
         × IsGiven (arrays_with N.value given.now labels.new) }
-    ensures kept { result ≢ unfinished → (course.new ≡ course.old) × (stamps.new ≡ stamps.old)
+    ensures kept { result ≢ unfinished_status
+        → (course.new ≡ course.old) × (stamps.new ≡ stamps.old)
         × (made.new ≡ made.old) }
-    ensures unchanged { result ≢ 0 → result ≢ unfinished → labels.new ≡ labels.old }
-    ensures refused { result ≢ 0 → result ≢ unfinished →
+    ensures unchanged { result ≢ 0 → result ≢ unfinished_status → labels.new ≡ labels.old }
+    ensures refused { result ≢ 0 → result ≢ unfinished_status →
         IsStretchRefusalTold (arrays_with N.value given.now labels.old) moves cycles
-        (lent labels.old course.old stamps.old made.old) result outcome.new }
+        (lent_arrays labels.old course.old stamps.old made.old) result outcome.new }
 {
     let Some(kind) = moves_of(moves) else {
         return refuse(outcome, Refusal::NoSuchMoves);
@@ -106,12 +107,13 @@ fn stretch_call<N: Number>(
         × (length made.now ≡ given.now.label_count)) }
     ensures stretch { IfOk result (λ stretch. (start : List ℕ) →
         IsRunLeft (arrays_with N.value given.now start) number
-        (lent at.now course stamps.now made.now) →
+        (lent_arrays at.now course stamps.now made.now) →
         AnswersStretch (instance_given (arrays_with N.value given.now start)) kind cycles start
         (Ok (Some stretch))) }
-    ensures sized { IfOk result (HasSizesOf (record { labels = given.now.label_count; at = at.now })) }
+    ensures sized { IfOk result
+        (HasSizesOf (record { labels = given.now.label_count; at = at.now })) }
     ensures refused { IfErr result (IsStretchRefusal (arrays_with N.value given.now at.now) kind
-        number cycles (lent at.now course stamps.now made.now)) }
+        number cycles (lent_arrays at.now course stamps.now made.now)) }
 {
     let ready = ready_of(alloc, given, at)?;
     if stamps.len() != at.len() || made.len() != given.label_count as usize {

@@ -13,7 +13,7 @@ use Rattle.moves.specs.declared.runs.Ended.{Ended}
 use Rattle.moves.specs.declared.course.Course.{Course}
 use Rattle.moves.specs.Cycles.{AreBestFrom, IsSoFar}
 use Rattle.moves.specs.declared.bookmark.Mark.{Mark}
-use Rattle.moves.specs.Bookmarks.{IsBetween, IsMarkOf}
+use Rattle.moves.specs.Bookmarks.{GoesOnFrom, IsMarkOf}
 use Rattle.moves.specs.Courses.{IsBetweenMoves, StandsOnCourse, HasComeTo, LeadsBest, cycles_unless, cycle_of, left_unless, moves_left}
 use Rattle.one_move.specs.Building.{TellsChange}
 use Rattle.moves.proofs.Running.{so_far_starts, so_far_more, moves_split, stopped_leads, ended_leads, ended_known}
@@ -96,7 +96,7 @@ marked_first m moves mark f g none first (inr between) =
 
 -- one that was left later stands within its chain
 pub marked_later : (m : Instance) (moves : List Move) (mark : Mark) (f g : List ℕ) → ((mark.cycles ≡ 0) × (mark.place ≡ 0) → ⊥) → IsMarkOf m moves mark f g
-    → IsBetween m moves mark f g
+    → GoesOnFrom m moves mark f g
 marked_later m moves mark f g later (inl begins) = absurd (later (begins.0, begins.1))
 marked_later m moves mark f g later (inr between) = between
 

@@ -23,7 +23,7 @@ use Rattle.moves.specs.Problems.{IsRunOfCycles}
 
 -- a run of these moves from f goes on from g: so many whole cycles, each of which changed
 -- something, lead from f to where another began, and that one has come to a place, at g
-pub record IsBetween (m : Instance) (moves : List Move) (mark : Mark) (f g : List ℕ) : Type 0 where
+pub record GoesOnFrom (m : Instance) (moves : List Move) (mark : Mark) (f g : List ℕ) : Type 0 where
   pub start : List ℕ
   pub cycles : Cycles m moves mark.cycles f start
   pub so_far : IsSoFar m moves mark.place start g mark.changed mark.last
@@ -33,7 +33,7 @@ pub record IsBetween (m : Instance) (moves : List Move) (mark : Mark) (f g : Lis
 abbrev pub IsMarkOf : Instance → List Move → Mark → List ℕ → List ℕ → Type 0
 IsMarkOf m moves mark f g =
     ((mark.cycles ≡ 0) × (mark.place ≡ 0) × (g ≡ f))
-    ⊎ IsBetween m moves mark f g
+    ⊎ GoesOnFrom m moves mark f g
 
 -- no run of so many cycles of these moves goes on from the mark
 abbrev pub IsPastEnd : List Move → ℕ → Mark → Type 0

@@ -113,8 +113,8 @@ fn way_over(alloc: Global, half: u32) -> Result<Vec<Arc>, AllocError> {
     Ok(arcs)
 }
 
-/// The net of these arcs over so many nodes: a unit goes from the source to each of the first places,
-/// and from each of the others to the sink.
+/// The net of these arcs over so many nodes: a unit goes from the source to each of the first
+/// places, and from each of the others to the sink.
 fn net_of_units(
     rt: &(impl Abort + AllocGlobal),
     nodes: usize,

@@ -1,8 +1,8 @@
 //! Tests of what workers do: a ring between two threads, and rounds of running workers: that their
 //! turns overlap, that a round goes on while work and turns are left, which block has a turn when,
-//! and that after rounds of any options the solver over blocks finds the one answer. The same of the
-//! solver that makes the rounds itself, and how many it makes. And that a second thread is started
-//! where several are to share the work.
+//! and that after rounds of any options the solver over blocks finds the one answer. The same of
+//! the solver that makes the rounds itself, and how many it makes. And that a second thread is
+//! started where several are to share the work.
 #![tactic(auto)]
 
 #[cfg(test)]
