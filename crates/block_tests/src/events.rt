@@ -323,7 +323,7 @@ enum Content {
 /// What a letter about the arc says that names the first place; nothing of another.
 fn content_of(letter: Option<Letter>) -> Option<Content> {
     let letter = letter?;
-    let (direction, said) = match letter.message {
+    let (direction, content) = match letter.message {
         Message::Parcel {
             direction,
             amount,
@@ -338,14 +338,14 @@ fn content_of(letter: Option<Letter>) -> Option<Content> {
         } => (direction, Content::Refused(amount, label, told)),
     };
     if direction == FORWARD && letter.place == 0 {
-        Some(said)
+        Some(content)
     } else {
         None
     }
 }
 
 /// What the letter says that was put for this block; nothing where another was asked.
-fn said_to(ways: &OneLetter, to: u32) -> Option<Content> {
+fn content_for(ways: &OneLetter, to: u32) -> Option<Content> {
     if ways.put_for == to {
         content_of(ways.put)
     } else {
@@ -379,7 +379,7 @@ fn send_parcel(rt: &impl Abort, block: &mut Block) -> Option<Letter> {
     hold(rt, rises(rt, block, &mut ways));
     hold(rt, sends_nothing_else(block, &mut ways));
     hold(rt, sends_all(rt, block, &mut ways));
-    hold(rt, said_to(&ways, 1) == Some(Content::Parcel(4, 1)));
+    hold(rt, content_for(&ways, 1) == Some(Content::Parcel(4, 1)));
     ways.put
 }
 
@@ -412,7 +412,7 @@ fn answer_to(
     let mut ways = OneLetter::with(parcel);
     let is_right = is_no_answer(block, &mut ways)
         && is_received(rt, block, &mut ways, meeting.met)
-        && said_to(&ways, 0) == Some(meeting.told);
+        && content_for(&ways, 0) == Some(meeting.told);
     if is_right { ways.put } else { None }
 }
 
@@ -431,9 +431,9 @@ fn ends_flight(rt: &impl Abort, block: &mut Block, answer: Option<Letter>, wante
         && holds(rt, block, wanted)
 }
 
-/// How a parcel from the label 1 meets the second block: whether that block's node rises first,
-/// what its answer says, what the second block then holds, and what the first block holds once the
-/// answer ended the flight.
+/// How a parcel from the label 1 meets the second block: whether its node rises first, what its
+/// answer says, what the block then holds, and what the first block holds once the answer ended the
+/// flight.
 struct Meeting {
     rises: bool,
     told: Content,
@@ -473,14 +473,19 @@ fn is_ready(rt: &impl Abort, block: &mut Block, meeting: &Meeting) -> bool {
 }
 
 /// Whether a parcel goes from the first block to the second, and the answer back.
-fn is_meeting(rt: &(impl Abort + AllocGlobal), meeting: &Meeting) -> bool {
-    let (mut first, mut second) = two_blocks(rt);
-    let parcel = send_parcel(rt, &mut first);
-    if !takes_nothing(rt, &mut first, 1, SENT) || !is_ready(rt, &mut second, meeting) {
+fn do_meet(rt: &impl Abort, first: &mut Block, second: &mut Block, meeting: &Meeting) -> bool {
+    let parcel = send_parcel(rt, first);
+    if !takes_nothing(rt, first, 1, SENT) || !is_ready(rt, second, meeting) {
         return false;
     }
-    let answer = answer_to(rt, &mut second, parcel, meeting);
-    answer.is_some() && ends_flight(rt, &mut first, answer, meeting.ended)
+    let answer = answer_to(rt, second, parcel, meeting);
+    answer.is_some() && ends_flight(rt, first, answer, meeting.ended)
+}
+
+/// Whether two new blocks do so.
+fn is_meeting(rt: &(impl Abort + AllocGlobal), meeting: &Meeting) -> bool {
+    let (mut first, mut second) = two_blocks(rt);
+    do_meet(rt, &mut first, &mut second, meeting)
 }
 
 #[test]

@@ -38,7 +38,17 @@ pub fn round<R: Threads + Wait + Abort + AllocGlobal + Sync, G: Gate>(
     round_from(rt, state, options, gate)
 }
 
-/// And after a round that begins with all labels 0.
+/// Makes such a round, for what its gate notes.
+pub fn do_round<R: Threads + Wait + Abort + AllocGlobal + Sync, G: Gate>(
+    rt: &R,
+    net: Net,
+    options: &Options,
+    gate: &G,
+) {
+    let _after = round(rt, &net, options, gate);
+}
+
+/// The state after a round that begins with all labels 0.
 pub fn round_from_zero<R: Threads + Wait + Abort + AllocGlobal + Sync, G: Gate>(
     rt: &R,
     net: &Net,

@@ -26,12 +26,12 @@ const NARROW: Options = Options { ring: 1, ..FIRST };
 /// Whether such a solver asks for so many turns: two a round.
 fn asks<R: Threads + Wait + Abort + AllocGlobal + Sync>(
     rt: &R,
-    net: &Net,
+    net: Net,
     options: &Options,
     turns: u32,
 ) -> bool {
     let diary = take_ok(rt, Diary::new(rt.alloc(), 0));
-    let _solved = take_ok(rt, solve_parallel(rt, rt.alloc(), net, options, &diary));
+    let _solved = take_ok(rt, solve_parallel(rt, rt.alloc(), &net, options, &diary));
     diary.count() == turns
 }
 
@@ -41,10 +41,10 @@ fn asks<R: Threads + Wait + Abort + AllocGlobal + Sync>(
 /// came.
 #[test]
 fn rounds_are_counted(rt: HostRuntime) {
-    hold(&rt, asks(&rt, &idle_nodes(&rt), &FIRST, 0));
-    hold(&rt, asks(&rt, &short_way(&rt), &THREE, 6));
-    hold(&rt, asks(&rt, &fan(&rt), &FIRST, 4));
-    hold(&rt, asks(&rt, &fan(&rt), &NARROW, 12));
+    hold(&rt, asks(&rt, idle_nodes(&rt), &FIRST, 0));
+    hold(&rt, asks(&rt, short_way(&rt), &THREE, 6));
+    hold(&rt, asks(&rt, fan(&rt), &FIRST, 4));
+    hold(&rt, asks(&rt, fan(&rt), &NARROW, 12));
 }
 
 /// Each round begins with exact labels. By those of the first, 41 for node 0, its unit goes over
@@ -53,5 +53,5 @@ fn rounds_are_counted(rt: HostRuntime) {
 /// none of which needs a new label.
 #[test]
 fn rounds_begin_with_exact_labels(rt: HostRuntime) {
-    hold(&rt, asks(&rt, &two_ways(&rt), &FIRST, 6));
+    hold(&rt, asks(&rt, two_ways(&rt), &FIRST, 6));
 }

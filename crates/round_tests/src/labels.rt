@@ -61,32 +61,32 @@ const BLOCKS: &[u32] = &[1, 2, 3, 7, 16, 64];
 
 /// In states of the net at the opening and after a round, in few and many blocks, the labels that
 /// blocks find by 1 to 8 threads are those of the search on one.
-fn expect_plain<R: Threads + Wait + Abort + AllocGlobal + Sync>(rt: &R, net: &Net) {
+fn expect_plain<R: Threads + Wait + Abort + AllocGlobal + Sync>(rt: &R, net: Net) {
     for (place, blocks) in BLOCKS.iter().enumerate() {
-        let is_right = is_plain_at_opening(rt, net, *blocks, 1 + place % 8)
-            && is_plain_after_round(rt, net, *blocks, 8 - place % 8);
+        let is_right = is_plain_at_opening(rt, &net, *blocks, 1 + place % 8)
+            && is_plain_after_round(rt, &net, *blocks, 8 - place % 8);
         expect(rt, place, is_right);
     }
 }
 
 #[test]
 fn blocks_find_exact_labels(rt: HostRuntime) {
-    expect_plain(&rt, &two_nodes(&rt));
-    expect_plain(&rt, &idle_nodes(&rt));
-    expect_plain(&rt, &fan(&rt));
-    expect_plain(&rt, &between_two(&rt));
-    expect_plain(&rt, &two_ways(&rt));
+    expect_plain(&rt, two_nodes(&rt));
+    expect_plain(&rt, idle_nodes(&rt));
+    expect_plain(&rt, fan(&rt));
+    expect_plain(&rt, between_two(&rt));
+    expect_plain(&rt, two_ways(&rt));
 }
 
 #[test]
 fn blocks_of_moves_find_exact_labels(rt: HostRuntime) {
-    expect_plain(&rt, &net_of_move(&rt));
-    expect_plain(&rt, &large_net_of_move(&rt));
+    expect_plain(&rt, net_of_move(&rt));
+    expect_plain(&rt, large_net_of_move(&rt));
 }
 
 /// The labels that two blocks of a way find by two threads.
-fn labels_of_way<R: Threads + Abort + AllocGlobal + Sync>(rt: &R, net: &Net) -> Option<Vec<u32>> {
-    let state = state_raised(rt, net, 2);
+fn labels_of_way<R: Threads + Abort + AllocGlobal + Sync>(rt: &R, net: Net) -> Option<Vec<u32>> {
+    let state = state_raised(rt, &net, 2);
     take_ok(rt, distances_by_blocks(rt, rt.alloc(), &state, 2))
 }
 
@@ -108,7 +108,7 @@ fn are_of_short_way(labels: &[u32]) -> bool {
 
 /// Whether blocks find the labels of a short way.
 fn finds_short_way<R: Threads + Abort + AllocGlobal + Sync>(rt: &R) -> bool {
-    match labels_of_way(rt, &short_way(rt)) {
+    match labels_of_way(rt, short_way(rt)) {
         Some(labels) => are_of_short_way(&labels),
         None => false,
     }
@@ -118,5 +118,5 @@ fn finds_short_way<R: Threads + Abort + AllocGlobal + Sync>(rt: &R) -> bool {
 #[test]
 fn ways_over_the_border(rt: HostRuntime) {
     hold(&rt, finds_short_way(&rt));
-    hold(&rt, labels_of_way(&rt, &long_way(&rt)).is_none());
+    hold(&rt, labels_of_way(&rt, long_way(&rt)).is_none());
 }

@@ -1,6 +1,6 @@
 //! Turns of two blocks overlap, a round goes on while work and turns are left, and a block with
 //! nothing to do waits while another is busy.
-use crate::alike::round;
+use crate::alike::{do_round, round};
 use crate::building::{idle_nodes, long_way, two_nodes};
 use crate::gates::{Alternate, Closed, Held, Overlap};
 use crate::rows::{hold, take_ok};
@@ -25,7 +25,7 @@ pub const TWO: Options = Options {
 #[test]
 fn gate_overlap(rt: HostRuntime) {
     let gate = Overlap::new();
-    let _after = round(&rt, &two_nodes(&rt), &TWO, &gate);
+    do_round(&rt, two_nodes(&rt), &TWO, &gate);
     hold(&rt, gate.met() == 4);
 }
 
@@ -75,7 +75,7 @@ pub const ONE: Options = Options { threads: 1, ..TWO };
 #[test]
 fn idle_block_waits(rt: HostRuntime) {
     let gate = Held::new();
-    let _after = round(&rt, &idle_nodes(&rt), &TWO, &gate);
+    do_round(&rt, idle_nodes(&rt), &TWO, &gate);
     hold(&rt, gate.met());
 }
 
@@ -83,6 +83,6 @@ fn idle_block_waits(rt: HostRuntime) {
 #[test]
 fn idle_blocks_end(rt: HostRuntime) {
     let gate = Closed::new();
-    let _after = round(&rt, &idle_nodes(&rt), &ONE, &gate);
+    do_round(&rt, idle_nodes(&rt), &ONE, &gate);
     hold(&rt, gate.calls() == 2);
 }

@@ -1,6 +1,6 @@
 //! Which block has a turn when, what a gate's answers end, and that rings have the room that is
 //! told.
-use crate::alike::{round, round_from_zero};
+use crate::alike::{do_round, round, round_from_zero};
 use crate::building::{between_two, fan, idle_nodes, two_nodes};
 use crate::calls::{Diary, Lowest, Only};
 use crate::gates::Open;
@@ -17,7 +17,7 @@ use worker_options::{Gate, Options};
 /// What a diary of two blocks at one worker has in it that says no to the blocks below a number.
 fn diary_of<R: Threads + Wait + Abort + AllocGlobal + Sync>(rt: &R, closed: u32) -> Diary {
     let diary = take_ok(rt, Diary::new(rt.alloc(), closed));
-    let _after = round(rt, &two_nodes(rt), &ONE, &diary);
+    do_round(rt, two_nodes(rt), &ONE, &diary);
     diary
 }
 
@@ -44,7 +44,7 @@ const THREE: Options = Options { blocks: 3, ..TWO };
 #[test]
 fn lowest_block_waits(rt: HostRuntime) {
     let gate = Lowest::new();
-    let _after = round(&rt, &idle_nodes(&rt), &THREE, &gate);
+    do_round(&rt, idle_nodes(&rt), &THREE, &gate);
     hold(&rt, gate.went_up());
 }
 
@@ -120,22 +120,30 @@ const LATER: Only = Only {
     later: true,
 };
 
+/// Whether such a round leaves this state.
+fn leaves<R: Threads + Wait + Abort + AllocGlobal + Sync, G: Gate>(
+    rt: &R,
+    state: &State,
+    options: &Options,
+    gate: &G,
+) -> bool {
+    are_alike(state, &round_of_move(rt, options, gate))
+}
+
 /// A block does nothing in a turn to which the gate says no: it is left as where there is no turn
 /// to draw.
 #[test]
 fn noes_do_nothing(rt: HostRuntime) {
     let first = round_of_move(&rt, &NO_TURNS, &Open);
-    let none = round_of_move(&rt, &ONE, &NO);
-    hold(&rt, are_alike(&first, &none));
+    hold(&rt, leaves(&rt, &first, &ONE, &NO));
 }
 
 /// What the gate says to turn 0 changes nothing, and what it says to later turns does.
 #[test]
 fn first_turns_are_not_asked_for(rt: HostRuntime) {
     let all = round_of_move(&rt, &ONE, &Open);
-    let same = round_of_move(&rt, &ONE, &LATER);
-    let first = round_of_move(&rt, &NO_TURNS, &Open);
-    hold(&rt, are_alike(&all, &same) && !are_alike(&first, &all));
+    hold(&rt, leaves(&rt, &all, &ONE, &LATER));
+    hold(&rt, !leaves(&rt, &all, &NO_TURNS, &Open));
 }
 
 /// Rings' numbers of places, and how many of five letters stay behind in a turn where nobody takes

@@ -10,7 +10,7 @@ pub returns-in-Ok-Over-clause-ended : goal.returns-in-Ok-Over-clause-ended
 returns-in-Ok-Over-clause-ended g c = λ ok start left.
     let a = arrays_with g.N.Number.value c.args.given.now c.args.labels.now in
     run_is_told (arrays_from a start) c.args.moves c.args.cycles _ _ c.in-Some.kind c.in-Ok-Over.run'
-    (given_from a start c.in-Ok-Over.ensures.given left.sites left.below) c.in-Some.ensures.some (c.in-Ok-Over.ensures.stretch start left)
+    (given_from a start c.in-Ok-Over.ensures.given left.sites left.below) c.in-Some.ensures.some (rw c.in-Ok-Over.field-0-is at (c.in-Ok-Over.ensures.stretch start left))
     (c.copy_labels.ensures ∙ c.as_slice.ensures.value) c.tell_run.ensures
 
 pub returns-in-Ok-Paused-clause-paused : goal.returns-in-Ok-Paused-clause-paused
@@ -19,8 +19,8 @@ returns-in-Ok-Paused-clause-paused g c = λ ok start left.
     let copied = c.copy_labels-in-Ok-Paused.ensures ∙ c.as_slice-in-Ok-Paused.ensures.value in
     pause_is_told (arrays_from a start) c.args.moves c.args.cycles c.copy_labels-in-Ok-Paused.new.to c.put_back.new.to c.put_back-in-Ok-Paused.new.to
     c.course_of.result _ c.in-Some.kind c.in-Ok-Paused.pause
-    (given_from a start c.in-Ok-Paused.ensures.given left.sites left.below) c.in-Some.ensures.some (c.in-Ok-Paused.ensures.stretch start left)
-    (left.sites ∙ sym c.in-Ok-Paused.ensures.sized.sites_are ∙ ap (λ (xs : List ℕ). length xs) (sym copied))
+    (given_from a start c.in-Ok-Paused.ensures.given left.sites left.below) c.in-Some.ensures.some (rw c.in-Ok-Paused.field-0-is at (c.in-Ok-Paused.ensures.stretch start left))
+    (left.sites ∙ sym (rw c.in-Ok-Paused.field-0-is at c.in-Ok-Paused.ensures.sized).sites_are ∙ ap (λ (xs : List ℕ). length xs) (sym copied))
     copied c.course_of.ensures.marked c.course_of.ensures.cycles
     (λ i l. c.put_back.ensures.each i (omega (arith, l, c.put_back.ensures.size)) ∙ ap (λ (xs : List ℕ). slice_index xs i) c.deref.ensures.value)
     (λ i l. c.put_back-in-Ok-Paused.ensures.each i (omega (arith, l, c.put_back-in-Ok-Paused.ensures.size))
