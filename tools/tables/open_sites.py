@@ -379,7 +379,7 @@ def print_rows():
     print("//! Moves of which few sites are left for a cut, with their best answers. Made by tools/tables/open_sites.py.")
     print()
     print("/// The moves, each a row of `few_open`.")
-    print(f"pub const LISTED: [&[u8; 257]; {len(moves)}] = [")
+    print("pub const LISTED: &[&[u8; 257]] = &[")
     for name, it in moves:
         row = it.row()
         print(f"    // {name[0].upper() + name[1:]}: {len(it.open)} open, {len(it.turning)} decided to turn.")

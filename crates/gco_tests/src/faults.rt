@@ -1,6 +1,6 @@
 //! Writers that stop and readers that fail, at each byte, of each command.
 use crate::images::stripes;
-use crate::rows::expect;
+use crate::rows::{expect, expect_at, hold, take_ok};
 use crate::streams::{CutWriter, ROOM, SlowReader, ends, run};
 use byte_streams::{Watched, WatchedReader};
 use std::process::Abort;
@@ -103,19 +103,28 @@ fn expect_cuts(
     room: usize,
     stops: &[Stop],
 ) {
-    let line = format!(in rt.alloc(); "refused 9 after {room}\n").expect(rt, "memory");
+    let line = take_ok(rt, format!(in rt.alloc(); "refused 9 after {room}\n"));
     for stop in stops {
         let is_right = is_cut(rt, command, line.as_bytes(), room, stop);
-        expect(rt, stop.0, room, is_right);
+        expect_at(rt, stop.0, room, is_right);
+    }
+}
+
+/// Each number of bytes of the answer of a command.
+fn expect_all_cuts(
+    rt: &(impl AllocGlobal + Abort + Threads + Wait + Sync),
+    command: &Command<'_>,
+    stops: &[Stop],
+) {
+    for room in 0..command.2.len() {
+        expect_cuts(rt, command, room, stops);
     }
 }
 
 #[test]
 fn writers_that_stop(rt: HostRuntime) {
     for command in COMMANDS {
-        for room in 0..command.2.len() {
-            expect_cuts(&rt, command, room, STOPS);
-        }
+        expect_all_cuts(&rt, command, STOPS);
     }
 }
 
@@ -125,15 +134,14 @@ const LONG_STOPS: &[Stop] = &[
     ("at once, then a fault", ROOM, true),
 ];
 
+const RESTORE_ONCE: &[&str] = &["gco", "restore", "--weight", "1", "--cycles", "1"];
+
 #[test]
 fn writers_that_stop_in_a_picture(rt: HostRuntime) {
-    let picture = stripes(rt.alloc()).expect(&rt, "memory");
+    let picture = take_ok(&rt, stripes(rt.alloc()));
     let picture = picture.as_slice();
-    let words = &["gco", "restore", "--weight", "1", "--cycles", "1"];
-    assert!(rt; picture.len() == 4_107);
-    for room in 0..picture.len() {
-        expect_cuts(&rt, &(words, picture, picture, ""), room, LONG_STOPS);
-    }
+    hold(&rt, picture.len() == 4_107);
+    expect_all_cuts(&rt, &(RESTORE_ONCE, picture, picture, ""), LONG_STOPS);
 }
 
 /// Whether an answer is written though the fault writer stops here.
@@ -166,26 +174,36 @@ fn is_refused(
     is_held(rt, command, &mut writer, &mut faults, 1, b"", said)
 }
 
-/// Each cut of what a command says after an answer, and where its writer takes nothing.
-fn expect_status(
+/// Each cut of what a command says after an answer.
+fn expect_answers(
     rt: &(impl AllocGlobal + Abort + Threads + Wait + Sync),
     command: &Command<'_>,
     step: usize,
 ) {
     for room in 0..command.3.len() + 1 {
-        expect(rt, "answered", room, is_answered(rt, command, room, step));
-    }
-    for room in 0..NOTHING.len() + 1 {
-        expect(rt, "refused", room, is_refused(rt, command, room, step));
+        expect_at(rt, "answered", room, is_answered(rt, command, room, step));
     }
 }
 
-// The status stays where a fault writer stops.
+/// And of what it says where its writer takes nothing.
+fn expect_refusals(
+    rt: &(impl AllocGlobal + Abort + Threads + Wait + Sync),
+    command: &Command<'_>,
+    step: usize,
+) {
+    for room in 0..NOTHING.len() + 1 {
+        expect_at(rt, "refused", room, is_refused(rt, command, room, step));
+    }
+}
+
+/// The status stays where a fault writer stops.
 #[test]
 fn fault_writers_that_stop(rt: HostRuntime) {
     for command in COMMANDS {
-        expect_status(&rt, command, 1);
-        expect_status(&rt, command, ROOM);
+        expect_answers(&rt, command, 1);
+        expect_answers(&rt, command, ROOM);
+        expect_refusals(&rt, command, 1);
+        expect_refusals(&rt, command, ROOM);
     }
 }
 
@@ -217,13 +235,13 @@ fn expect_faults(
     command: &Command<'_>,
     step: usize,
 ) {
-    expect(rt, "whole", step, is_read(rt, command, step));
+    expect_at(rt, "whole", step, is_read(rt, command, step));
     for count in 0..command.1.len() + 1 {
-        expect(rt, "broken", count, fails_at(rt, command, count, step));
+        expect_at(rt, "broken", count, fails_at(rt, command, count, step));
     }
 }
 
-// At once and by one byte a call.
+/// At once and by one byte a call.
 #[test]
 fn readers_that_fail(rt: HostRuntime) {
     for command in COMMANDS {
@@ -244,25 +262,29 @@ const REMEMBERED: &[Remembered] = &[
 
 /// Whether the run remembers of each stream if it failed.
 fn is_remembered(rt: &(impl AllocGlobal + Threads + Wait + Sync), row: &Remembered) -> bool {
-    let (room, is_broken, status, written) = row;
-    let mut reader = SlowReader::new(FILE, 5, *is_broken);
-    let mut writer = CutWriter::new(*room, 5);
+    let mut reader = SlowReader::new(FILE, 5, row.1);
+    let mut writer = CutWriter::new(row.0, 5);
     let mut faults = CutWriter::ample();
     let mut source = WatchedReader::new(&mut reader);
     let mut sink = Watched::new(&mut writer);
     let mut fault_sink = Watched::new(&mut faults);
-    let words = ["gco", "energy"];
-    let ended = gco_cli::run(rt, &words, &mut source, &mut sink, &mut fault_sink);
-    ended == *status
-        && source.failures() == u64::from(*is_broken)
-        && sink.failures() == u64::from(*room < 24)
+    let ended = gco_cli::run(
+        rt,
+        &["gco", "energy"],
+        &mut source,
+        &mut sink,
+        &mut fault_sink,
+    );
+    ended == row.2
+        && source.failures() == u64::from(row.1)
+        && sink.failures() == u64::from(row.0 < 24)
         && fault_sink.failures() == 0
-        && writer.held.as_slice() == *written
+        && writer.held.as_slice() == row.3
 }
 
 #[test]
 fn streams_that_remember(rt: HostRuntime) {
     for (place, row) in REMEMBERED.iter().enumerate() {
-        expect(&rt, "REMEMBERED", place, is_remembered(&rt, row));
+        expect(&rt, place, is_remembered(&rt, row));
     }
 }

@@ -1,12 +1,12 @@
 //! The workers that words ask for make the cuts of a run, and no others do.
-use crate::rows::expect;
+use crate::rows::{expect, take_ok};
 use crate::streams::{CutWriter, ROOM, SlowReader};
 use byte_streams::{Watched, WatchedReader};
 use gco_cli::run_gated;
 use std::alloc::{AllocError, Global};
+use std::process::Abort;
 use std::sync::Wait;
 use std::sync::atomic::{AtomicU32, Ordering};
-use std::test::Fail;
 use std::thread::Threads;
 use worker_options::Gate;
 
@@ -114,18 +114,28 @@ const ROWS: &[Row] = &[
     ),
 ];
 
+/// An energy, and what is written of it.
+fn energy_texts(alloc: Global, blocks: usize) -> Result<(String, String), AllocError> {
+    let least = blocks.saturating_mul(2);
+    let front = format!(in alloc; "minimum {least}\nassignment ")?;
+    let written = written_of(alloc, front.as_str(), "01", blocks)?;
+    Ok((energy_file(alloc, blocks)?, written))
+}
+
+/// A problem of labels, and what is written of it.
+fn label_texts(alloc: Global, blocks: usize) -> Result<(String, String), AllocError> {
+    let front = "energy 0 data 0 smooth 0\nlabels";
+    let written = written_of(alloc, front, " 1 1", blocks)?;
+    Ok((label_file(alloc, blocks)?, written))
+}
+
 /// The input of a row, and what is written of it.
 fn texts_of(alloc: Global, row: &Row) -> Result<(String, String), AllocError> {
-    let (_, is_energy, blocks, _) = row;
-    if *is_energy {
-        let least = blocks.saturating_mul(2);
-        let front = format!(in alloc; "minimum {least}\nassignment ")?;
-        let written = written_of(alloc, front.as_str(), "01", *blocks)?;
-        return Ok((energy_file(alloc, *blocks)?, written));
+    if row.1 {
+        energy_texts(alloc, row.2)
+    } else {
+        label_texts(alloc, row.2)
     }
-    let front = "energy 0 data 0 smooth 0\nlabels";
-    let written = written_of(alloc, front, " 1 1", *blocks)?;
-    Ok((label_file(alloc, *blocks)?, written))
 }
 
 /// Whether a run of these words with this gate writes what it should.
@@ -164,20 +174,16 @@ fn is_shared(
 }
 
 /// Whether a run ends as the row tells.
-fn is_answered(
-    rt: &(impl AllocGlobal + Threads + Wait + Sync),
-    row: &Row,
-) -> Result<bool, AllocError> {
-    let (input, written) = texts_of(rt.alloc(), row)?;
-    Ok(is_shared(rt, row.0, input.as_bytes(), written.as_bytes(), row.3))
+fn is_answered(rt: &(impl AllocGlobal + Abort + Threads + Wait + Sync), row: &Row) -> bool {
+    let (input, written) = take_ok(rt, texts_of(rt.alloc(), row));
+    is_shared(rt, row.0, input.as_bytes(), written.as_bytes(), row.3)
 }
 
 #[test]
-fn workers_make_the_cuts(rt: HostRuntime) -> Result<(), Fail> {
+fn workers_make_the_cuts(rt: HostRuntime) {
     for (place, row) in ROWS.iter().enumerate() {
-        expect(&rt, "ROWS", place, is_answered(&rt, row)?);
+        expect(&rt, place, is_answered(&rt, row));
     }
-    Ok(())
 }
 
 /// Adds a picture of 64 by 64 samples: in each row 0 and this one in turn.
@@ -258,20 +264,20 @@ const PICTURES: &[PictureRow] = &[
     ),
 ];
 
+/// Whether a run over the pictures of a row writes this, as the row tells.
+fn is_cut(
+    rt: &(impl AllocGlobal + Abort + Threads + Wait + Sync),
+    row: &PictureRow,
+    written: &[u8],
+) -> bool {
+    let input = take_ok(rt, pictures_of(rt.alloc(), row.1));
+    is_shared(rt, row.0, input.as_slice(), written, row.2)
+}
+
 #[test]
-fn workers_cut_pictures(rt: HostRuntime) -> Result<(), Fail> {
-    let written = pictures_of(rt.alloc(), &[0])?;
+fn workers_cut_pictures(rt: HostRuntime) {
+    let written = take_ok(&rt, pictures_of(rt.alloc(), &[0]));
     for (place, row) in PICTURES.iter().enumerate() {
-        let (words, seconds, by_workers) = row;
-        let input = pictures_of(rt.alloc(), seconds)?;
-        let is_right = is_shared(
-            &rt,
-            words,
-            input.as_slice(),
-            written.as_slice(),
-            *by_workers,
-        );
-        expect(&rt, "PICTURES", place, is_right);
+        expect(&rt, place, is_cut(&rt, row, written.as_slice()));
     }
-    Ok(())
 }

@@ -1,7 +1,9 @@
 //! Pictures, and what the image commands make of them. The small ones were worked by hand.
-use crate::rows::expect;
+use crate::rows::{expect, take_ok};
 use crate::streams::{ROOM, SlowReader, ends, ends_alike};
 use std::alloc::{AllocError, Global};
+use std::sync::Wait;
+use std::thread::Threads;
 
 const RESTORED: &[u8] = b"P5\n3 1\n3\n\x00\x03\x00";
 
@@ -316,9 +318,9 @@ const ROWS: &[Row] = &[
 
 #[test]
 fn pictures(rt: HostRuntime) {
-    for (place, (words, input, status, written, said)) in ROWS.iter().enumerate() {
-        let is_right = ends_alike(&rt, words, input, *status, written, said);
-        expect(&rt, "ROWS", place, is_right);
+    for (place, row) in ROWS.iter().enumerate() {
+        let is_right = ends_alike(&rt, row.0, row.1, row.2, row.3, row.4);
+        expect(&rt, place, is_right);
     }
 }
 
@@ -343,14 +345,22 @@ pub fn stripes(alloc: Global) -> Result<Vec<u8>, AllocError> {
     Ok(picture)
 }
 
-// In each row a stripe costs 2, its two borders, and would cost 3 if it were black.
+/// Whether a run of these words writes the striped picture. In each row a stripe costs 2, its two
+/// borders, and would cost 3 if it were black.
+fn is_restored(
+    rt: &(impl AllocGlobal + Threads + Wait + Sync),
+    words: &[&str],
+    picture: &[u8],
+) -> bool {
+    let mut reader = SlowReader::new(picture, ROOM, false);
+    let said = "energy 2048 data 0 smooth 2048\n";
+    ends(rt, words, &mut reader, 0, picture, said)
+}
+
 #[test]
 fn stripes_are_restored(rt: HostRuntime) {
-    let picture = stripes(rt.alloc()).expect(&rt, "memory");
-    let said = "energy 2048 data 0 smooth 2048\n";
+    let picture = take_ok(&rt, stripes(rt.alloc()));
     for (place, words) in SHARED.iter().enumerate() {
-        let mut reader = SlowReader::new(picture.as_slice(), ROOM, false);
-        let is_right = ends(&rt, words, &mut reader, 0, picture.as_slice(), said);
-        expect(&rt, "SHARED", place, is_right);
+        expect(&rt, place, is_restored(&rt, words, picture.as_slice()));
     }
 }

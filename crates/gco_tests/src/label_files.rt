@@ -1,8 +1,8 @@
 //! Files that are read. What each names was worked by hand.
+use crate::rows::{expect, take_ok};
 use label_energies::Moves;
 use label_field::Pair;
 use problem_files::{LabelProblem, read_label};
-use std::test::Fail;
 
 struct Row {
     file: &'static str,
@@ -33,7 +33,7 @@ const FREE: Pair = Pair {
     weight: 0,
 };
 
-const ROWS: [Row; 5] = [
+const ROWS: &[Row] = &[
     // Each default.
     Row {
         file: "sites = 2\nlabels = 2\ndata = [0, 3, 10000000, 0]",
@@ -114,10 +114,9 @@ fn are_costs(costs: &Option<Vec<i64>>, told: Option<&[i64]>) -> bool {
 }
 
 #[test]
-fn reads_files(rt: HostRuntime) -> Result<(), Fail> {
-    for row in &ROWS {
-        let problem = read_label(rt.alloc(), row.file.as_bytes())?;
-        assert!(rt; is_read(&problem, row), "{}", row.file);
+fn reads_files(rt: HostRuntime) {
+    for (place, row) in ROWS.iter().enumerate() {
+        let problem = take_ok(&rt, read_label(rt.alloc(), row.file.as_bytes()));
+        expect(&rt, place, is_read(&problem, row));
     }
-    Ok(())
 }

@@ -1,7 +1,8 @@
 //! The first fault of a file.
+use crate::rows::expect;
 use problem_files::{LabelFault, LabelKey, read_label};
 
-const BAD: [(&str, LabelFault); 46] = [
+const BAD: &[(&str, LabelFault)] = &[
     ("sites = ", LabelFault::BadToml),
     (
         "labels = 2\ndata = []",
@@ -173,8 +174,8 @@ const BAD: [(&str, LabelFault); 46] = [
 
 #[test]
 fn refuses_files(rt: HostRuntime) {
-    for (file, fault) in &BAD {
-        let refused = read_label(rt.alloc(), file.as_bytes()).err();
-        assert!(rt; refused == Some(*fault), "{file}");
+    for (place, row) in BAD.iter().enumerate() {
+        let refused = read_label(rt.alloc(), row.0.as_bytes()).err();
+        expect(&rt, place, refused == Some(row.1));
     }
 }

@@ -1,5 +1,5 @@
 //! Words that are refused, help, and words that could not be read.
-use crate::rows::expect;
+use crate::rows::{expect, hold};
 use crate::streams::{CutWriter, ROOM, SlowReader, run};
 use crate::words::helps::{
     ENERGY_HELP, GCO_HELP, LABEL_HELP, RESTORE_HELP, SEGMENT_HELP, STEREO_HELP,
@@ -118,38 +118,42 @@ const ROWS: &[Row] = &[
     ),
 ];
 
+/// Whether the text begins as the row tells; help is the whole text.
+fn is_text(text: &[u8], row: &Row) -> bool {
+    text.starts_with(row.2.as_bytes()) && (row.1 != 0 || text.len() == row.2.len())
+}
+
 /// Whether nothing is read, and the text is written for help and said else.
 fn is_told(rt: &(impl AllocGlobal + Threads + Wait + Sync), row: &Row) -> bool {
-    let (words, status, front) = row;
     let mut reader = SlowReader::new(b"variables = 1", ROOM, false);
     let mut writer = CutWriter::ample();
     let mut faults = CutWriter::ample();
-    let ended = run(rt, words, &mut reader, &mut writer, &mut faults);
-    let (text, other) = if *status == 0 {
+    let ended = run(rt, row.0, &mut reader, &mut writer, &mut faults);
+    let (text, other) = if row.1 == 0 {
         (&writer, &faults)
     } else {
         (&faults, &writer)
     };
-    ended == *status
+    ended == row.1
         && reader.bytes.len() == 13
         && other.held.is_empty()
-        && text.held.as_slice().starts_with(front.as_bytes())
-        && (*status != 0 || text.held.len() == front.len())
+        && is_text(text.held.as_slice(), row)
 }
 
 #[test]
 fn words(rt: HostRuntime) {
     for (place, row) in ROWS.iter().enumerate() {
-        expect(&rt, "ROWS", place, is_told(&rt, row));
+        expect(&rt, place, is_told(&rt, row));
     }
 }
+
+const UNREAD: &[u8] = b"refused 0\nerror: an argument is not text\n";
 
 #[test]
 fn words_that_were_not_read(rt: HostRuntime) {
     let mut writer = CutWriter::ample();
     let mut faults = Watched::new(&mut writer);
-    assert!(rt; refuse_unread(ErrorKind::OutOfMemory, &mut faults) == 1);
-    assert!(rt; refuse_unread(ErrorKind::InvalidData, &mut faults) == 2);
-    let said = b"refused 0\nerror: an argument is not text\n";
-    assert!(rt; writer.held.as_slice() == said.as_slice());
+    hold(&rt, refuse_unread(ErrorKind::OutOfMemory, &mut faults) == 1);
+    hold(&rt, refuse_unread(ErrorKind::InvalidData, &mut faults) == 2);
+    hold(&rt, writer.held.as_slice() == UNREAD);
 }

@@ -1,6 +1,6 @@
 //! Small random moves and runs where labels cost something by themselves, and the bounds of settled
 //! runs, against answers worked out over all labellings.
-ghost use Rattle.std.specs.Prelude.{◌≡◌, ◌≤◌, ◌<◌, ◌+◌, ◌*◌, ◌≤ℤ◌, pos, length, IfOk, All};
+ghost use Rattle.std.specs.Prelude.{◌≡◌, ◌≤◌, ◌<◌, ◌+◌, ◌*◌, ◌≤ℤ◌, pos, length, All};
 ghost use Rattle.cost_store.specs.Limits.{smooth_limit};
 ghost use Rattle.cost_store.specs.Posed.{IsPosed, FitsProblem};
 ghost use Rattle.cost_store.specs.Promises.{IsCost, entry_at};
@@ -9,12 +9,12 @@ use crate::costs::COSTED;
 use crate::random::{
     BYTES, CutAlone, DATA, SMOOTH, digit, is_answered, number, number_of, pairs_of, start_of,
 };
+use crate::rows::{expect, hold, take_ok};
 use cost_store::{DataCost, Problem, SmoothCost, check_table, is_metric};
 use label_field::Labelling;
 use moves::{Alone, MoveError, Sharing, expansion_bound};
 use std::alloc::{AllocError, Global};
 use std::process::Abort;
-use std::test::Fail;
 
 /// How many bytes a row has: those of `random`; what each of four labels costs by itself; the label
 /// energy after, of eight digits; the two numbers of the bound, of five digits each, 0 and 0 where
@@ -44,16 +44,9 @@ fn costs_of(row: &[u8; COSTED_BYTES]) -> [i64; 4] {
     ]
 }
 
-/// The table of the smooth costs of so many labels.
-fn smooth_of(
-    rt: &impl Abort,
-    alloc: Global,
-    row: &[u8; BYTES],
-    labels: u32,
-) -> Result<Vec<i64>, AllocError>
+/// The smooth costs of so many labels.
+fn smooth_costs(alloc: Global, row: &[u8; BYTES], labels: u32) -> Result<Vec<i64>, AllocError>
     requires { labels ≤ 4 }
-    ensures size { IfOk result (λ table. length table.items ≡ labels * labels) }
-    ensures costs { IfOk result (λ table. All (IsCost smooth_limit) table.items) }
 {
     let mut table = Vec::new(alloc);
     for first in 0..labels {
@@ -62,9 +55,19 @@ fn smooth_of(
             table.push(i64::from(number(row, place, SMOOTH)))?;
         }
     }
-    let is_table = check_table(table.as_slice(), 10_000).is_ok();
-    assert!(*rt; is_table && table.len() == labels as usize * labels as usize);
     Ok(table)
+}
+
+/// A table of them.
+fn smooth_of(rt: &impl Abort, alloc: Global, row: &[u8; BYTES], labels: u32) -> Vec<i64>
+    requires { labels ≤ 4 }
+    ensures size { length result.items ≡ labels * labels }
+    ensures costs { All (IsCost smooth_limit) result.items }
+{
+    let table = take_ok(rt, smooth_costs(alloc, row, labels));
+    hold(rt, check_table(table.as_slice(), 10_000).is_ok());
+    hold(rt, table.len() == labels as usize * labels as usize);
+    table
 }
 
 /// Whether the bound is that of a row, and a settled run of expansions has ended within it.
@@ -112,24 +115,17 @@ fn is_told<F: Fn(u32, u32) -> i64 + Sync, V: Fn(u32, u32) -> i64 + Sync, H: Shar
 }
 
 /// Whether a row is right.
-fn is_right<H: Sharing>(
-    rt: &impl Abort,
-    alloc: Global,
-    row: &[u8; COSTED_BYTES],
-    how: &H,
-) -> Result<bool, AllocError>
+fn is_right<H: Sharing>(rt: &impl Abort, alloc: Global, row: &[u8; COSTED_BYTES], how: &H) -> bool
     requires { H.ready how.now }
 {
     let mut moved = [0; BYTES];
     moved.copy_from_slice(&row[..BYTES]);
     let (sites, labels) = (digit(&moved, 0), digit(&moved, 1));
-    assert!(*rt; sites <= 6 && 1 <= labels && labels <= 4);
+    hold(rt, sites <= 6);
+    hold(rt, 1 <= labels && labels <= 4);
     let pairs = pairs_of(rt, alloc, &moved, sites);
     let mut labelling = start_of(rt, alloc, &moved, sites, labels);
-    assert!(*rt;
-        pairs.sites() == sites && labelling.sites() == sites && labelling.labels() == labels
-    );
-    let table = smooth_of(rt, alloc, &moved, labels)?;
+    let table = smooth_of(rt, alloc, &moved, labels);
     let smooth = table.as_slice();
     let cost = |first: u32, second: u32| -> i64
         requires { (first * labels + second < length smooth.now) × (labels ≤ 256) }
@@ -149,13 +145,13 @@ fn is_right<H: Sharing>(
         label_costs: None,
     };
     let Ok(()) = problem.set_label_costs(alloc, &costs_of(row)[..labels as usize]) else {
-        return Ok(false);
+        return false;
     };
-    Ok(is_told(&problem, alloc, &mut labelling, row, &moved, how))
+    is_told(&problem, alloc, &mut labelling, row, &moved, how)
 }
 
 /// Moves and runs worked by hand, each a row of this table's form.
-const WORKED: [&[u8; COSTED_BYTES]; 11] = [
+const WORKED: &[&[u8; COSTED_BYTES]] = &[
     // From 14, expanding 1 reaches 11 by 1 1; 0 1 costs 13.
     b"230291200039093000000000000000000011010101100000000000011000000000000000000000000000000006000000005550000000050000000000000000011",
     // With labels that cost 2 each, 0 2 is best.
@@ -178,29 +174,23 @@ const WORKED: [&[u8; COSTED_BYTES]; 11] = [
 ];
 
 /// Whether a row is right, with sites decided first where that may be, and without.
-fn is_right_both_ways(
-    rt: &impl Abort,
-    alloc: Global,
-    row: &[u8; COSTED_BYTES],
-) -> Result<bool, AllocError> {
-    Ok(is_right(rt, alloc, row, &Alone)? && is_right(rt, alloc, row, &CutAlone)?)
+fn is_right_both_ways(rt: &impl Abort, alloc: Global, row: &[u8; COSTED_BYTES]) -> bool {
+    is_right(rt, alloc, row, &Alone) && is_right(rt, alloc, row, &CutAlone)
 }
 
 #[test]
-fn costed_moves_worked_by_hand(rt: HostRuntime) -> Result<(), Fail> {
+fn costed_moves_worked_by_hand(rt: HostRuntime) {
     for (place, row) in WORKED.iter().enumerate() {
-        assert!(rt; is_right_both_ways(&rt, rt.alloc(), row)?, "row {place}");
+        expect(&rt, place, is_right_both_ways(&rt, rt.alloc(), row));
     }
-    Ok(())
 }
 
 #[test]
-fn costed_moves_are_best(rt: HostRuntime) -> Result<(), Fail> {
-    assert!(rt; COSTED.len() == COSTED_BYTES * 600);
+fn costed_moves_are_best(rt: HostRuntime) {
+    hold(&rt, COSTED.len() == COSTED_BYTES * 600);
     for place in 0..600 {
         let mut row = [0; COSTED_BYTES];
         row.copy_from_slice(&COSTED[COSTED_BYTES * place..COSTED_BYTES * place + COSTED_BYTES]);
-        assert!(rt; is_right_both_ways(&rt, rt.alloc(), &row)?, "row {place}");
+        expect(&rt, place, is_right_both_ways(&rt, rt.alloc(), &row));
     }
-    Ok(())
 }

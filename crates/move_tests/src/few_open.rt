@@ -6,13 +6,13 @@ ghost use Rattle.cost_store.specs.Posed.{IsPosed, FitsProblem};
 use crate::listed::LISTED;
 use crate::opened::open_in;
 use crate::random::CutAlone;
+use crate::rows::{expect, hold, take_ok};
 use cost_store::{DataCost, Problem, SmoothCost};
 use label_energies::Move;
 use label_field::{Labelling, Pairs};
 use moves::{Alone, Sharing, expand, swap};
 use std::alloc::Global;
 use std::process::Abort;
-use std::test::Fail;
 
 /// How many bytes a row has: how many sites, labels and pairs; 0 for an expansion, 1 for a swap;
 /// alpha, beta; how many sites are left open; 1 where a label changes. Then three data costs of
@@ -37,11 +37,9 @@ fn pairs_of(rt: &impl Abort, alloc: Global, row: &[u8; BYTES], sites: u32) -> Pa
     for place in 0..number(row, 2).min(40) as usize {
         let at = 137 + 3 * place;
         let weight = i64::from(number(row, at + 2));
-        pairs
-            .add(number(row, at), number(row, at + 1), weight)
-            .expect(rt, "a pair");
+        take_ok(rt, pairs.add(number(row, at), number(row, at + 1), weight));
     }
-    assert!(*rt; pairs.sites() == sites);
+    hold(rt, pairs.sites() == sites);
     pairs
 }
 
@@ -57,13 +55,15 @@ fn labels_at(
     requires { (sites ≤ 24) × (1 ≤ labels) × (labels ≤ 3) × (at < 200) }
     ensures { (length result.at ≡ sites) × (result.labels ≡ labels) }
 {
-    let mut labelling = Labelling::new(alloc, sites, labels).expect(rt, "memory");
+    let mut labelling = take_ok(rt, Labelling::new(alloc, sites, labels));
     for site in 0..sites {
-        labelling
-            .set_label(site, number(row, at + site as usize))
-            .expect(rt, "a label");
+        take_ok(
+            rt,
+            labelling.set_label(site, number(row, at + site as usize)),
+        );
     }
-    assert!(*rt; labelling.sites() == sites && labelling.labels() == labels);
+    hold(rt, labelling.sites() == sites);
+    hold(rt, labelling.labels() == labels);
     labelling
 }
 
@@ -106,29 +106,31 @@ fn ends_right<F: Fn(u32, u32) -> i64 + Sync, V: Fn(u32, u32) -> i64 + Sync, H: S
 /// Whether a move leaves so many sites open as the row says, and ends as it says: with sites
 /// decided first, and without. The labellings are that before the move, twice, and that after it.
 fn is_told<F: Fn(u32, u32) -> i64 + Sync, V: Fn(u32, u32) -> i64 + Sync>(
+    rt: &impl Abort,
     problem: &Problem<F, V>,
     alloc: Global,
     labelling: &mut Labelling,
     again: &mut Labelling,
     wanted: &Labelling,
     row: &[u8; BYTES],
-) -> Result<bool, Fail>
+) -> bool
     requires posed { IsPosed F.Fn V.Fn problem.now }
     requires fits { FitsProblem problem.now labelling.old }
     requires again { FitsProblem problem.now again.old }
     requires labels { 1 ≤ problem.now.data_cost.labels }
 {
     let change = change_of(row, problem.data_cost.labels);
-    let opened = open_in(alloc, problem, labelling, change)?;
-    let is_known = ends_right(problem, alloc, labelling, wanted, change, row, &Alone);
-    let is_cut = ends_right(problem, alloc, again, wanted, change, row, &CutAlone);
-    Ok(opened == Some(number(row, 6) as usize) && is_known && is_cut)
+    let opened = take_ok(rt, open_in(alloc, problem, labelling, change));
+    opened == Some(number(row, 6) as usize)
+        && ends_right(problem, alloc, labelling, wanted, change, row, &Alone)
+        && ends_right(problem, alloc, again, wanted, change, row, &CutAlone)
 }
 
 /// Whether a row is right.
-fn is_right(rt: &impl Abort, alloc: Global, row: &[u8; BYTES]) -> Result<bool, Fail> {
+fn is_right(rt: &impl Abort, alloc: Global, row: &[u8; BYTES]) -> bool {
     let (sites, labels) = (number(row, 0), number(row, 1));
-    assert!(*rt; sites <= 24 && 1 <= labels && labels <= 3);
+    hold(rt, sites <= 24);
+    hold(rt, 1 <= labels && labels <= 3);
     let pairs = pairs_of(rt, alloc, row, sites);
     let mut labelling = labels_at(rt, alloc, row, 89, sites, labels);
     let mut again = labels_at(rt, alloc, row, 89, sites, labels);
@@ -152,13 +154,20 @@ fn is_right(rt: &impl Abort, alloc: Global, row: &[u8; BYTES]) -> Result<bool, F
         ),
         label_costs: None,
     };
-    is_told(&problem, alloc, &mut labelling, &mut again, &wanted, row)
+    is_told(
+        rt,
+        &problem,
+        alloc,
+        &mut labelling,
+        &mut again,
+        &wanted,
+        row,
+    )
 }
 
 #[test]
-fn listed_moves_are_best(rt: HostRuntime) -> Result<(), Fail> {
+fn listed_moves_are_best(rt: HostRuntime) {
     for (place, row) in LISTED.iter().enumerate() {
-        assert!(rt; is_right(&rt, rt.alloc(), row)?, "row {place}");
+        expect(&rt, place, is_right(&rt, rt.alloc(), row));
     }
-    Ok(())
 }

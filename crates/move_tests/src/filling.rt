@@ -1,11 +1,12 @@
-//! Tables of costs that threads fill.
+//! Tables and columns of costs, also such that threads fill.
 ghost use Rattle.std.specs.Prelude.{pos, ◌≤ℤ◌};
 
+use crate::rows::{hold, take_ok};
 use cost_store::DataCost;
-use std::test::Fail;
+use moves::{Alone, Columns};
 
 #[test]
-fn fills_as_it_answers(rt: HostRuntime) -> Result<(), Fail> {
+fn fills_as_it_answers(rt: HostRuntime) {
     let cost = DataCost::new(
         |_site: u32, label: u32| -> i64
             ensures { (pos 0 ≤ℤ result) × (result ≤ℤ pos 3) }
@@ -13,11 +14,14 @@ fn fills_as_it_answers(rt: HostRuntime) -> Result<(), Fail> {
         2,
         2,
     );
-    let table = cost.fill(&rt, rt.alloc())?;
-    assert!(rt; table.as_slice() == [3, 0, 3, 0].as_slice());
-    let column = cost.fill_column(&rt, rt.alloc(), 1)?;
-    assert!(rt; column.as_slice() == [0, 0].as_slice());
-    let plain = cost.column_of(rt.alloc(), 0)?;
-    assert!(rt; plain.as_slice() == [3, 3].as_slice());
-    Ok(())
+    let table = take_ok(&rt, cost.table_of(rt.alloc()));
+    hold(&rt, table.as_slice() == [3, 0, 3, 0].as_slice());
+    let table = take_ok(&rt, cost.fill(&rt, rt.alloc()));
+    hold(&rt, table.as_slice() == [3, 0, 3, 0].as_slice());
+    let column = take_ok(&rt, cost.column_of(rt.alloc(), 0));
+    hold(&rt, column.as_slice() == [3, 3].as_slice());
+    let column = take_ok(&rt, cost.fill_column(&rt, rt.alloc(), 1));
+    hold(&rt, column.as_slice() == [0, 0].as_slice());
+    let column = take_ok(&rt, Alone.column(rt.alloc(), &cost, 0));
+    hold(&rt, column.as_slice() == [3, 3].as_slice());
 }

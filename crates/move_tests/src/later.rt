@@ -1,13 +1,14 @@
 //! How many cuts a run of expansions has whose later expansions look near the changes alone, and
 //! how many sites these have, on the picture of `opened`; and that it ends as a run whose moves are
 //! all made whole.
-ghost use Rattle.std.specs.Prelude.{◌≡◌, ◌<◌, ◌≤◌, ◌+◌, ◌*◌, ◌≤ℤ◌, pos, length, IfOk, All};
+ghost use Rattle.std.specs.Prelude.{◌≡◌, ◌<◌, ◌≤◌, ◌+◌, ◌*◌, ◌≤ℤ◌, pos, length, All};
 ghost use Rattle.cost_store.specs.Limits.{smooth_limit};
 ghost use Rattle.cost_store.specs.Promises.{IsCost, entry_at};
 ghost use Rattle.cut_ways.specs.declared.solve_error.SolveError.TheVariants.{OutOfMemory};
 
 use crate::opened::sample;
 use crate::random::CutAlone;
+use crate::rows::{expect, hold, take_ok};
 use cost_store::{DataCost, Problem, SMOOTH_LIMIT, SmoothCost, check_table, is_metric};
 use cut_ways::InOrder;
 use flow_network::{Net, Solved};
@@ -16,13 +17,14 @@ use moves::{Alone, How, Sharing, SolveError, run_expansion};
 use std::alloc::{AllocError, Global};
 use std::process::Abort;
 use std::sync::atomic::{AtomicUsize, Ordering};
-use std::test::Fail;
 
 /// By how many parts a later expansion looks, what two unlike labels cost, how many cycles are
 /// allowed, how many cuts there are but for those of the parts, and how many sites these have
 /// together. Made by tools/tables/stage_sites.py, which finds by itself where a later expansion
 /// looks.
-const RUNS: &[(usize, i64, u32, usize, usize)] = &[
+type Run = (usize, i64, u32, usize, usize);
+
+const RUNS: &[Run] = &[
     (1, 2, 1, 4, 1863),
     (1, 2, 2, 8, 2193),
     (1, 2, 3, 12, 4710),
@@ -78,20 +80,26 @@ impl Sharing for Counting {
     }
 }
 
-/// The table of what each two of four labels cost.
-fn smooth_of(rt: &impl Abort, alloc: Global, unlike: i64) -> Result<Vec<i64>, AllocError>
-    ensures size { IfOk result (λ table. length table.items ≡ 16) }
-    ensures costs { IfOk result (λ table. All (IsCost smooth_limit) table.items) }
-{
+/// What each two of four labels cost.
+fn smooth_costs(alloc: Global, unlike: i64) -> Result<Vec<i64>, AllocError> {
     let mut table = Vec::new(alloc);
     for first in 0..4u32 {
         for second in 0..4u32 {
             table.push(if first == second { 0 } else { unlike })?;
         }
     }
-    let is_table = check_table(table.as_slice(), SMOOTH_LIMIT).is_ok();
-    assert!(*rt; is_table && table.len() == 16);
     Ok(table)
+}
+
+/// The table of that.
+fn smooth_of(rt: &impl Abort, alloc: Global, unlike: i64) -> Vec<i64>
+    ensures size { length result.items ≡ 16 }
+    ensures costs { All (IsCost smooth_limit) result.items }
+{
+    let table = take_ok(rt, smooth_costs(alloc, unlike));
+    hold(rt, check_table(table.as_slice(), SMOOTH_LIMIT).is_ok());
+    hold(rt, table.len() == 16);
+    table
 }
 
 /// Runs expansions of the picture. It answers whether it was not refused.
@@ -140,60 +148,45 @@ fn labels_after<H: Sharing>(
     unlike: i64,
     cycles: u32,
     how: &H,
-) -> Result<Option<Vec<u8>>, Fail>
+) -> Option<Vec<u8>>
     requires { H.ready how.now }
 {
-    let pairs = Pairs::grid4(alloc, 64, 64, 1)?;
-    let mut labelling = Labelling::new(alloc, 4096, 4)?;
-    let smooth = smooth_of(rt, alloc, unlike)?;
-    assert!(*rt; pairs.sites() == 4096);
-    assert!(*rt; labelling.sites() == 4096);
-    assert!(*rt; labelling.labels() == 4);
+    let pairs = take_ok(rt, Pairs::grid4(alloc, 64, 64, 1));
+    let mut labelling = take_ok(rt, Labelling::new(alloc, 4096, 4));
+    let smooth = smooth_of(rt, alloc, unlike);
+    hold(rt, pairs.sites() == 4096);
+    hold(rt, labelling.sites() == 4096);
+    hold(rt, labelling.labels() == 4);
     if !expands(alloc, pairs, &mut labelling, smooth.as_slice(), cycles, how) {
-        return Ok(None);
+        return None;
     }
-    Ok(Some(Vec::from_slice(alloc, labelling.as_slice())?))
+    Some(take_ok(rt, Vec::from_slice(alloc, labelling.as_slice())))
 }
 
-/// How many cuts a run has, and how many sites these have; none where it is refused.
-fn count_cuts(
-    rt: &impl Abort,
-    alloc: Global,
-    parts: usize,
-    unlike: i64,
-    cycles: u32,
-) -> Result<Option<(usize, usize)>, Fail> {
+/// Whether a run, which is not refused, has as many cuts as the row tells, and these as many sites.
+fn has_cuts(rt: &impl Abort, alloc: Global, run: &Run) -> bool {
     let counting = Counting {
-        parts,
+        parts: run.0,
         cuts: AtomicUsize::new(0),
         nodes: AtomicUsize::new(0),
     };
-    if labels_after(rt, alloc, unlike, cycles, &counting)?.is_none() {
-        return Ok(None);
-    }
-    let cuts = counting.cuts.load(Ordering::SeqCst);
-    Ok(Some((cuts, counting.nodes.load(Ordering::SeqCst))))
+    labels_after(rt, alloc, run.1, run.2, &counting).is_some()
+        && counting.cuts.load(Ordering::SeqCst) == run.3
+        && counting.nodes.load(Ordering::SeqCst) == run.4
 }
 
 #[test]
-fn later_expansions_open_few_sites(rt: HostRuntime) -> Result<(), Fail> {
-    for (parts, unlike, cycles, cuts, sites) in RUNS {
-        let told = count_cuts(&rt, rt.alloc(), *parts, *unlike, *cycles)?;
-        let (told_cuts, told_sites) = told.unwrap_or((0, 0));
-        assert!(rt;
-            told == Some((*cuts, *sites)),
-            "{parts} parts, unlike {unlike}, cycles {cycles}: {told_cuts} cuts of {told_sites} in place of {cuts} of {sites}"
-        );
+fn later_expansions_open_few_sites(rt: HostRuntime) {
+    for (place, run) in RUNS.iter().enumerate() {
+        expect(&rt, place, has_cuts(&rt, rt.alloc(), run));
     }
-    Ok(())
 }
 
 #[test]
-fn later_expansions_end_as_whole_ones(rt: HostRuntime) -> Result<(), Fail> {
-    for unlike in UNLIKE {
-        let near = labels_after(&rt, rt.alloc(), *unlike, 4, &Alone)?;
-        let whole = labels_after(&rt, rt.alloc(), *unlike, 4, &CutAlone)?;
-        assert!(rt; near.is_some() && near == whole, "unlike {unlike}");
+fn later_expansions_end_as_whole_ones(rt: HostRuntime) {
+    for (place, unlike) in UNLIKE.iter().enumerate() {
+        let near = labels_after(&rt, rt.alloc(), *unlike, 4, &Alone);
+        let whole = labels_after(&rt, rt.alloc(), *unlike, 4, &CutAlone);
+        expect(&rt, place, near.is_some() && near == whole);
     }
-    Ok(())
 }

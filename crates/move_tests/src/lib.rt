@@ -29,6 +29,8 @@ mod parts;
 #[cfg(test)]
 mod random;
 #[cfg(test)]
+mod rows;
+#[cfg(test)]
 mod stepped;
 #[cfg(test)]
 mod steps;

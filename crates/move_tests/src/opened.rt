@@ -4,15 +4,15 @@ ghost use Rattle.std.specs.Prelude.{◌<◌, ◌≤ℤ◌, pos};
 ghost use Rattle.label_energies.specs.Moves.{IsMoveOf};
 ghost use Rattle.cost_store.specs.Posed.{IsPosed, FitsProblem};
 
+use crate::rows::{expect, hold, take_ok};
 use cost_store::{DataCost, Problem, SmoothCost};
 use label_energies::Move;
 use label_field::{Labelling, Pairs};
 use move_energy::Choice;
 use moves::{Alone, expand};
 use site_bounds::Deciding;
-use std::alloc::Global;
+use std::alloc::{AllocError, Global};
 use std::process::Abort;
-use std::test::Fail;
 
 /// How many sites each expansion of the first cycle leaves open, and how many it changes. Made by
 /// tools/tables/open_sites.py, which knows the definitions alone.
@@ -56,7 +56,7 @@ pub fn open_in<F: Fn(u32, u32) -> i64 + Sync, V: Fn(u32, u32) -> i64 + Sync>(
     problem: &Problem<F, V>,
     labelling: &Labelling,
     change: Move,
-) -> Result<Option<usize>, Fail>
+) -> Result<Option<usize>, AllocError>
     requires posed { IsPosed F.Fn V.Fn problem.now }
     requires fits { FitsProblem problem.now labelling.now }
     requires change { IsMoveOf problem.now.data_cost.labels change }
@@ -77,7 +77,7 @@ fn expand_label<F: Fn(u32, u32) -> i64 + Sync, V: Fn(u32, u32) -> i64 + Sync>(
     problem: &Problem<F, V>,
     labelling: &mut Labelling,
     alpha: u32,
-) -> Result<Option<(usize, usize)>, Fail>
+) -> Result<Option<(usize, usize)>, AllocError>
     requires posed { IsPosed F.Fn V.Fn problem.now }
     requires fits { FitsProblem problem.now labelling.old }
     requires label { alpha < problem.now.data_cost.labels }
@@ -98,12 +98,13 @@ fn expand_picture(
     alloc: Global,
     labelling: &mut Labelling,
     alpha: u32,
-) -> Result<Option<(usize, usize)>, Fail> {
-    let pairs = Pairs::grid4(alloc, 64, 64, 1)?;
+) -> Option<(usize, usize)> {
+    let pairs = take_ok(rt, Pairs::grid4(alloc, 64, 64, 1));
     pairs.keeps();
-    assert!(*rt; alpha < 4 && pairs.sites() == 4096);
-    assert!(*rt; labelling.sites() == 4096);
-    assert!(*rt; labelling.labels() == 4);
+    hold(rt, alpha < 4);
+    hold(rt, pairs.sites() == 4096);
+    hold(rt, labelling.sites() == 4096);
+    hold(rt, labelling.labels() == 4);
     let problem = Problem {
         pairs,
         data_cost: DataCost::new(
@@ -122,15 +123,14 @@ fn expand_picture(
         ),
         label_costs: None,
     };
-    expand_label(alloc, &problem, labelling, alpha)
+    take_ok(rt, expand_label(alloc, &problem, labelling, alpha))
 }
 
 #[test]
-fn few_sites_are_left_open(rt: HostRuntime) -> Result<(), Fail> {
-    let mut labelling = Labelling::new(rt.alloc(), 4096, 4)?;
+fn few_sites_are_left_open(rt: HostRuntime) {
+    let mut labelling = take_ok(&rt, Labelling::new(rt.alloc(), 4096, 4));
     for (alpha, wanted) in FIRST_CYCLE.iter().enumerate() {
-        let told = expand_picture(&rt, rt.alloc(), &mut labelling, alpha as u32)?;
-        assert!(rt; told == Some(*wanted), "label {alpha}");
+        let told = expand_picture(&rt, rt.alloc(), &mut labelling, alpha as u32);
+        expect(&rt, alpha, told == Some(*wanted));
     }
-    Ok(())
 }

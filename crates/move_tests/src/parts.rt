@@ -1,9 +1,10 @@
 //! Moves closed in by parts: whatever the number of parts and the size of their strips, the labels
 //! are those of one part.
-ghost use Rattle.std.specs.Prelude.{◌≡◌, ◌<◌, ◌≤◌, ◌≤ℤ◌, pos, IfOk, length};
+ghost use Rattle.std.specs.Prelude.{◌≡◌, ◌<◌, ◌≤◌, ◌≤ℤ◌, pos, length};
 ghost use Rattle.cost_store.specs.Posed.{IsPosed};
 ghost use Rattle.cut_ways.specs.declared.solve_error.SolveError.TheVariants.{OutOfMemory};
 
+use crate::rows::{expect, hold, take_ok};
 use cost_store::{DataCost, Problem, SmoothCost};
 use cut_ways::InOrder;
 use flow_network::{Net, Solved};
@@ -12,7 +13,6 @@ use label_field::{Labelling, Pairs};
 use moves::{Alone, How, MoveError, Sharing, SolveError, expand, swap};
 use std::alloc::Global;
 use std::process::Abort;
-use std::test::Fail;
 
 /// As `Alone`, but a move is closed in by so many parts, in strips of so many open sites.
 #[derive(Clone, Copy)]
@@ -94,7 +94,7 @@ fn pairs_of(rt: &impl Abort, alloc: Global, picture: u32) -> Pairs {
             } else {
                 (site, site + step)
             };
-            pairs.add(ends.0, ends.1, 1).expect(rt, "a pair");
+            take_ok(rt, pairs.add(ends.0, ends.1, 1));
         }
     }
     pairs
@@ -128,18 +128,20 @@ fn label_at(picture: u32, site: u32) -> u32
 }
 
 /// The labels of a picture at the start.
-fn start_of(rt: &impl Abort, alloc: Global, picture: u32) -> Result<Labelling, Fail>
-    ensures { IfOk result (λ start. (length start.at ≡ 81) × (start.labels ≡ 4)) }
+fn start_of(rt: &impl Abort, alloc: Global, picture: u32) -> Labelling
+    ensures { (length result.at ≡ 81) × (result.labels ≡ 4) }
 {
-    let mut start = Labelling::new(alloc, SITES, 4)?;
+    let mut start = take_ok(rt, Labelling::new(alloc, SITES, 4));
     for site in 0..SITES {
-        start
-            .set_label(site, label_at(picture, site))
-            .expect(rt, "a label");
+        take_ok(rt, start.set_label(site, label_at(picture, site)));
     }
-    assert!(*rt; start.sites() == SITES && start.labels() == 4);
-    Ok(start)
+    hold(rt, start.sites() == SITES);
+    hold(rt, start.labels() == 4);
+    start
 }
+
+/// What a move answers, and the labels then.
+type Told = (Result<bool, MoveError>, Vec<u8>);
 
 /// What a move answers, and the labels after it.
 fn told_by<F: Fn(u32, u32) -> i64 + Sync, V: Fn(u32, u32) -> i64 + Sync, H: Sharing>(
@@ -149,45 +151,66 @@ fn told_by<F: Fn(u32, u32) -> i64 + Sync, V: Fn(u32, u32) -> i64 + Sync, H: Shar
     picture: u32,
     change: Move,
     how: &H,
-) -> Result<(Result<bool, MoveError>, Vec<u8>), Fail>
+) -> Told
     requires ready { H.ready how.now }
     requires posed { IsPosed F.Fn V.Fn problem.now }
     requires size { (problem.now.pairs.sites ≡ 81) × (problem.now.data_cost.labels ≡ 4) }
 {
-    let mut labelling = start_of(rt, alloc, picture)?;
+    let mut labelling = start_of(rt, alloc, picture);
     let answer = match change {
         Move::Expand(alpha) => expand(alloc, problem, &mut labelling, alpha, how),
         Move::Swap(alpha, beta) => swap(alloc, problem, &mut labelling, alpha, beta, how),
     };
-    let labels = Vec::from_slice(alloc, labelling.as_slice())?;
-    Ok((answer, labels))
+    (
+        answer,
+        take_ok(rt, Vec::from_slice(alloc, labelling.as_slice())),
+    )
 }
 
-/// Whether a move by each number of parts, in strips of each size, answers and leaves the same.
+/// Whether a move by so many parts, in strips of each size, answers and leaves the same.
+fn is_told_by<F: Fn(u32, u32) -> i64 + Sync, V: Fn(u32, u32) -> i64 + Sync>(
+    rt: &impl Abort,
+    alloc: Global,
+    problem: &Problem<F, V>,
+    picture: u32,
+    change: Move,
+    wanted: &Told,
+    parts: usize,
+) -> bool
+    requires posed { IsPosed F.Fn V.Fn problem.now }
+    requires size { (problem.now.pairs.sites ≡ 81) × (problem.now.data_cost.labels ≡ 4) }
+{
+    for strip in STRIPS {
+        let how = InParts {
+            parts,
+            strip: *strip,
+        };
+        let told = told_by(rt, alloc, problem, picture, change, &how);
+        if told.0 != wanted.0 || told.1.as_slice() != wanted.1.as_slice() {
+            return false;
+        }
+    }
+    true
+}
+
+/// Whether it does so by each number of parts.
 fn is_told_by_parts<F: Fn(u32, u32) -> i64 + Sync, V: Fn(u32, u32) -> i64 + Sync>(
     rt: &impl Abort,
     alloc: Global,
     problem: &Problem<F, V>,
     picture: u32,
     change: Move,
-    wanted: &(Result<bool, MoveError>, Vec<u8>),
-) -> Result<bool, Fail>
+    wanted: &Told,
+) -> bool
     requires posed { IsPosed F.Fn V.Fn problem.now }
     requires size { (problem.now.pairs.sites ≡ 81) × (problem.now.data_cost.labels ≡ 4) }
 {
     for parts in PARTS {
-        for strip in STRIPS {
-            let how = InParts {
-                parts: *parts,
-                strip: *strip,
-            };
-            let told = told_by(rt, alloc, problem, picture, change, &how)?;
-            if told.0 != wanted.0 || told.1.as_slice() != wanted.1.as_slice() {
-                return Ok(false);
-            }
+        if !is_told_by(rt, alloc, problem, picture, change, wanted, *parts) {
+            return false;
         }
     }
-    Ok(true)
+    true
 }
 
 /// How many sites have another label than at the start.
@@ -203,6 +226,16 @@ fn count_changes(picture: u32, labels: &[u8]) -> usize {
     changes
 }
 
+/// Whether a move of a picture is refused exactly where it should be.
+fn is_due(picture: u32, change: Move, answer: &Result<bool, MoveError>) -> bool {
+    let is_refused = is_square(picture) && change == Move::Expand(1);
+    match answer {
+        Ok(_) => !is_refused,
+        Err(MoveError::PairNotRegular { .. }) => is_refused,
+        Err(_) => false,
+    }
+}
+
 /// How many sites a move changes, if it comes to the same by parts, and is refused exactly where it
 /// should be.
 fn try_move<F: Fn(u32, u32) -> i64 + Sync, V: Fn(u32, u32) -> i64 + Sync>(
@@ -211,26 +244,44 @@ fn try_move<F: Fn(u32, u32) -> i64 + Sync, V: Fn(u32, u32) -> i64 + Sync>(
     problem: &Problem<F, V>,
     picture: u32,
     change: Move,
-) -> Result<Option<usize>, Fail>
+) -> Option<usize>
     requires posed { IsPosed F.Fn V.Fn problem.now }
     requires size { (problem.now.pairs.sites ≡ 81) × (problem.now.data_cost.labels ≡ 4) }
 {
-    let wanted = told_by(rt, alloc, problem, picture, change, &Alone)?;
-    let is_alike = is_told_by_parts(rt, alloc, problem, picture, change, &wanted)?;
-    let is_refused = is_square(picture) && change == Move::Expand(1);
-    let is_irregular = matches!(&wanted.0, Err(MoveError::PairNotRegular { .. }));
-    if !is_alike || is_irregular != is_refused || wanted.0.is_err() != is_refused {
-        return Ok(None);
+    let wanted = told_by(rt, alloc, problem, picture, change, &Alone);
+    if is_due(picture, change, &wanted.0)
+        && is_told_by_parts(rt, alloc, problem, picture, change, &wanted)
+    {
+        Some(count_changes(picture, wanted.1.as_slice()))
+    } else {
+        None
     }
-    Ok(Some(count_changes(picture, wanted.1.as_slice())))
+}
+
+/// How many sites the moves of a picture change in all, if each comes to the same by parts.
+fn try_moves<F: Fn(u32, u32) -> i64 + Sync, V: Fn(u32, u32) -> i64 + Sync>(
+    rt: &impl Abort,
+    alloc: Global,
+    problem: &Problem<F, V>,
+    picture: u32,
+) -> Option<usize>
+    requires posed { IsPosed F.Fn V.Fn problem.now }
+    requires size { (problem.now.pairs.sites ≡ 81) × (problem.now.data_cost.labels ≡ 4) }
+{
+    let mut changes = 0usize;
+    for change in CHANGES {
+        let count = try_move(rt, alloc, problem, picture, *change)?;
+        changes = changes.wrapping_add(count);
+    }
+    Some(changes)
 }
 
 /// The moves of a random picture of four labels. It answers how many sites they change in all, if
 /// each comes to the same by parts.
-fn try_picture(rt: &impl Abort, alloc: Global, picture: u32) -> Result<Option<usize>, Fail> {
+fn try_picture(rt: &impl Abort, alloc: Global, picture: u32) -> Option<usize> {
     let pairs = pairs_of(rt, alloc, picture);
     pairs.keeps();
-    assert!(*rt; pairs.sites() == SITES);
+    hold(rt, pairs.sites() == SITES);
     let problem = Problem {
         pairs,
         data_cost: DataCost::new(
@@ -250,24 +301,16 @@ fn try_picture(rt: &impl Abort, alloc: Global, picture: u32) -> Result<Option<us
         ),
         label_costs: None,
     };
-    let mut changes = 0usize;
-    for change in CHANGES {
-        match try_move(rt, alloc, &problem, picture, *change)? {
-            Some(count) => changes = changes.wrapping_add(count),
-            None => return Ok(None),
-        }
-    }
-    Ok(Some(changes))
+    try_moves(rt, alloc, &problem, picture)
 }
 
 #[test]
-fn parts_move_as_one(rt: HostRuntime) -> Result<(), Fail> {
+fn parts_move_as_one(rt: HostRuntime) {
     let mut changes = 0usize;
     for picture in 0..PICTURES {
-        let told = try_picture(&rt, rt.alloc(), picture)?;
-        assert!(rt; told.is_some(), "picture {picture}");
+        let told = try_picture(&rt, rt.alloc(), picture);
+        expect(&rt, picture as usize, told.is_some());
         changes = changes.wrapping_add(told.unwrap_or(0));
     }
-    assert!(rt; 300 < changes, "{changes} changes");
-    Ok(())
+    hold(&rt, 300 < changes);
 }

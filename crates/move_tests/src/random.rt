@@ -6,6 +6,7 @@ ghost use Rattle.cut_ways.specs.declared.solve_error.SolveError.TheVariants.{Out
 
 use crate::cases::MOVES;
 use crate::chains::RUNS;
+use crate::rows::{expect, hold, take_ok};
 use cost_store::{DataCost, Problem, SmoothCost};
 use cut_ways::InOrder;
 use flow_network::{Net, Solved};
@@ -142,15 +143,15 @@ fn energy_at(row: &[u8; BYTES], from: usize) -> i64
 /// The pairs of a row.
 pub fn pairs_of(rt: &impl Abort, alloc: Global, row: &[u8; BYTES], sites: u32) -> Pairs
     requires { sites ≤ 6 }
+    ensures { result.sites ≡ sites }
 {
     let mut pairs = Pairs::new(alloc, sites);
     for place in 0..digit(row, 2).min(7) as usize {
         let at = 61 + 3 * place;
         let weight = i64::from(number(row, at + 2, WEIGHT));
-        pairs
-            .add(digit(row, at), digit(row, at + 1), weight)
-            .expect(rt, "a pair");
+        take_ok(rt, pairs.add(digit(row, at), digit(row, at + 1), weight));
     }
+    hold(rt, pairs.sites() == sites);
     pairs
 }
 
@@ -163,13 +164,15 @@ pub fn start_of(
     labels: u32,
 ) -> Labelling
     requires { (sites ≤ 6) × (1 ≤ labels) × (labels ≤ 4) }
+    ensures { (length result.at ≡ sites) × (result.labels ≡ labels) }
 {
-    let mut labelling = Labelling::new(alloc, sites, labels).expect(rt, "memory");
+    let mut labelling = take_ok(rt, Labelling::new(alloc, sites, labels));
     for site in 0..sites {
-        labelling
-            .set_label(site, digit(row, 49 + site as usize))
-            .expect(rt, "a label");
+        let label = digit(row, 49 + site as usize);
+        take_ok(rt, labelling.set_label(site, label));
     }
+    hold(rt, labelling.sites() == sites);
+    hold(rt, labelling.labels() == labels);
     labelling
 }
 
@@ -293,12 +296,10 @@ pub fn is_right<H: Sharing>(
     requires { H.ready how.now }
 {
     let (sites, labels) = (digit(row, 0), digit(row, 1));
-    assert!(*rt; sites <= 6 && 1 <= labels && labels <= 4);
+    hold(rt, sites <= 6);
+    hold(rt, 1 <= labels && labels <= 4);
     let pairs = pairs_of(rt, alloc, row, sites);
     let mut labelling = start_of(rt, alloc, row, sites, labels);
-    assert!(*rt;
-        pairs.sites() == sites && labelling.sites() == sites && labelling.labels() == labels
-    );
     let problem = Problem {
         pairs,
         data_cost: DataCost::new(
@@ -321,33 +322,46 @@ pub fn is_right<H: Sharing>(
     is_answered(&problem, alloc, &mut labelling, row, 0, chain, how)
 }
 
-/// Whether a row is right that is made strip by strip, for each size of the strips, and for each
-/// number of parts.
-fn is_right_in_strips(rt: &impl Abort, alloc: Global, row: &[u8; BYTES], chain: &[&[u8]]) -> bool {
-    let mut all = true;
+/// Whether a row is right that is made strip by strip, for each size of the strips, by so many
+/// parts.
+fn is_right_by(rt: &impl Abort, alloc: Global, row: &[u8; BYTES], parts: usize) -> bool {
     for sites in STRIPS {
-        for parts in PARTS {
-            let how = InStrips {
-                parts: *parts,
-                sites: *sites,
-            };
-            all = is_right(rt, alloc, row, chain, &how) && all;
+        let how = InStrips {
+            parts,
+            sites: *sites,
+        };
+        if !is_right(rt, alloc, row, &[], &how) {
+            return false;
         }
     }
-    all
+    true
 }
 
-/// Each row of a table, of which there are so many: with sites decided first, without, and strip by
-/// strip.
+/// Whether it is so for each number of parts.
+fn is_right_in_strips(rt: &impl Abort, alloc: Global, row: &[u8; BYTES]) -> bool {
+    for parts in PARTS {
+        if !is_right_by(rt, alloc, row, *parts) {
+            return false;
+        }
+    }
+    true
+}
+
+/// Whether a row is right with sites decided first, without, and strip by strip.
+fn is_right_each_way(rt: &impl Abort, alloc: Global, row: &[u8; BYTES]) -> bool {
+    is_right(rt, alloc, row, &[], &Alone)
+        && is_right(rt, alloc, row, &[], &CutAlone)
+        && is_right_in_strips(rt, alloc, row)
+}
+
+/// Each row of a table, of which there are so many.
 fn expect_rows(rt: &impl Abort, alloc: Global, table: &[u8], count: usize) {
-    assert!(*rt; count <= 500 && table.len() == BYTES * count);
+    hold(rt, count <= 500);
+    hold(rt, table.len() == BYTES * count);
     for place in 0..count {
         let mut row = [0; BYTES];
         row.copy_from_slice(&table[BYTES * place..BYTES * place + BYTES]);
-        let is_known = is_right(rt, alloc, &row, &[], &Alone);
-        let is_cut = is_right(rt, alloc, &row, &[], &CutAlone);
-        let is_closed = is_right_in_strips(rt, alloc, &row, &[]);
-        assert!(*rt; is_known && is_cut && is_closed, "row {place}");
+        expect(rt, place, is_right_each_way(rt, alloc, &row));
     }
 }
 

@@ -6,6 +6,7 @@ ghost use Rattle.cost_store.specs.Posed.{IsPosed, FitsProblem, AreOfOneSize};
 use crate::random::{
     BYTES, DATA, InStrips, SMOOTH, answer_wanted, digit, is_after, number, pairs_of, start_of,
 };
+use crate::rows::{expect, hold};
 use crate::steps::{RUNS_MADE, STEPS};
 use cost_store::{DataCost, Problem, SmoothCost};
 use label_energies::{Move, Moves};
@@ -32,6 +33,18 @@ fn step_digit(steps: &[u8], place: usize) -> u32
     }
 }
 
+/// Whether these are the labels from this place on.
+fn are_labels(labels: &[u8], steps: &[u8], from: usize) -> bool {
+    let mut place = from;
+    for label in labels {
+        if u32::from(*label) != step_digit(steps, place) {
+            return false;
+        }
+        place = place.saturating_add(1);
+    }
+    true
+}
+
 /// Whether a step is the one at this place, and led to its labels.
 fn is_step(step: Step, labels: &[u8], steps: &[u8], at: usize) -> bool
     requires { at + 10 < 1000 }
@@ -41,16 +54,8 @@ fn is_step(step: Step, labels: &[u8], steps: &[u8], at: usize) -> bool
         Move::Expand(label) => label == alpha && beta == 0,
         Move::Swap(first, second) => first == alpha && second == beta,
     };
-    let mut are_labels = true;
-    let mut place = at + 4;
-    for label in labels {
-        if u32::from(*label) != step_digit(steps, place) {
-            are_labels = false;
-        }
-        place = place.saturating_add(1);
-    }
     is_move
-        && are_labels
+        && are_labels(labels, steps, at + 4)
         && step.cycle == step_digit(steps, at)
         && step.changed == step_digit(steps, at + 3)
 }
@@ -115,12 +120,10 @@ fn is_right<H: Sharing>(
     requires { H.ready how.now }
 {
     let (sites, labels) = (digit(row, 0), digit(row, 1));
-    assert!(*rt; sites <= 6 && 1 <= labels && labels <= 4);
+    hold(rt, sites <= 6);
+    hold(rt, 1 <= labels && labels <= 4);
     let pairs = pairs_of(rt, alloc, row, sites);
     let mut labelling = start_of(rt, alloc, row, sites, labels);
-    assert!(*rt;
-        pairs.sites() == sites && labelling.sites() == sites && labelling.labels() == labels
-    );
     let problem = Problem {
         pairs,
         data_cost: DataCost::new(
@@ -143,17 +146,25 @@ fn is_right<H: Sharing>(
     is_stepped(&problem, alloc, &mut labelling, row, steps, how)
 }
 
+/// Strips of two open sites, by two parts.
+const IN_STRIPS: InStrips = InStrips { parts: 2, sites: 2 };
+
+/// Whether the run at this place of the table is right, with moves whole and in strips.
+fn is_run_right(rt: &impl Abort, alloc: Global, place: usize) -> bool
+    requires { place < 500 }
+{
+    hold(rt, RUNS_MADE.len() == BYTES * RUNS);
+    hold(rt, STEPS.len() == STEP * MOVES * RUNS);
+    let mut row = [0; BYTES];
+    row.copy_from_slice(&RUNS_MADE[BYTES * place..BYTES * place + BYTES]);
+    let from = STEP * MOVES * place;
+    let steps = &STEPS[from..from + STEP * MOVES];
+    is_right(rt, alloc, &row, steps, &Alone) && is_right(rt, alloc, &row, steps, &IN_STRIPS)
+}
+
 #[test]
 fn each_step_is_of_the_chain(rt: HostRuntime) {
-    assert!(rt; RUNS_MADE.len() == BYTES * RUNS && STEPS.len() == STEP * MOVES * RUNS);
     for place in 0..RUNS {
-        let mut row = [0; BYTES];
-        row.copy_from_slice(&RUNS_MADE[BYTES * place..BYTES * place + BYTES]);
-        let from = STEP * MOVES * place;
-        let steps = &STEPS[from..from + STEP * MOVES];
-        let is_known = is_right(&rt, rt.alloc(), &row, steps, &Alone);
-        let strips = InStrips { parts: 2, sites: 2 };
-        let is_closed = is_right(&rt, rt.alloc(), &row, steps, &strips);
-        assert!(rt; is_known && is_closed, "run {place}");
+        expect(&rt, place, is_run_right(&rt, rt.alloc(), place));
     }
 }

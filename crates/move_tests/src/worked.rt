@@ -1,43 +1,7 @@
 //! Moves worked by hand.
-ghost use Rattle.std.specs.Prelude.{◌≤◌, ◌<◌, ◌+◌, ◌*◌, ◌≤ℤ◌, pos};
-
 use crate::random::{BYTES, is_right};
-use cost_store::{DataCost, SmoothCost};
-use moves::{Alone, Columns};
-use std::test::Fail;
-
-/// Costs of two labels at two sites, site first, and of each two labels.
-const DATA: [u8; 4] = [3, 0, 3, 0];
-
-const POTTS: [u8; 4] = [0, 1, 1, 0];
-
-// The closures index arrays of exactly the promised sizes.
-#[test]
-fn costs_stay_in_range(rt: HostRuntime) -> Result<(), Fail> {
-    let data_cost = DataCost::new(
-        |site: u32, label: u32| -> i64
-            requires { site * 2 + label < 4 }
-            ensures { (pos 0 ≤ℤ result) × (result ≤ℤ pos 255) }
-        { i64::from(DATA[(site * 2 + label) as usize]) },
-        2,
-        2,
-    );
-    let smooth_cost = SmoothCost::new(
-        |first: u32, second: u32| -> i64
-            requires { first * 2 + second < 4 }
-            ensures { (pos 0 ≤ℤ result) × (result ≤ℤ pos 255) }
-        { i64::from(POTTS[(first * 2 + second) as usize]) },
-        2,
-    );
-    let table = data_cost.table_of(rt.alloc())?;
-    assert!(rt; table.as_slice() == [3i64, 0, 3, 0].as_slice());
-    for (label, wanted) in [3i64, 0].iter().enumerate() {
-        let column = Alone.column(rt.alloc(), &data_cost, label as u32)?;
-        assert!(rt; column.as_slice() == [*wanted; 2].as_slice());
-    }
-    assert!(rt; smooth_cost.cost(0, 1) == 1 && smooth_cost.cost(1, 1) == 0);
-    Ok(())
-}
+use crate::rows::expect;
+use moves::Alone;
 
 /// What is made: one move, or a run of at most so many cycles.
 #[derive(Clone, Copy)]
@@ -204,21 +168,20 @@ const CHAIN_OF_SWAPS: Case = Case {
     smooth_energy: 0,
 };
 
-/// Each with its name.
-const CASES: &[(&str, Case)] = &[
-    ("ALIKE", ALIKE),
-    ("BOTH_CHANGE", BOTH_CHANGE),
-    ("APART", APART),
-    ("NOT_REGULAR", NOT_REGULAR),
-    ("STOPPED", STOPPED),
-    ("NO_LABEL", NO_LABEL),
-    ("NO_PARTNER", NO_PARTNER),
-    ("FIRST_KEPT", FIRST_KEPT),
-    ("BOTH_KEPT", BOTH_KEPT),
-    ("SECOND_KEPT", SECOND_KEPT),
-    ("FIRST_LABEL", FIRST_LABEL),
-    ("SECOND_LABEL", SECOND_LABEL),
-    ("CHAIN_OF_SWAPS", CHAIN_OF_SWAPS),
+const CASES: &[Case] = &[
+    ALIKE,
+    BOTH_CHANGE,
+    APART,
+    NOT_REGULAR,
+    STOPPED,
+    NO_LABEL,
+    NO_PARTNER,
+    FIRST_KEPT,
+    BOTH_KEPT,
+    SECOND_KEPT,
+    FIRST_LABEL,
+    SECOND_LABEL,
+    CHAIN_OF_SWAPS,
 ];
 
 /// The labellings of the last run, in their order, and those of the run over three sites.
@@ -313,8 +276,11 @@ fn row_of(case: &Case) -> [u8; BYTES] {
 
 #[test]
 fn moves_worked_by_hand(rt: HostRuntime) {
-    for (name, case) in CASES {
-        let is_right = is_right(&rt, rt.alloc(), &row_of(case), CHAIN, &Alone);
-        assert!(rt; is_right, "{name}");
+    for (place, case) in CASES.iter().enumerate() {
+        expect(
+            &rt,
+            place,
+            is_right(&rt, rt.alloc(), &row_of(case), CHAIN, &Alone),
+        );
     }
 }

@@ -1,8 +1,10 @@
 //! What labels cost by themselves, and how near a picture is to the least energy.
 use crate::pictures::{LINEAR, ONE, ROW, SHIFTS, SQUARED, SWAPS, ZEROS};
-use crate::tasks::{RESTORE, Task, expect, plain};
+use crate::rows::expect;
+use crate::tasks::{RESTORE, Task, gives, plain};
 use moves::Bound;
 use run_options::{RestoreOptions, StereoOptions};
+use std::process::Abort;
 use vision::Report;
 
 /// Two unequal labels cost the same.
@@ -23,7 +25,15 @@ const COSTLY: RestoreOptions = RestoreOptions {
 
 /// Options of a restoring, the picture of three pixels that it makes of `ROW`, what its labels cost
 /// the pixels, the pairs and by themselves, and the bound that is told.
-const ROWS: [(RestoreOptions, &[u8], (i64, i64), i64, Option<Bound>); 14] = [
+type Row = (
+    RestoreOptions,
+    &'static [u8],
+    (i64, i64),
+    i64,
+    Option<Bound>,
+);
+
+const ROWS: &[Row] = &[
     // The row as it is costs as much, and a move that lowers nothing changes nothing.
     (COSTLY, ZEROS, (3, 0), 1, None),
     (
@@ -132,56 +142,61 @@ const ROWS: [(RestoreOptions, &[u8], (i64, i64), i64, Option<Bound>); 14] = [
     ),
 ];
 
+/// Whether the picture of a row is made of `ROW`, and the report told.
+fn is_restored(rt: &(impl Abort + AllocGlobal), row: &Row) -> bool {
+    let (options, written, parts, label, bound) = *row;
+    let told = plain(parts);
+    let wanted = Report {
+        energy: told.energy.saturating_add(label),
+        label_part: label,
+        bound,
+        ..told
+    };
+    gives(rt, &Task::Restore(options), ROW, written, wanted)
+}
+
 #[test]
 fn labels_cost(rt: HostRuntime) {
-    for (options, written, parts, label, bound) in &ROWS {
-        let told = plain(*parts);
-        let wanted = Report {
-            energy: told.energy.saturating_add(*label),
-            label_part: *label,
-            bound: *bound,
-            ..told
-        };
-        expect(
-            &rt,
-            rt.alloc(),
-            &Task::Restore(*options),
-            ROW,
-            written,
-            wanted,
-        );
+    for (place, row) in ROWS.iter().enumerate() {
+        expect(&rt, place, is_restored(&rt, row));
     }
+}
+
+/// Options of a matching, its two pictures, the picture that it makes of them, and what its labels
+/// cost the pixels. Its pairs cost nothing.
+type Matching = (StereoOptions, &'static [u8], &'static [u8], i64);
+
+const MATCHINGS: &[Matching] = &[
+    (
+        StereoOptions {
+            bound: true,
+            ..SHIFTS
+        },
+        b"P5\n4 1\n9\n\x00\x09\x00\x00P5\n4 1\n9\n\x09\x00\x00\x00",
+        b"P5\n4 1\n1\n\x01\x01\x01\x01",
+        9,
+    ),
+    // One label alone.
+    (
+        StereoOptions { bound: true, ..ONE },
+        b"P5\n2 1\n9\n\x03\x04P5\n2 1\n9\n\x03\x01",
+        b"P5\n2 1\n1\n\x00\x00",
+        3,
+    ),
+];
+
+/// Whether the picture of a matching is made, and unequal labels are told to cost the same.
+fn is_matched(rt: &(impl Abort + AllocGlobal), row: &Matching) -> bool {
+    let wanted = Report {
+        bound: EQUAL,
+        ..plain((row.3, 0))
+    };
+    gives(rt, &Task::Stereo(row.0), row.1, row.2, wanted)
 }
 
 #[test]
 fn shifts_are_near(rt: HostRuntime) {
-    let shifts = StereoOptions {
-        bound: true,
-        ..SHIFTS
-    };
-    let wanted = Report {
-        bound: EQUAL,
-        ..plain((9, 0))
-    };
-    expect(
-        &rt,
-        rt.alloc(),
-        &Task::Stereo(shifts),
-        b"P5\n4 1\n9\n\x00\x09\x00\x00P5\n4 1\n9\n\x09\x00\x00\x00",
-        b"P5\n4 1\n1\n\x01\x01\x01\x01",
-        wanted,
-    );
-    // One label alone.
-    let lone = StereoOptions { bound: true, ..ONE };
-    expect(
-        &rt,
-        rt.alloc(),
-        &Task::Stereo(lone),
-        b"P5\n2 1\n9\n\x03\x04P5\n2 1\n9\n\x03\x01",
-        b"P5\n2 1\n1\n\x00\x00",
-        Report {
-            bound: EQUAL,
-            ..plain((3, 0))
-        },
-    );
+    for (place, row) in MATCHINGS.iter().enumerate() {
+        expect(&rt, place, is_matched(&rt, row));
+    }
 }

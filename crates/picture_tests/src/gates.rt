@@ -1,10 +1,10 @@
 //! Gates that let blocks do their first turns alone.
 use crate::by_workers::{SHORT, is_kept, stripes};
+use crate::rows::{expect, hold, take_ok};
 use std::alloc::{AllocError, Global};
 use std::process::Abort;
 use std::sync::Wait;
 use std::sync::atomic::{AtomicBool, AtomicU32, Ordering};
-use std::test::Fail;
 use std::thread::Threads;
 use worker_options::Gate;
 
@@ -59,32 +59,27 @@ impl Gate for Until {
 
 /// How many noes a gate gives that says no from a turn on, where the picture is restored to itself,
 /// and no block goes on after a no but from its first turn.
-fn noes<R: Threads + Wait + Sync + Abort>(
+fn noes_from<R: Threads + Wait + Sync + Abort + AllocGlobal>(
     rt: &R,
-    alloc: Global,
     picture: &[u8],
     turn: u32,
-) -> Result<Option<u32>, AllocError> {
-    let gate = Until::new(alloc, turn, SHORT.blocks)?;
-    let is_right = is_kept(rt, alloc, picture, 2_048, SHORT, &gate);
-    let went_on = gate.went_on.load(Ordering::SeqCst);
-    let noes = gate.noes.load(Ordering::SeqCst);
-    Ok(if is_right && !went_on {
-        Some(noes)
+) -> Option<u32> {
+    let gate = take_ok(rt, Until::new(rt.alloc(), turn, SHORT.blocks));
+    if is_kept(rt, picture, 2_048, SHORT, &gate) && !gate.went_on.load(Ordering::SeqCst) {
+        Some(gate.noes.load(Ordering::SeqCst))
     } else {
         None
-    })
+    }
 }
 
 #[test]
-fn gates_that_close(rt: HostRuntime) -> Result<(), Fail> {
-    let picture = stripes(rt.alloc())?;
+fn gates_that_close(rt: HostRuntime) {
+    let picture = take_ok(&rt, stripes(rt.alloc()));
     let mut all = 0u32;
-    for turn in 0..21 {
-        let noes = noes(&rt, rt.alloc(), picture.as_slice(), turn)?;
-        assert!(rt; noes.is_some(), "{turn}");
+    for turn in 0..21u32 {
+        let noes = noes_from(&rt, picture.as_slice(), turn);
+        expect(&rt, turn as usize, noes.is_some());
         all = all.saturating_add(noes.unwrap_or(0));
     }
-    assert!(rt; all > 0);
-    Ok(())
+    hold(&rt, all > 0);
 }

@@ -2,14 +2,13 @@
 ghost use Rattle.std.specs.Prelude.{◌≤◌, ◌<◌, ◌+◌, ◌*◌, ◌≤ℤ◌, pos};
 
 use crate::by_workers::TWO;
-use crate::rows::expect;
+use crate::rows::{expect, hold, take_ok};
 use cost_store::{DataCost, Problem, SmoothCost};
 use label_field::{Labelling, Pairs};
 use moves::{Alone, Ended, MoveError, Sharing, expand, run_expansion};
 use rounds::{Open, Workers};
 use std::alloc::Global;
 use std::sync::Wait;
-use std::test::Fail;
 use std::thread::Threads;
 use worker_options::{Gate, Options};
 
@@ -20,9 +19,12 @@ const DATA: [u8; 27] = [
 
 const POTTS: [u8; 9] = [0, 1, 1, 1, 0, 1, 1, 1, 0];
 
+/// Whether an expansion changed something, how a run after it ended, and the labels then.
+type Came = (bool, Ended, Vec<u8>);
+
 /// What an expansion and a run of expansions after it come to, from the label 0 at each site of a
 /// grid of 3 by 3.
-fn expand_and_run<H: Sharing>(alloc: Global, how: &H) -> Result<(bool, Ended, Vec<u8>), MoveError>
+fn expand_and_run<H: Sharing>(alloc: Global, how: &H) -> Result<Came, MoveError>
     requires { H.ready how.now }
 {
     let problem = Problem {
@@ -56,7 +58,7 @@ fn expanded_by<R: Threads + Wait + Sync>(
     rt: &R,
     alloc: Global,
     options: Options,
-) -> Result<(bool, Ended, Vec<u8>), MoveError> {
+) -> Result<Came, MoveError> {
     let open = Open;
     let gate: &(dyn Gate + Sync) = &open;
     let how = Workers {
@@ -67,14 +69,16 @@ fn expanded_by<R: Threads + Wait + Sync>(
     expand_and_run(alloc, &how)
 }
 
+/// Whether two came to the same.
+fn are_alike(first: &Came, second: &Came) -> bool {
+    first.0 == second.0 && first.1 == second.1 && first.2.as_slice() == second.2.as_slice()
+}
+
 #[test]
-fn grids_are_alike(rt: HostRuntime) -> Result<(), Fail> {
-    let alloc = rt.alloc();
-    let alone = expand_and_run(alloc, &Alone)?;
-    let two = expanded_by(&rt, alloc, TWO)?;
-    assert!(rt; alone.0 == two.0 && alone.1 == two.1);
-    assert!(rt; alone.2.as_slice() == two.2.as_slice());
-    Ok(())
+fn grids_are_alike(rt: HostRuntime) {
+    let alone = take_ok(&rt, expand_and_run(rt.alloc(), &Alone));
+    let two = take_ok(&rt, expanded_by(&rt, rt.alloc(), TWO));
+    hold(&rt, are_alike(&alone, &two));
 }
 
 /// Options of one thread of which one number is out of its range: such a thread is given each net.
@@ -96,6 +100,6 @@ const BAD: &[Options] = &[
 fn bad_options_are_told(rt: HostRuntime) {
     for (place, options) in BAD.iter().enumerate() {
         let refused = expanded_by(&rt, rt.alloc(), *options).err();
-        expect(&rt, "BAD", place, refused == Some(MoveError::BadOptions));
+        expect(&rt, place, refused == Some(MoveError::BadOptions));
     }
 }

@@ -1,8 +1,7 @@
 //! Labellings, and pairs that are added, refused and given other weights.
-use crate::rows::expect;
+use crate::rows::{expect, hold, take_ok};
 use label_field::{LabelFieldError, Labelling, Pair, Pairs};
 use std::process::Abort;
-use std::test::Fail;
 
 /// What a call said, as one word.
 fn word(answer: Result<(), LabelFieldError>) -> &'static str {
@@ -17,19 +16,11 @@ fn word(answer: Result<(), LabelFieldError>) -> &'static str {
     }
 }
 
-/// Sites and labels, and whether a labelling may have so many.
-const SIZES: &[(u32, u32, bool)] = &[
-    (0, 1, true),
-    (1_048_576, 256, true),
-    (1_048_577, 1, false),
-    (1, 257, false),
-    (1, 0, false),
-    (0, 0, false),
-];
-
 /// A site, a label, and what `set_label` says of them, of 3 sites and 256 labels; and the labels
 /// then.
-const LABELS: &[(u32, u32, &str, [u8; 3])] = &[
+type SetLabel = (u32, u32, &'static str, [u8; 3]);
+
+const LABELS: &[SetLabel] = &[
     (1, 255, "done", [0, 255, 0]),
     (3, 256, "no such site", [0, 255, 0]),
     (3, 0, "no such site", [0, 255, 0]),
@@ -81,56 +72,54 @@ fn add(rt: &impl Abort, pairs: &mut Pairs, first: u32, second: u32, weight: i64)
     if said != "out of memory" {
         return said;
     }
-    assert!(*rt; pairs.len() == before);
+    hold(rt, pairs.len() == before);
     word(pairs.add(first, second, weight))
 }
 
-/// Each size is told.
-fn expect_sizes(rt: &impl Abort) {
-    for (place, (sites, labels, wanted)) in SIZES.iter().enumerate() {
-        let is_told = Labelling::fits(*sites, *labels) == *wanted;
-        expect(rt, "SIZES", place, is_told);
-    }
+/// Whether a label is set or refused, and the labels are then what the row tells.
+fn is_set(labelling: &mut Labelling, row: &SetLabel) -> bool {
+    word(labelling.set_label(row.0, row.1)) == row.2 && labelling.as_slice() == row.3.as_slice()
 }
 
-/// Each label is set or refused.
-fn expect_labels(rt: &impl Abort, labelling: &mut Labelling) {
-    for (place, (site, label, wanted, labels)) in LABELS.iter().enumerate() {
-        let is_told = word(labelling.set_label(*site, *label)) == *wanted;
-        let is_left = labelling.as_slice() == labels.as_slice();
-        expect(rt, "LABELS", place, is_told && is_left);
-    }
+/// Whether this is a new labelling of 3 sites and 256 labels.
+fn is_new(labelling: &Labelling) -> bool {
+    labelling.sites() == 3
+        && labelling.labels() == 256
+        && labelling.as_slice() == [0u8, 0, 0].as_slice()
 }
 
 #[test]
-fn labels_are_kept(rt: HostRuntime) -> Result<(), Fail> {
-    expect_sizes(&rt);
-    let mut labelling = Labelling::new(rt.alloc(), 3, 256)?;
-    assert!(rt; labelling.sites() == 3 && labelling.labels() == 256);
-    assert!(rt; labelling.as_slice() == [0u8, 0, 0].as_slice());
-    expect_labels(&rt, &mut labelling);
-    assert!(rt; matches!(labelling.label(2), Ok(7)));
-    assert!(rt; matches!(labelling.label(3), Err(LabelFieldError::NoSuchSite)));
-    Ok(())
+fn labels_are_kept(rt: HostRuntime) {
+    let mut labelling = take_ok(&rt, Labelling::new(rt.alloc(), 3, 256));
+    hold(&rt, is_new(&labelling));
+    for (place, row) in LABELS.iter().enumerate() {
+        expect(&rt, place, is_set(&mut labelling, row));
+    }
+    hold(&rt, matches!(labelling.label(2), Ok(7)));
+    hold(
+        &rt,
+        matches!(labelling.label(3), Err(LabelFieldError::NoSuchSite)),
+    );
 }
 
-/// Each pair is added or refused.
+/// The pairs are added or refused.
 fn expect_pairs(rt: &impl Abort, pairs: &mut Pairs) {
-    for (place, (first, second, weight, wanted)) in PAIRS.iter().enumerate() {
-        let is_told = add(rt, pairs, *first, *second, *weight) == *wanted;
-        expect(rt, "PAIRS", place, is_told);
+    for (place, row) in PAIRS.iter().enumerate() {
+        expect(rt, place, add(rt, pairs, row.0, row.1, row.2) == row.3);
     }
+}
+
+/// Whether the pairs are those that were added, the last with its other weight.
+fn are_kept(pairs: &Pairs) -> bool {
+    pairs.sites() == 3 && !pairs.is_empty() && pairs.as_slice() == KEPT && pairs.get(1) == KEPT[1]
 }
 
 #[test]
 fn pairs_are_kept(rt: HostRuntime) {
-    assert!(rt; Pairs::fits(0) && Pairs::fits(1_048_576) && !Pairs::fits(1_048_577));
     let mut pairs = Pairs::new(rt.alloc(), 3);
-    assert!(rt; pairs.is_empty());
+    hold(&rt, pairs.is_empty());
     expect_pairs(&rt, &mut pairs);
-    assert!(rt; pairs.sites() == 3 && !pairs.is_empty());
-    assert!(rt; pairs.len() == 3);
+    hold(&rt, pairs.len() == 3);
     pairs.set_weight(2, 7);
-    assert!(rt; pairs.as_slice() == KEPT);
-    assert!(rt; pairs.get(1) == KEPT[1]);
+    hold(&rt, are_kept(&pairs));
 }

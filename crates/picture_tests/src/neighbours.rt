@@ -1,19 +1,7 @@
 //! The neighbours of small images by hand, and of a large one by the number of its pairs.
-use crate::rows::expect;
+use crate::rows::{expect, hold, take_ok};
 use label_field::{Pair, Pairs};
-use std::alloc::{AllocError, Global};
 use std::process::Abort;
-use std::test::Fail;
-
-/// Sides, and whether an image may have them.
-const SIDES: &[(u32, u32, bool)] = &[
-    (4096, 256, true),
-    (4096, 257, false),
-    (4097, 1, false),
-    (1, 4097, false),
-    (0, 1, false),
-    (1, 0, false),
-];
 
 /// Width and height, whether corners count too, and the pairs.
 type List = (u32, u32, bool, &'static [(u32, u32)]);
@@ -36,15 +24,15 @@ const LISTS: &[List] = &[
     ),
 ];
 
-fn grid(alloc: Global, width: u32, height: u32, corners: bool) -> Result<Pairs, AllocError> {
-    if !Pairs::fits_image(width, height) {
-        return Err(AllocError);
-    }
-    if corners {
-        Pairs::grid8(alloc, width, height, 5)
+/// The neighbours of an image of these sides.
+fn grid(rt: &(impl Abort + AllocGlobal), width: u32, height: u32, corners: bool) -> Pairs {
+    hold(rt, Pairs::fits_image(width, height));
+    let pairs = if corners {
+        Pairs::grid8(rt.alloc(), width, height, 5)
     } else {
-        Pairs::grid4(alloc, width, height, 5)
-    }
+        Pairs::grid4(rt.alloc(), width, height, 5)
+    };
+    take_ok(rt, pairs)
 }
 
 /// Whether these are the pairs of these ends in their order, all of weight 5.
@@ -58,28 +46,21 @@ fn are_pairs(pairs: &[Pair], ends: &[(u32, u32)]) -> bool {
 }
 
 /// Whether the neighbours of an image are its list.
-fn is_listed(alloc: Global, list: &List) -> Result<bool, AllocError> {
-    let (width, height, corners, ends) = list;
-    let pairs = grid(alloc, *width, *height, *corners)?;
-    Ok(pairs.sites() == width.saturating_mul(*height) && are_pairs(pairs.as_slice(), ends))
-}
-
-/// Each pair of sides is told.
-fn expect_sides(rt: &impl Abort) {
-    for (place, (width, height, wanted)) in SIDES.iter().enumerate() {
-        let is_told = Pairs::fits_image(*width, *height) == *wanted;
-        expect(rt, "SIDES", place, is_told);
-    }
+fn is_listed(rt: &(impl Abort + AllocGlobal), list: &List) -> bool {
+    let pairs = grid(rt, list.0, list.1, list.2);
+    pairs.sites() == list.0.saturating_mul(list.1) && are_pairs(pairs.as_slice(), list.3)
 }
 
 #[test]
-fn neighbours_are_listed(rt: HostRuntime) -> Result<(), Fail> {
-    expect_sides(&rt);
+fn neighbours_are_listed(rt: HostRuntime) {
     for (place, list) in LISTS.iter().enumerate() {
-        expect(&rt, "LISTS", place, is_listed(rt.alloc(), list)?);
+        expect(&rt, place, is_listed(&rt, list));
     }
-    // 2 * 1023 * 1024 pairs share an edge, and 2 * 1023 * 1023 a corner alone
-    assert!(rt; grid(rt.alloc(), 1024, 1024, false)?.len() == 2_095_104);
-    assert!(rt; grid(rt.alloc(), 1024, 1024, true)?.len() == 4_188_162);
-    Ok(())
+}
+
+/// 2 * 1023 * 1024 pairs share an edge, and 2 * 1023 * 1023 a corner alone.
+#[test]
+fn large_images_have_neighbours(rt: HostRuntime) {
+    hold(&rt, grid(&rt, 1_024, 1_024, false).len() == 2_095_104);
+    hold(&rt, grid(&rt, 1_024, 1_024, true).len() == 4_188_162);
 }

@@ -1,24 +1,14 @@
 //! A picture of as many sites as threads close in by parts.
-use crate::by_workers::{TWO, is_kept};
+use crate::by_workers::{TWO, is_kept, wide_stripes};
+use crate::rows::{expect, take_ok};
 use rounds::Open;
-use std::alloc::{AllocError, Global};
 use std::process::Abort;
 use std::rt::Files;
 use std::sync::Wait;
 use std::sync::atomic::{AtomicBool, Ordering};
-use std::test::Fail;
 use std::thread::Threads;
 use std::{fs, thread};
 use worker_options::Options;
-
-/// A picture of 256 by 256 samples, 3 in each fourth column and else 0.
-fn wide_stripes(alloc: Global) -> Result<Vec<u8>, AllocError> {
-    let mut picture = Vec::from_slice(alloc, b"P5\n256 256\n3\n")?;
-    for _ in 0..16_384 {
-        picture.extend_from_slice(&[0, 3, 0, 0])?;
-    }
-    Ok(picture)
-}
 
 /// Whether so many threads restore the picture to itself. In each of 256 rows each of 64 stripes
 /// costs 2, its two borders, and would cost 3 if it were black. There are no rounds: so only the
@@ -33,7 +23,7 @@ fn is_kept_by<R: Threads + Wait + Sync + Abort + AllocGlobal>(
         rounds: 0,
         ..TWO
     };
-    is_kept(rt, rt.alloc(), picture, 32_768, options, &Open)
+    is_kept(rt, picture, 32_768, options, &Open)
 }
 
 /// How many threads the process has, as the system tells it: 0 where it does not.
@@ -84,21 +74,23 @@ fn count_threads<R: Threads + Wait + Sync + Files + Abort + AllocGlobal>(
     (is_right, most.saturating_sub(1))
 }
 
-/// By so many threads the picture is restored.
-const THREADS: &[u32] = &[1, 2, 3];
+/// Whether so many threads restore the picture to itself, more than one where several are to, and
+/// no further one.
+fn is_kept_by_parts<R: Threads + Wait + Sync + Files + Abort + AllocGlobal>(
+    rt: &R,
+    picture: &[u8],
+    threads: u32,
+) -> bool {
+    let (is_right, most) = count_threads(rt, picture, threads);
+    is_right && (most > 1) == (threads > 1) && most <= threads
+}
 
-/// One thread closes in each move alone. Two and three close in its parts side by side, and no
-/// further one does.
+/// One thread closes in each move alone. Two and three close in its parts side by side.
 #[test]
-fn parts_keep_the_picture(rt: HostRuntime) -> Result<(), Fail> {
-    let picture = wide_stripes(rt.alloc())?;
-    for threads in THREADS {
-        let (is_right, most) = count_threads(&rt, picture.as_slice(), *threads);
-        assert!(rt; is_right, "{threads}");
-        assert!(rt;
-            (most > 1) == (*threads > 1) && most <= *threads,
-            "{threads}: {most}"
-        );
+fn parts_keep_the_picture(rt: HostRuntime) {
+    let picture = take_ok(&rt, wide_stripes(rt.alloc()));
+    for threads in 1..4u32 {
+        let is_right = is_kept_by_parts(&rt, picture.as_slice(), threads);
+        expect(&rt, threads as usize, is_right);
     }
-    Ok(())
 }

@@ -1,8 +1,9 @@
 //! Pictures and their answers.
-use crate::tasks::{RESTORE, SEGMENT, STEREO, Task, expect, plain};
+use crate::by_workers::stripes;
+use crate::rows::{expect, hold, take_ok};
+use crate::tasks::{RESTORE, SEGMENT, STEREO, Task, gives, plain};
 use label_energies::Moves;
 use run_options::{Neighbours, RestoreOptions, SegmentOptions, Shape, StereoOptions};
-use std::test::Fail;
 
 pub const ROW: &[u8] = b"P5\n3 1\n3\n\x00\x03\x00";
 
@@ -69,7 +70,9 @@ const CORNERS: SegmentOptions = SegmentOptions {
 };
 
 /// A command, its input, the picture that it writes, and the two parts of the energy.
-const ROWS: [(Task, &[u8], &[u8], (i64, i64)); 24] = [
+type Row = (Task, &'static [u8], &'static [u8], (i64, i64));
+
+const ROWS: &[Row] = &[
     (Task::Restore(RESTORE), ROW, ROW, (0, 2)),
     (Task::Restore(HEAVY), ROW, ZEROS, (3, 0)),
     // What follows the image is not looked at.
@@ -203,26 +206,19 @@ const ROWS: [(Task, &[u8], &[u8], (i64, i64)); 24] = [
 
 #[test]
 fn pictures_are_written(rt: HostRuntime) {
-    for (task, input, written, parts) in &ROWS {
-        expect(&rt, rt.alloc(), task, input, written, plain(*parts));
+    for (place, row) in ROWS.iter().enumerate() {
+        expect(&rt, place, gives(&rt, &row.0, row.1, row.2, plain(row.3)));
     }
 }
 
-// 64 by 64 pixels, 3 in each fourth column, else 0: the picture is its own answer.
+/// 64 by 64 pixels, 3 in each fourth column, else 0: the picture is its own answer.
 #[test]
-fn stripes(rt: HostRuntime) -> Result<(), Fail> {
-    let mut picture: Vec<u8> = Vec::new(rt.alloc());
-    picture.extend_from_slice(b"P5\n64 64\n3\n")?;
-    for _ in 0..1024 {
-        picture.extend_from_slice(b"\x00\x03\x00\x00")?;
-    }
-    expect(
+fn stripes_are_kept(rt: HostRuntime) {
+    let picture = take_ok(&rt, stripes(rt.alloc()));
+    let picture = picture.as_slice();
+    let wanted = plain((0, 2_048));
+    hold(
         &rt,
-        rt.alloc(),
-        &Task::Restore(RESTORE),
-        &picture,
-        &picture,
-        plain((0, 2048)),
+        gives(&rt, &Task::Restore(RESTORE), picture, picture, wanted),
     );
-    Ok(())
 }

@@ -2,6 +2,7 @@
 ghost use Rattle.std.specs.Prelude.{◌<◌};
 
 use crate::by_workers::{Counter, Kept};
+use crate::rows::{expect, hold, take_ok};
 use byte_streams::Watched;
 use label_energies::Moves;
 use moves::{Alone, Sharing};
@@ -11,13 +12,12 @@ use std::alloc::{AllocError, Global};
 use std::process::Abort;
 use std::sync::Wait;
 use std::sync::atomic::{AtomicU32, Ordering};
-use std::test::Fail;
 use std::thread::Threads;
 use vision::{Report, VisionError, run_restore};
 use worker_options::{Gate, Options};
 
 /// How many pictures are drawn.
-const PICTURES: u32 = 100;
+const PICTURES: usize = 100;
 
 /// How many of them are restored at least: swaps with a cost of labels are refused, which are some
 /// 9 of 100, and quadratic costs that are cut off may be, a third of the expansions at most.
@@ -111,74 +111,83 @@ fn options_of_workers(dice: &mut Dice) -> Options {
 }
 
 /// What a restoring answers, and what it writes.
+type Restored = (Result<Report, VisionError>, Vec<u8>);
+
 fn restore_by<H: Sharing>(
-    rt: &impl Abort,
-    alloc: Global,
+    rt: &(impl Abort + AllocGlobal),
     picture: &[u8],
     options: &RestoreOptions,
     how: &H,
-) -> (Result<Report, VisionError>, Vec<u8>)
+) -> Restored
     requires { H.ready how.now }
 {
-    let mut writer = Kept {
-        bytes: Vec::new(alloc),
-    };
+    hold(rt, options.fits());
+    let mut writer = Kept::new(rt.alloc());
     let mut sink = Watched::new(&mut writer);
-    assert!(*rt; options.fits());
-    let report = run_restore(alloc, picture, options, how, &mut sink);
+    let report = run_restore(rt.alloc(), picture, options, how, &mut sink);
     let Kept { bytes } = writer;
     (report, bytes)
 }
 
 /// The same by workers.
-fn restored_by<R: Threads + Wait + Sync + Abort>(
+fn restored_by<R: Threads + Wait + Sync + Abort + AllocGlobal>(
     rt: &R,
-    alloc: Global,
     picture: &[u8],
     options: &RestoreOptions,
     sharing: Options,
     gate: &(dyn Gate + Sync),
-) -> (Result<Report, VisionError>, Vec<u8>) {
+) -> Restored {
     let how = Workers {
         rt,
         options: sharing,
         gate: &gate,
     };
-    restore_by(rt, alloc, picture, options, &how)
+    restore_by(rt, picture, options, &how)
 }
 
-/// Whether workers restore the next picture as one thread does, and ask the gate only where they
-/// make a round; and whether it was restored.
-fn is_alike<R: Threads + Wait + Sync + Abort>(
+/// Whether workers restore a picture as it was by one thread, and ask the gate only where they make
+/// a round.
+fn is_alike<R: Threads + Wait + Sync + Abort + AllocGlobal>(
     rt: &R,
-    alloc: Global,
     dice: &mut Dice,
-) -> Result<(bool, bool), AllocError> {
-    let picture = picture(alloc, dice)?;
-    let options = options(dice);
+    picture: &[u8],
+    options: &RestoreOptions,
+    alone: &Restored,
+) -> bool {
     let sharing = options_of_workers(dice);
     let counter = Counter {
         calls: AtomicU32::new(0),
         answer: dice.below(2) == 0,
     };
-    let alone = restore_by(rt, alloc, picture.as_slice(), &options, &Alone);
-    let shared = restored_by(rt, alloc, picture.as_slice(), &options, sharing, &counter);
-    let asked = counter.calls.load(Ordering::SeqCst);
-    let is_alike = alone.0 == shared.0
+    let shared = restored_by(rt, picture, options, sharing, &counter);
+    alone.0 == shared.0
         && alone.1.as_slice() == shared.1.as_slice()
-        && (sharing.rounds > 0 || asked == 0);
-    Ok((is_alike, alone.0.is_ok()))
+        && (sharing.rounds > 0 || counter.calls.load(Ordering::SeqCst) == 0)
+}
+
+/// Whether the next picture was restored, if workers restore it as one thread does.
+fn is_next_restored<R: Threads + Wait + Sync + Abort + AllocGlobal>(
+    rt: &R,
+    dice: &mut Dice,
+) -> Option<bool> {
+    let picture = take_ok(rt, picture(rt.alloc(), dice));
+    let options = options(dice);
+    let alone = restore_by(rt, picture.as_slice(), &options, &Alone);
+    if is_alike(rt, dice, picture.as_slice(), &options, &alone) {
+        Some(alone.0.is_ok())
+    } else {
+        None
+    }
 }
 
 #[test]
-fn pictures_drawn_are_alike(rt: HostRuntime) -> Result<(), Fail> {
+fn pictures_drawn_are_alike(rt: HostRuntime) {
     let mut dice = Dice { state: 1 };
     let mut restored = 0u32;
-    for _ in 0..PICTURES {
-        let (is_alike, is_restored) = is_alike(&rt, rt.alloc(), &mut dice)?;
-        assert!(rt; is_alike);
-        restored = restored.saturating_add(u32::from(is_restored));
+    for place in 0..PICTURES {
+        let is_restored = is_next_restored(&rt, &mut dice);
+        expect(&rt, place, is_restored.is_some());
+        restored = restored.saturating_add(u32::from(is_restored == Some(true)));
     }
-    assert!(rt; restored >= LEAST_RESTORED, "{restored}");
-    Ok(())
+    hold(&rt, restored >= LEAST_RESTORED);
 }

@@ -1,6 +1,6 @@
 //! Images that are read, and what is refused.
 use crate::rows::expect;
-use pgm_image::{PgmError, read_image};
+use pgm_image::{Image, PgmError, read_image};
 use std::alloc::Global;
 
 /// Bytes, and the image at their front: width and height, maxval, samples, how many bytes it takes.
@@ -25,23 +25,26 @@ const IMAGES: &[Read] = &[
     (b"P5\n3 1\n2\n\x00\x02\x01", (3, 1), 2, &[0, 2, 1], 12),
 ];
 
+/// Whether an image is that of a row.
+fn is_image(image: &Image, row: &Read) -> bool {
+    image.width() == row.1.0
+        && image.height() == row.1.1
+        && image.maxval() == row.2
+        && image.samples() == row.3
+}
+
 /// Whether the image of a row is read.
 fn is_read(alloc: Global, row: &Read) -> bool {
-    let (bytes, size, maxval, samples, length) = row;
-    let Ok((image, used)) = read_image(alloc, bytes) else {
-        return false;
-    };
-    image.width() == size.0
-        && image.height() == size.1
-        && image.maxval() == *maxval
-        && image.samples() == *samples
-        && used == *length
+    match read_image(alloc, row.0) {
+        Ok((image, used)) => is_image(&image, row) && used == row.4,
+        Err(_) => false,
+    }
 }
 
 #[test]
 fn images_are_read(rt: HostRuntime) {
     for (place, row) in IMAGES.iter().enumerate() {
-        expect(&rt, "IMAGES", place, is_read(rt.alloc(), row));
+        expect(&rt, place, is_read(rt.alloc(), row));
     }
 }
 
@@ -88,8 +91,8 @@ const FAULTS: &[(&[u8], PgmError)] = &[
 
 #[test]
 fn faults_are_told(rt: HostRuntime) {
-    for (place, (bytes, wanted)) in FAULTS.iter().enumerate() {
-        let is_told = read_image(rt.alloc(), bytes).err() == Some(*wanted);
-        expect(&rt, "FAULTS", place, is_told);
+    for (place, row) in FAULTS.iter().enumerate() {
+        let is_told = read_image(rt.alloc(), row.0).err() == Some(row.1);
+        expect(&rt, place, is_told);
     }
 }

@@ -1,10 +1,12 @@
 //! Inputs that are refused: nothing is written then.
 use crate::pictures::{ROW, SWAPS};
+use crate::rows::expect;
 use crate::streams::CutWriter;
 use crate::tasks::{RESTORE, SEGMENT, STEREO, Task, run};
 use byte_streams::Watched;
 use pgm_image::PgmError;
 use run_options::RestoreOptions;
+use std::process::Abort;
 use vision::VisionError;
 
 const PART: Task = Task::Segment(SEGMENT);
@@ -16,7 +18,9 @@ const COSTLY: RestoreOptions = RestoreOptions {
 };
 
 /// A command, its input, and why it is refused.
-const ROWS: [(Task, &[u8], VisionError); 17] = [
+type Row = (Task, &'static [u8], VisionError);
+
+const ROWS: &[Row] = &[
     (
         Task::Restore(RESTORE),
         b"",
@@ -108,18 +112,17 @@ const ROWS: [(Task, &[u8], VisionError); 17] = [
     ),
 ];
 
+/// Whether a command is refused for this reason, and writes nothing.
+fn is_refused(rt: &(impl Abort + AllocGlobal), row: &Row) -> bool {
+    let mut writer = CutWriter::new(rt.alloc(), 9_999, 9_999);
+    let mut sink = Watched::new(&mut writer);
+    let refused = run(rt, &row.0, row.1, &mut sink).err();
+    refused == Some(row.2) && sink.failures() == 0 && writer.held.is_empty()
+}
+
 #[test]
 fn refuses_inputs(rt: HostRuntime) {
-    for (task, input, wanted) in &ROWS {
-        let mut writer = CutWriter {
-            held: Vec::new(rt.alloc()),
-            room: 9999,
-            step: 9999,
-            faults: true,
-        };
-        let mut sink = Watched::new(&mut writer);
-        let refused = run(&rt, rt.alloc(), task, input, &mut sink).err();
-        assert!(rt; refused == Some(*wanted) && sink.failures() == 0);
-        assert!(rt; writer.held.is_empty());
+    for (place, row) in ROWS.iter().enumerate() {
+        expect(&rt, place, is_refused(&rt, row));
     }
 }

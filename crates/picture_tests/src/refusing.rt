@@ -2,6 +2,7 @@
 ghost use Rattle.std.specs.Prelude.{◌≤◌, ◌<◌, ◌+◌, ◌*◌, ◌≤ℤ◌, pos};
 
 use crate::by_workers::{Kept, RESTORE};
+use crate::rows::{expect, hold, take_ok};
 use byte_streams::Watched;
 use cost_store::{DataCost, Problem, SmoothCost};
 use cut_ways::InOrder;
@@ -56,7 +57,9 @@ impl Sharing for Refusing {
 }
 
 /// Why a cut is refused, and what a run of moves and a command tell then.
-const ERRORS: &[(SolveError, MoveError, VisionError)] = &[
+type Error = (SolveError, MoveError, VisionError);
+
+const ERRORS: &[Error] = &[
     (
         SolveError::OutOfMemory,
         MoveError::OutOfMemory,
@@ -78,7 +81,7 @@ const POTTS: [u8; 9] = [0, 1, 1, 1, 0, 1, 1, 1, 0];
 /// The labels before each move of the run from all 0, and after the last. The moves expand 0, 1, 2
 /// in turn. The third gives the last site 2 (8 to 7), the fifth the second site 1 (7 to 6), the
 /// sixth the first site 2 (6 to 5).
-const CHAIN: [[u8; 3]; 9] = [
+const CHAIN: &[[u8; 3]] = &[
     [0, 0, 0],
     [0, 0, 0],
     [0, 0, 0],
@@ -122,33 +125,35 @@ fn run_from_zero<H: Sharing>(
     Ok((ended, labels))
 }
 
-/// Whether a run that is refused its cut after so many leaves the labels that those gave, and tells
-/// this.
-fn is_left(alloc: Global, cuts: u32, error: SolveError, told: MoveError) -> bool {
-    let how = Refusing::new(cuts, error);
-    let Ok((ended, labels)) = run_from_zero(alloc, &how) else {
-        return false;
-    };
-    let wanted = if cuts < 8 {
-        Err(told)
-    } else {
-        Ok(Ended {
-            cycles: 3,
-            settled: true,
-        })
-    };
-    match CHAIN.get(cuts as usize) {
-        Some(row) => ended == wanted && labels.as_slice() == row.as_slice(),
-        None => false,
+/// How a run ends that is refused its cut after so many.
+fn end_after(cuts: usize, told: MoveError) -> Result<Ended, MoveError> {
+    if cuts < 8 {
+        return Err(told);
+    }
+    Ok(Ended {
+        cycles: 3,
+        settled: true,
+    })
+}
+
+/// Whether such a run tells so, and leaves these labels.
+fn is_left(rt: &(impl Abort + AllocGlobal), row: &Error, cuts: usize, left: &[u8; 3]) -> bool {
+    let how = Refusing::new(cuts as u32, row.0);
+    let (ended, labels) = take_ok(rt, run_from_zero(rt.alloc(), &how));
+    ended == end_after(cuts, row.1) && labels.as_slice() == left.as_slice()
+}
+
+/// Each number of cuts that are not refused leaves the labels that they gave.
+fn expect_left(rt: &(impl Abort + AllocGlobal), row: &Error) {
+    for (cuts, left) in CHAIN.iter().enumerate() {
+        expect(rt, cuts, is_left(rt, row, cuts, left));
     }
 }
 
 #[test]
 fn refused_cuts_leave_the_moves_before(rt: HostRuntime) {
-    for (error, told, _) in ERRORS {
-        for cuts in 0..9 {
-            assert!(rt; is_left(rt.alloc(), cuts, *error, *told), "{cuts}");
-        }
+    for row in ERRORS {
+        expect_left(&rt, row);
     }
 }
 
@@ -158,31 +163,40 @@ const ROW: &[u8] = b"P5\n3 1\n3\n\x00\x03\x00";
 
 /// What a restoring whose cut is refused after so many tells, and what it writes.
 fn restore_with_cuts(
-    rt: &impl Abort,
-    alloc: Global,
-    cuts: u32,
+    rt: &(impl Abort + AllocGlobal),
+    cuts: usize,
     error: SolveError,
 ) -> (Result<Report, VisionError>, Vec<u8>) {
-    let how = Refusing::new(cuts, error);
-    let mut writer = Kept {
-        bytes: Vec::new(alloc),
-    };
+    let how = Refusing::new(cuts as u32, error);
+    hold(rt, RESTORE.fits());
+    let mut writer = Kept::new(rt.alloc());
     let mut sink = Watched::new(&mut writer);
-    assert!(*rt; RESTORE.fits());
-    let report = run_restore(alloc, ROW, &RESTORE, &how, &mut sink);
-    assert!(*rt; sink.failures() == 0);
+    let report = run_restore(rt.alloc(), ROW, &RESTORE, &how, &mut sink);
+    hold(rt, sink.failures() == 0);
     let Kept { bytes } = writer;
     (report, bytes)
 }
 
+/// Whether such a restoring tells so and writes nothing, and after seven cuts writes the picture.
+fn is_written(rt: &(impl Abort + AllocGlobal), row: &Error, cuts: usize) -> bool {
+    let (report, bytes) = restore_with_cuts(rt, cuts, row.0);
+    if cuts < 7 {
+        report == Err(row.2) && bytes.is_empty()
+    } else {
+        report.is_ok() && bytes.as_slice() == ROW
+    }
+}
+
+/// Each number of cuts that are not refused.
+fn expect_written(rt: &(impl Abort + AllocGlobal), row: &Error) {
+    for cuts in 0..8usize {
+        expect(rt, cuts, is_written(rt, row, cuts));
+    }
+}
+
 #[test]
 fn refused_cuts_write_nothing(rt: HostRuntime) {
-    for (error, _, told) in ERRORS {
-        for cuts in 0..7 {
-            let (report, bytes) = restore_with_cuts(&rt, rt.alloc(), cuts, *error);
-            assert!(rt; report == Err(*told) && bytes.is_empty(), "{cuts}");
-        }
-        let (report, bytes) = restore_with_cuts(&rt, rt.alloc(), 7, *error);
-        assert!(rt; report.is_ok() && bytes.as_slice() == ROW);
+    for row in ERRORS {
+        expect_written(&rt, row);
     }
 }

@@ -1,14 +1,14 @@
 //! Workers share a net as their options tell: in as many blocks, threads, turns and rounds, and
 //! with as much room.
 use crate::by_workers::TWO;
+use crate::rows::{expect, hold, take_ok};
 use flow_network::{Arc, Net};
 use rounds::{Lent, side_parallel};
-use std::alloc::AllocError;
+use std::alloc::{AllocError, Global};
 use std::hint::spin_loop;
 use std::process::Abort;
 use std::sync::Wait;
 use std::sync::atomic::{AtomicU32, Ordering};
-use std::test::Fail;
 use std::thread::Threads;
 use worker_options::{Gate, Options};
 
@@ -52,12 +52,8 @@ impl Gate for Counts {
     }
 }
 
-/// Ten nodes, of which node 5 gets 5 and can pass 1 to each of the nodes 0 to 4, each of which can
-/// give the sink 1.
-fn fan(rt: &(impl Abort + AllocGlobal)) -> Result<Net, AllocError> {
-    let alloc = rt.alloc();
-    let sources = Vec::from_slice(alloc, &[0, 0, 0, 0, 0, 5, 0, 0, 0, 0])?;
-    let sinks = Vec::from_slice(alloc, &[1, 1, 1, 1, 1, 0, 0, 0, 0, 0])?;
+/// From node 5 to each of the nodes 0 to 4.
+fn fan_arcs(alloc: Global) -> Result<Vec<Arc>, AllocError> {
     let mut arcs = Vec::new(alloc);
     for to in 0..5 {
         arcs.push(Arc {
@@ -66,32 +62,39 @@ fn fan(rt: &(impl Abort + AllocGlobal)) -> Result<Net, AllocError> {
             capacity: 1,
         })?;
     }
-    assert!(*rt; Net::fits(sources.as_slice(), sinks.as_slice(), arcs.as_slice()));
-    Ok(Net::new(sources, sinks, arcs))
+    Ok(arcs)
 }
 
-/// How often the gate is called for turn 0, how often for later turns, and how many calls for turn
-/// 0 met another, where workers cut the fan.
-fn count_calls<R: Threads + Wait + Abort + AllocGlobal + Sync>(
+/// Ten nodes, of which node 5 gets 5 and can pass 1 to each of the nodes 0 to 4, each of which can
+/// give the sink 1.
+fn fan(rt: &(impl Abort + AllocGlobal)) -> Net {
+    let alloc = rt.alloc();
+    let sources = take_ok(rt, Vec::from_slice(alloc, &[0, 0, 0, 0, 0, 5, 0, 0, 0, 0]));
+    let sinks = take_ok(rt, Vec::from_slice(alloc, &[1, 1, 1, 1, 1, 0, 0, 0, 0, 0]));
+    let arcs = take_ok(rt, fan_arcs(alloc));
+    hold(
+        rt,
+        Net::fits(sources.as_slice(), sinks.as_slice(), arcs.as_slice()),
+    );
+    Net::new(sources, sinks, arcs)
+}
+
+/// What workers that cut the fan ask.
+fn counts_of<R: Threads + Wait + Abort + AllocGlobal + Sync>(
     rt: &R,
-    options: Options,
+    options: &Options,
     meets: bool,
-) -> Result<(u32, u32, u32), AllocError> {
+) -> Counts {
     let counts = Counts {
         meets,
         first: AtomicU32::new(0),
         later: AtomicU32::new(0),
         met: AtomicU32::new(0),
     };
-    let net = fan(rt)?;
     let gate: &(dyn Gate + Sync) = &counts;
     let lent = Lent { gate };
-    assert!(*rt; side_parallel(rt, rt.alloc(), net, &options, &lent).is_ok());
-    Ok((
-        counts.first.load(Ordering::SeqCst),
-        counts.later.load(Ordering::SeqCst),
-        counts.met.load(Ordering::SeqCst),
-    ))
+    let _side = take_ok(rt, side_parallel(rt, rt.alloc(), fan(rt), options, &lent));
+    counts
 }
 
 /// One thread over two blocks of the fan, of which each has its turn 0 alone in a round, first that
@@ -108,7 +111,9 @@ const ONE: Options = Options {
 /// sink. A ring of one place takes a letter a round, and one block does all in its turn 0. With
 /// turns to draw block 0 has one for the letters, block 1 one for their answers, and each a further
 /// one, which does nothing.
-const ROWS: &[(Options, u32, u32)] = &[
+type Row = (Options, u32, u32);
+
+const ROWS: &[Row] = &[
     (ONE, 4, 0),
     (Options { ring: 1, ..ONE }, 12, 0),
     (Options { rounds: 1, ..ONE }, 2, 0),
@@ -117,17 +122,26 @@ const ROWS: &[(Options, u32, u32)] = &[
     (Options { turns: 64, ..ONE }, 2, 4),
 ];
 
+/// Whether the gate is called as a row tells.
+fn is_called<R: Threads + Wait + Abort + AllocGlobal + Sync>(rt: &R, row: &Row) -> bool {
+    let counts = counts_of(rt, &row.0, false);
+    counts.first.load(Ordering::SeqCst) == row.1 && counts.later.load(Ordering::SeqCst) == row.2
+}
+
+/// Two threads over two blocks.
+const SIDE_BY_SIDE: Options = Options { threads: 2, ..ONE };
+
+/// Whether each call of two threads for turn 0 meets another.
+fn do_meet<R: Threads + Wait + Abort + AllocGlobal + Sync>(rt: &R) -> bool {
+    let counts = counts_of(rt, &SIDE_BY_SIDE, true);
+    let first = counts.first.load(Ordering::SeqCst);
+    first >= 2 && counts.met.load(Ordering::SeqCst) == first
+}
+
 #[test]
-fn options_are_kept(rt: HostRuntime) -> Result<(), Fail> {
-    for (options, first, later) in ROWS {
-        let counts = count_calls(&rt, *options, false)?;
-        let (asked_first, asked_later, _) = counts;
-        assert!(rt;
-            counts == (*first, *later, 0),
-            "{asked_first}, {asked_later} in place of {first}, {later}"
-        );
+fn options_are_kept(rt: HostRuntime) {
+    for (place, row) in ROWS.iter().enumerate() {
+        expect(&rt, place, is_called(&rt, row));
     }
-    let counts = count_calls(&rt, Options { threads: 2, ..ONE }, true)?;
-    assert!(rt; counts.0 >= 2 && counts.2 == counts.0);
-    Ok(())
+    hold(&rt, do_meet(&rt));
 }

@@ -1,5 +1,5 @@
 //! A writer in memory that stops.
-
+use std::alloc::Global;
 use std::io;
 use std::io::{Error, ErrorKind, Write};
 
@@ -11,6 +11,18 @@ pub struct CutWriter {
     pub room: usize,
     pub step: usize,
     pub faults: bool,
+}
+
+impl CutWriter {
+    /// A writer that takes `room` bytes, at most `step` a call, and then fails by a fault.
+    pub fn new(alloc: Global, room: usize, step: usize) -> CutWriter {
+        CutWriter {
+            held: Vec::new(alloc),
+            room,
+            step,
+            faults: true,
+        }
+    }
 }
 
 impl Write for CutWriter {

@@ -1,10 +1,10 @@
 //! A command and its options.
+use crate::rows::hold;
 use crate::streams::CutWriter;
 use byte_streams::Watched;
 use label_energies::Moves;
 use moves::Alone;
 use run_options::{Neighbours, RestoreOptions, SegmentOptions, Shape, StereoOptions};
-use std::alloc::Global;
 use std::process::Abort;
 use vision::{Report, VisionError, run_restore, run_segment, run_stereo};
 
@@ -51,24 +51,23 @@ pub enum Task {
 
 /// The command over this input, whose options are to be in their ranges.
 pub fn run(
-    rt: &impl Abort,
-    alloc: Global,
+    rt: &(impl Abort + AllocGlobal),
     task: &Task,
     input: &[u8],
     sink: &mut Watched<'_, CutWriter>,
 ) -> Result<Report, VisionError> {
     match task {
         Task::Restore(options) => {
-            assert!(*rt; options.fits());
-            run_restore(alloc, input, options, &Alone, sink)
+            hold(rt, options.fits());
+            run_restore(rt.alloc(), input, options, &Alone, sink)
         }
         Task::Stereo(options) => {
-            assert!(*rt; options.fits());
-            run_stereo(alloc, input, options, &Alone, sink)
+            hold(rt, options.fits());
+            run_stereo(rt.alloc(), input, options, &Alone, sink)
         }
         Task::Segment(options) => {
-            assert!(*rt; options.fits());
-            run_segment(alloc, input, options, &Alone, sink)
+            hold(rt, options.fits());
+            run_segment(rt.alloc(), input, options, &Alone, sink)
         }
     }
 }
@@ -85,23 +84,16 @@ pub fn plain(parts: (i64, i64)) -> Report {
     }
 }
 
-/// The command gives this picture, and this report.
-pub fn expect(
-    rt: &impl Abort,
-    alloc: Global,
+/// Whether the command gives this picture, and this report.
+pub fn gives(
+    rt: &(impl Abort + AllocGlobal),
     task: &Task,
     input: &[u8],
     written: &[u8],
     wanted: Report,
-) {
-    let mut writer = CutWriter {
-        held: Vec::new(alloc),
-        room: 9999,
-        step: 9999,
-        faults: true,
-    };
+) -> bool {
+    let mut writer = CutWriter::new(rt.alloc(), 9_999, 9_999);
     let mut sink = Watched::new(&mut writer);
-    let report = run(rt, alloc, task, input, &mut sink);
-    assert!(*rt; sink.failures() == 0);
-    assert!(*rt; report == Ok(wanted) && writer.held.as_slice() == written);
+    let report = run(rt, task, input, &mut sink);
+    sink.failures() == 0 && report == Ok(wanted) && writer.held.as_slice() == written
 }

@@ -1,15 +1,16 @@
 //! Writers that stop at each byte.
 use crate::pictures::SHIFTS;
+use crate::rows::expect;
 use crate::streams::CutWriter;
 use crate::tasks::{RESTORE, SEGMENT, Task, run};
 use byte_streams::{Watched, WriteFailed};
+use std::process::Abort;
 use vision::VisionError;
 
-/// The bytes that a writer takes in a call, and whether it ends by a fault.
-const WRITERS: [(usize, bool); 3] = [(1, false), (9999, false), (9999, true)];
-
 /// A command, its input, and the picture that it writes.
-const ROWS: [(Task, &[u8], &[u8]); 3] = [
+type Row = (Task, &'static [u8], &'static [u8]);
+
+const ROWS: &[Row] = &[
     (
         Task::Restore(RESTORE),
         b"P5\n3 1\n3\n\x00\x03\x00",
@@ -27,23 +28,38 @@ const ROWS: [(Task, &[u8], &[u8]); 3] = [
     ),
 ];
 
+/// Whether a command tells where its writer stops, which holds what came before.
+fn is_stopped(
+    rt: &(impl Abort + AllocGlobal),
+    row: &Row,
+    step: usize,
+    faults: bool,
+    count: usize,
+) -> bool {
+    let mut writer = CutWriter {
+        faults,
+        ..CutWriter::new(rt.alloc(), count, step)
+    };
+    let mut sink = Watched::new(&mut writer);
+    let stopped = run(rt, &row.0, row.1, &mut sink).err();
+    stopped == Some(VisionError::Write(WriteFailed { count }))
+        && sink.failures() == 1
+        && count <= row.2.len()
+        && writer.held.as_slice() == &row.2[..count]
+}
+
+/// A command whose writer stops at each byte.
+fn expect_stops(rt: &(impl Abort + AllocGlobal), row: &Row, step: usize, faults: bool) {
+    for count in 0..row.2.len() {
+        expect(rt, count, is_stopped(rt, row, step, faults, count));
+    }
+}
+
 #[test]
 fn writers_stop(rt: HostRuntime) {
-    for (task, input, written) in &ROWS {
-        for (step, faults) in &WRITERS {
-            for count in 0..written.len() {
-                let mut writer = CutWriter {
-                    held: Vec::new(rt.alloc()),
-                    room: count,
-                    step: *step,
-                    faults: *faults,
-                };
-                let mut sink = Watched::new(&mut writer);
-                let stopped = run(&rt, rt.alloc(), task, input, &mut sink).err();
-                let wanted = VisionError::Write(WriteFailed { count });
-                assert!(rt; stopped == Some(wanted) && sink.failures() == 1, "{count}");
-                assert!(rt; writer.held.as_slice() == &written[..count], "{count}");
-            }
-        }
+    for row in ROWS {
+        expect_stops(&rt, row, 1, false);
+        expect_stops(&rt, row, 9_999, false);
+        expect_stops(&rt, row, 9_999, true);
     }
 }

@@ -1,10 +1,10 @@
 //! Energies and their answers. The values of the small ones were worked by hand.
 use crate::energies::is_minimised;
 use crate::energies::picture::PICTURE;
-use crate::rows::expect;
+use crate::rows::{expect, hold, take_ok};
 use crate::streams::{CutWriter, ROOM, SlowReader, run};
 use problem_files::{EnergyFault, energy_of, read_table};
-use pseudo_bool::Term;
+use pseudo_bool::{Energy, Term};
 use std::alloc::{AllocError, Global};
 
 /// Files, and what is written for each.
@@ -94,9 +94,12 @@ const MINIMA: &[(&str, &str)] = &[
 
 #[test]
 fn minima(rt: HostRuntime) {
-    for (place, (file, written)) in MINIMA.iter().enumerate() {
-        let is_right = is_minimised(&rt, file.as_bytes(), 0, written, "");
-        expect(&rt, "MINIMA", place, is_right);
+    for (place, row) in MINIMA.iter().enumerate() {
+        expect(
+            &rt,
+            place,
+            is_minimised(&rt, row.0.as_bytes(), 0, row.1, ""),
+        );
     }
 }
 
@@ -113,24 +116,25 @@ on = [0, 1]
 terms = 7
 ";
 
+/// Whether an energy is that of the table.
+fn is_of_table(energy: &Energy) -> bool {
+    energy.constant() == -1_000_000_000
+        && energy.variables() == 2_097_152
+        && energy.term_count() == 2
+        && energy.term(0) == Term::One(2_097_151, [-1_000_000_000, 1_000_000_000])
+        && energy.term(1) == Term::Two(0, 1, [0, 3, 4, 0])
+}
+
 /// Whether the table makes its energy.
 fn is_made(alloc: Global) -> Result<bool, EnergyFault> {
     let table = read_table(alloc, TABLE)?;
     let energy = energy_of(alloc, &table)?;
-    if energy.term_count() != 2 {
-        return Ok(false);
-    }
-    Ok(
-        energy.constant() == -1_000_000_000
-            && energy.variables() == 2_097_152
-            && energy.term(0) == Term::One(2_097_151, [-1_000_000_000, 1_000_000_000])
-            && energy.term(1) == Term::Two(0, 1, [0, 3, 4, 0]),
-    )
+    Ok(is_of_table(&energy))
 }
 
 #[test]
 fn the_energy_of_a_table(rt: HostRuntime) {
-    assert!(rt; matches!(is_made(rt.alloc()), Ok(true)));
+    hold(&rt, take_ok(&rt, is_made(rt.alloc())));
 }
 
 /// Whether what is written tells the minimum, and how many pixels are light.
@@ -149,14 +153,19 @@ fn is_parted(written: &[u8]) -> bool {
 // an independent program, which is checked against public libraries of maximum flows.
 #[test]
 fn a_picture_in_two_parts(rt: HostRuntime) {
-    let file = picture_energy(rt.alloc()).expect(&rt, "memory");
+    let file = take_ok(&rt, picture_energy(rt.alloc()));
     let mut reader = SlowReader::new(file.as_bytes(), ROOM, false);
     let mut writer = CutWriter::ample();
     let mut faults = CutWriter::ample();
-    let words = ["gco", "energy"];
-    let ended = run(&rt, &words, &mut reader, &mut writer, &mut faults);
-    assert!(rt; ended == 0 && faults.held.is_empty());
-    assert!(rt; is_parted(writer.held.as_slice()));
+    let ended = run(
+        &rt,
+        &["gco", "energy"],
+        &mut reader,
+        &mut writer,
+        &mut faults,
+    );
+    hold(&rt, ended == 0 && faults.held.is_empty());
+    hold(&rt, is_parted(writer.held.as_slice()));
 }
 
 // A pixel costs its difference from 60 where it is dark and from 170 where it is light, and two

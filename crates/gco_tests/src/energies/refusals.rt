@@ -1,6 +1,6 @@
 //! Inputs that are refused, and the lines of faults.
 use crate::energies::is_minimised;
-use crate::rows::expect;
+use crate::rows::{expect, hold, take_ok};
 use crate::streams::{SlowReader, ends};
 use byte_streams::{INPUT_LIMIT, WatchedReader, WriteFailed, read_input};
 use gco_cli::{Fault, line_of};
@@ -121,14 +121,17 @@ fn are_refused(
     terms: &str,
     said: &str,
 ) -> bool {
-    let file = format!(in rt.alloc(); "variables = 2\nterms = [{terms}]").expect(rt, "memory");
+    let file = take_ok(
+        rt,
+        format!(in rt.alloc(); "variables = 2\nterms = [{terms}]"),
+    );
     is_minimised(rt, file.as_bytes(), 1, "", said)
 }
 
 #[test]
 fn terms(rt: HostRuntime) {
-    for (place, (terms, said)) in TERMS.iter().enumerate() {
-        expect(&rt, "TERMS", place, are_refused(&rt, terms, said));
+    for (place, row) in TERMS.iter().enumerate() {
+        expect(&rt, place, are_refused(&rt, row.0, row.1));
     }
 }
 
@@ -196,13 +199,14 @@ fn deep_input(alloc: Global) -> Result<Vec<u8>, AllocError> {
 
 #[test]
 fn inputs(rt: HostRuntime) {
-    for (place, (input, said)) in INPUTS.iter().enumerate() {
-        let is_right = is_minimised(&rt, input, 1, "", said);
-        expect(&rt, "INPUTS", place, is_right);
+    for (place, row) in INPUTS.iter().enumerate() {
+        expect(&rt, place, is_minimised(&rt, row.0, 1, "", row.1));
     }
-    let deep = deep_input(rt.alloc()).expect(&rt, "memory");
-    let is_right = is_minimised(&rt, deep.as_slice(), 1, "", "refused 28\n");
-    assert!(rt; is_right);
+    let deep = take_ok(&rt, deep_input(rt.alloc()));
+    hold(
+        &rt,
+        is_minimised(&rt, deep.as_slice(), 1, "", "refused 28\n"),
+    );
 }
 
 /// A reader of so many bytes in large pieces.
@@ -223,25 +227,27 @@ const LENGTHS: &[(usize, &str)] = &[
 ];
 
 /// Whether an input of the greatest length is read whole.
-fn is_read_whole(alloc: Global) -> bool {
+fn is_read_whole(rt: &(impl AllocGlobal + Abort)) -> bool {
     let mut reader = long_reader(INPUT_LIMIT, false);
     let mut source = WatchedReader::new(&mut reader);
-    let Ok(input) = read_input(alloc, &mut source) else {
-        return false;
-    };
+    let input = take_ok(rt, read_input(rt.alloc(), &mut source));
     input.len() == INPUT_LIMIT && source.failures() == 0
 }
 
-// An input of the greatest length is read whole, and one byte more is refused before a fault behind
-// it is met.
+/// Whether an input of so many bytes that fails at its end is refused by this line.
+fn is_refused_at(rt: &(impl AllocGlobal + Threads + Wait + Sync), more: usize, said: &str) -> bool {
+    let mut reader = long_reader(more, true);
+    ends(rt, &["gco", "energy"], &mut reader, 1, b"", said)
+}
+
+/// An input of the greatest length is read whole, and one byte more is refused before a fault
+/// behind it is met.
 #[test]
 fn inputs_end_at_the_limit(rt: HostRuntime) {
-    for (more, said) in LENGTHS {
-        let mut reader = long_reader(*more, true);
-        let is_right = ends(&rt, &["gco", "energy"], &mut reader, 1, b"", said);
-        expect(&rt, "LENGTHS", *more, is_right);
+    for (place, row) in LENGTHS.iter().enumerate() {
+        expect(&rt, place, is_refused_at(&rt, row.0, row.1));
     }
-    assert!(rt; is_read_whole(rt.alloc()));
+    hold(&rt, is_read_whole(&rt));
 }
 
 const LINES: &[(Fault, &str)] = &[
@@ -299,7 +305,7 @@ const LINES: &[(Fault, &str)] = &[
 
 #[test]
 fn lines(rt: HostRuntime) {
-    for (place, (fault, line)) in LINES.iter().enumerate() {
-        expect(&rt, "LINES", place, line_of(*fault).as_str() == *line);
+    for (place, row) in LINES.iter().enumerate() {
+        expect(&rt, place, line_of(row.0).as_str() == row.1);
     }
 }

@@ -1,5 +1,5 @@
 //! Runs over small files. What each writes was worked by hand.
-use crate::rows::expect;
+use crate::rows::{expect, take_ok};
 use crate::streams::ends_alike;
 use std::process::Abort;
 use std::sync::Wait;
@@ -339,23 +339,21 @@ fn is_run(
     words: &[&str],
     row: &Row,
 ) -> bool {
-    let (first, second, status, written, said) = row;
-    let file = format!(in rt.alloc(); "{first}{second}").expect(rt, "memory");
-    let written = written.as_bytes();
-    ends_alike(rt, words, file.as_bytes(), *status, written, said)
+    let (first, second) = (row.0, row.1);
+    let file = take_ok(rt, format!(in rt.alloc(); "{first}{second}"));
+    ends_alike(rt, words, file.as_bytes(), row.2, row.3.as_bytes(), row.4)
 }
 
 #[test]
 fn runs(rt: HostRuntime) {
     for (place, row) in ROWS.iter().enumerate() {
-        expect(&rt, "ROWS", place, is_run(&rt, &["gco", "label"], row));
+        expect(&rt, place, is_run(&rt, &["gco", "label"], row));
     }
 }
 
 #[test]
 fn bounds(rt: HostRuntime) {
     for (place, row) in BOUNDS.iter().enumerate() {
-        let is_right = is_run(&rt, &["gco", "label", "--bound"], row);
-        expect(&rt, "BOUNDS", place, is_right);
+        expect(&rt, place, is_run(&rt, &["gco", "label", "--bound"], row));
     }
 }

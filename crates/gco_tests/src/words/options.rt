@@ -1,11 +1,11 @@
 //! The options of each command, their ranges and their defaults: what the tables of docs/IMAGES.md
 //! and docs/LABEL.md say.
-use crate::rows::expect;
+use crate::rows::{expect, expect_at, take_ok};
 use crate::streams::{CutWriter, ROOM, SlowReader, join_words, run};
 use std::alloc::{AllocError, Global};
+use std::process::Abort;
 use std::str;
 use std::sync::Wait;
-use std::test::Fail;
 use std::thread::Threads;
 
 /// An option with a number: its name, the number before the least, the least, the most, the one
@@ -108,114 +108,116 @@ const GROUPS: &[Group] = &[
 /// Whether a run of these words with the option at this value, over no input, ends with this status
 /// and says this first.
 fn is_told(
-    rt: &(impl AllocGlobal + Threads + Wait + Sync),
+    rt: &(impl AllocGlobal + Abort + Threads + Wait + Sync),
     words: &[&str],
     name: &str,
     value: &str,
     status: u8,
     said: &str,
-) -> Result<bool, AllocError> {
-    let option = format!(in rt.alloc(); "--{name}={value}")?;
-    let words = join_words(rt.alloc(), words, &[option.as_str()])?;
+) -> bool {
+    let option = take_ok(rt, format!(in rt.alloc(); "--{name}={value}"));
+    let words = take_ok(rt, join_words(rt.alloc(), words, &[option.as_str()]));
     let mut reader = SlowReader::new(b"", ROOM, false);
     let mut writer = CutWriter::ample();
     let mut faults = CutWriter::ample();
     let ended = run(rt, words.as_slice(), &mut reader, &mut writer, &mut faults);
-    Ok(
-        ended == status
-            && writer.held.is_empty()
-            && faults.held.as_slice().starts_with(said.as_bytes()),
-    )
+    ended == status && writer.held.is_empty() && faults.held.as_slice().starts_with(said.as_bytes())
 }
 
 /// Whether the option is refused at this value, with the range that its row tells.
 fn is_beyond(
-    rt: &(impl AllocGlobal + Threads + Wait + Sync),
+    rt: &(impl AllocGlobal + Abort + Threads + Wait + Sync),
     words: &[&str],
     row: &Row,
     value: &str,
-) -> Result<bool, AllocError> {
-    let (name, _, least, most, _, _, _) = row;
+) -> bool {
+    let (name, least, most) = (row.0, row.2, row.3);
     let said = format!(in rt.alloc();
         "error: invalid value '{value}' for '--{name} <N>': {value} is not in {least}..={most}"
-    )?;
-    is_told(rt, words, name, value, 2, said.as_str())
+    );
+    is_told(rt, words, name, value, 2, take_ok(rt, said).as_str())
 }
 
 /// Whether the option takes the ends of its range, and no number next to them.
 fn is_ranged(
-    rt: &(impl AllocGlobal + Threads + Wait + Sync),
+    rt: &(impl AllocGlobal + Abort + Threads + Wait + Sync),
     group: &Group,
     row: &Row,
-) -> Result<bool, AllocError> {
-    let (words, said, _) = group;
-    let (name, before, least, most, after, _, _) = row;
-    Ok(
-        is_told(rt, words, name, least, 1, said)?
-            && is_told(rt, words, name, most, 1, said)?
-            && is_beyond(rt, words, row, before)?
-            && is_beyond(rt, words, row, after)?,
-    )
+) -> bool {
+    is_told(rt, group.0, row.0, row.2, 1, group.1)
+        && is_told(rt, group.0, row.0, row.3, 1, group.1)
+        && is_beyond(rt, group.0, row, row.1)
+        && is_beyond(rt, group.0, row, row.4)
+}
+
+/// Whether a line of help tells the range and the default of its option.
+fn is_line(alloc: Global, line: &str, row: &Row) -> Result<bool, AllocError> {
+    let default = row.6;
+    let end = format!(in alloc; " [default: {default}]")?;
+    let is_due = if default.is_empty() {
+        !line.ends_with("]")
+    } else {
+        line.ends_with(end.as_str())
+    };
+    Ok(is_due && line.contains(row.5))
 }
 
 /// Whether the line of help for the option tells its range and its default.
 fn is_helped(alloc: Global, help: &str, row: &Row) -> Result<bool, AllocError> {
-    let (name, _, _, _, _, range, default) = row;
+    let name = row.0;
     let front = format!(in alloc; "      --{name} <N>")?;
-    let end = format!(in alloc; " [default: {default}]")?;
     for line in help.lines() {
         if line.starts_with(front.as_str()) {
-            let is_due = if default.is_empty() {
-                !line.ends_with("]")
-            } else {
-                line.ends_with(end.as_str())
-            };
-            return Ok(is_due && line.contains(*range));
+            return is_line(alloc, line, row);
         }
     }
     Ok(false)
 }
 
+/// Whether help has a line for each option of some rows.
+fn are_helped(rt: &(impl AllocGlobal + Abort), help: &str, rows: &[Row]) -> bool {
+    for row in rows {
+        if !take_ok(rt, is_helped(rt.alloc(), help, row)) {
+            return false;
+        }
+    }
+    true
+}
+
 /// Whether help of the command has a line for each option of the group.
-fn is_group_helped(
-    rt: &(impl AllocGlobal + Threads + Wait + Sync),
-    group: &Group,
-) -> Result<bool, AllocError> {
-    let (words, _, rows) = group;
-    let words = join_words(rt.alloc(), words, &["--help"])?;
+fn is_group_helped(rt: &(impl AllocGlobal + Abort + Threads + Wait + Sync), group: &Group) -> bool {
+    let words = take_ok(rt, join_words(rt.alloc(), group.0, &["--help"]));
     let mut reader = SlowReader::new(b"", ROOM, false);
     let mut writer = CutWriter::ample();
     let mut faults = CutWriter::ample();
-    if run(rt, words.as_slice(), &mut reader, &mut writer, &mut faults) != 0 {
-        return Ok(false);
+    let ended = run(rt, words.as_slice(), &mut reader, &mut writer, &mut faults);
+    match str::from_utf8(writer.held.as_slice()) {
+        Ok(help) => ended == 0 && are_helped(rt, help, group.2),
+        Err(_) => false,
     }
-    let Ok(help) = str::from_utf8(writer.held.as_slice()) else {
-        return Ok(false);
-    };
-    for row in *rows {
-        if !is_helped(rt.alloc(), help, row)? {
-            return Ok(false);
-        }
+}
+
+/// Each option of a group is ranged.
+fn expect_ranged(
+    rt: &(impl AllocGlobal + Abort + Threads + Wait + Sync),
+    place: usize,
+    group: &Group,
+) {
+    for row in group.2 {
+        expect_at(rt, row.0, place, is_ranged(rt, group, row));
     }
-    Ok(true)
 }
 
 #[test]
-fn options_are_ranged(rt: HostRuntime) -> Result<(), Fail> {
+fn options_are_ranged(rt: HostRuntime) {
     for (place, group) in GROUPS.iter().enumerate() {
-        for row in group.2 {
-            let is_right = is_ranged(&rt, group, row)?;
-            expect(&rt, row.0, place, is_right);
-        }
+        expect_ranged(&rt, place, group);
     }
-    Ok(())
 }
 
 #[test]
-fn help_tells_ranges_and_defaults(rt: HostRuntime) -> Result<(), Fail> {
+fn help_tells_ranges_and_defaults(rt: HostRuntime) {
     for (place, group) in GROUPS.iter().enumerate() {
-        let is_right = is_group_helped(&rt, group)?;
-        expect(&rt, "GROUPS", place, is_right);
+        expect(&rt, place, is_group_helped(&rt, group));
     }
-    Ok(())
 }
