@@ -12,9 +12,9 @@ use std::alloc::Global;
 
 /// Makes at most so many moves of a run of `gco_label`, from where it was left: the labels and what
 /// is lent of the run. It is lent a course and numbers that are all 0 where the run begins, and
-/// what the call before handed back where it goes on. The answer is 0 where the run ended,
-/// `unfinished_status` where it goes on, or the status of a refusal, and then all is as it was. Of
-/// numbers that no call handed back no more is promised than that the labels are in range.
+/// what the call before handed back where it goes on. The answer is 0 where the run ended, 29
+/// where it goes on, or the status of a refusal, and then all is as it was. Of numbers that no call
+/// handed back no more is promised than that the labels are in range.
 #[unsafe(no_mangle)]
 pub extern "C" fn gco_label_stretch(
     alloc: Global,
