@@ -41,8 +41,8 @@ rest_same : (m : Instance) (asked : ℕ → Bool) (g h : ℕ → ℕ) → ((p : 
     → rest_cost m asked g ≡ rest_cost m asked h
 rest_same m asked g h same =
     sum_below-same m.sites (λ p. cond (asked p) 0 (m.data_cost p (g p))) (λ p. cond (asked p) 0 (m.data_cost p (h p))) (λ p l. elim (cases_Bool (asked p)) [
-      | inl yes ↦ ap (λ b. cond b 0 (m.data_cost p (g p))) yes ∙ sym (ap (λ b. cond b 0 (m.data_cost p (h p))) yes)
-      | inr no ↦ ap (λ label. cond (asked p) 0 (m.data_cost p label)) (same p l no)
+      | inl was ↦ ap (λ b. cond b 0 (m.data_cost p (g p))) was ∙ sym (ap (λ b. cond b 0 (m.data_cost p (h p))) was)
+      | inr was ↦ ap (λ label. cond (asked p) 0 (m.data_cost p label)) (same p l was)
     ])
 
 fixed_same : (choice : Choice) (a b : Bool) → (choice ≡ Open → ⊥) → bit_of choice a ≡ bit_of choice b
@@ -67,7 +67,7 @@ stage_of_asked m move f choices bits asked covers stage =
     let whole : (ℕ → Bool) → ℕ = λ x. plain_energy m (made x) in
     let v = stage.values in
     let same : (x y : ℕ → Bool) → rest x ≡ rest y = λ x y. rest_same m asked (made x) (made y)
-    (λ p l no. ap (label_after move (f p)) (fixed_same (choice_at choices p) (x p) (y p) (λ is_open. (let yes = covers p l is_open in cc (yes, no))))) in
+    (λ p l other. ap (label_after move (f p)) (fixed_same (choice_at choices p) (x p) (y p) (λ is_open. (let was = covers p l is_open in cc (was, other))))) in
     record {
       values = v;
       least = record {

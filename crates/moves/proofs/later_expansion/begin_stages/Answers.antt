@@ -48,3 +48,17 @@ returns-clause-zeros g c = λ m meant.
     (AreLeastZeros m.sites (move_value m (Expand a) (labelling at)) (choice_at choices)) c.open_first.result
     (λ zeros. first_zeros m a at choices (pairs_meant _ _ _ m c.requires.asked.posed meant)
     (λ p l is. (zeros p (omega (arith, l, c.requires.asked.asked.sites, meant.sites_are))).0 is)) c.open_first.ensures.zeros
+
+pub returns-clause-stage : goal.returns-clause-stage
+returns-clause-stage g c =
+    let a = c.args in
+    let fresh = c.in_ok-mark_fresh.ensures.fresh in
+    let flags = ap (λ (v : _). v.items) (c.open_first.ensures.same.0 ∙ c.open_apart.ensures.fresh) in
+    let sites = ap (λ (v : _). v.items) (c.open_first.ensures.same.1 ∙ c.open_apart.ensures.listed) in
+    on_ok_both c.open_first.result _ _ _ (λ count opened. record {
+      by_site = c.open_apart.ensures.by_site;
+      sites = count ∙ c.requires.asked.asked.sites;
+      opened = opened;
+      listed = λ p l is. subst (λ (xs : List ℕ). Contains xs p) (sym sites) (fresh.listed p l (ap (λ (xs : List Bool). is_marked xs p) (sym flags) ∙ is));
+      inside = subst (λ (xs : List ℕ). All (λ p. p < a.problem.now.pairs.sites) xs) (sym sites) fresh.inside;
+    }) c.open_first.ensures.count c.open_first.ensures.opened

@@ -5,14 +5,6 @@ use Rattle.near_changes.specs.Fresh.{AreFresh}
 use Rattle.near_changes.specs.Looking.{is_marked}
 use Rattle.moves.proofs.later_expansion.look.Goals as goal
 
-pub make_stage-requires-asked : goal.make_stage-requires-asked
-make_stage-requires-asked g c = record {
-  posed = c.requires.asked.posed;
-  asked = c.requires.asked.asked;
-  few = c.requires.asked.few;
-  of_problem = c.loop-stage.invariant.of_problem;
-}
-
 pub loop-stage-preserved : goal.loop-stage-preserved
 loop-stage-preserved g c =
     let a = c.args in

@@ -65,3 +65,12 @@ returns-in-Some-outcome-clause-sized g c =
       sites_are = c.make_moves.ensures.sizes.sites;
       below = c.make_moves.ensures.below;
     })
+
+pub returns-in-None-clause-sized : goal.returns-in-None-clause-sized
+returns-in-None-clause-sized g c =
+    let S : LabelField → Type 0 = λ field. IsSizedAs c.args.request.start field in
+    subst S (sym c.pause_at.ensures.same.0) (record {
+      labels_are = c.make_moves.ensures.sizes.labels;
+      sites_are = c.make_moves.ensures.sizes.sites;
+      below = c.make_moves.ensures.below;
+    })

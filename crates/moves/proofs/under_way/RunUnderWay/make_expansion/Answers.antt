@@ -32,3 +32,15 @@ returns-clause-stamped g c = λ m meant stamped.
     let taken = subst T (sym c.deref.ensures.value) (c.in_ok-changed.ensures.taken a refl) in
     c.note_whole.ensures f h taken m meant (c.in_ok-later.ensures.sizes.sites ∙ c.requires.working.fits.sites ∙ sym meant.sites_are)
     (c.in_ok-changed.ensures.moved m meant).2 (subst S (sym same) stamped)
+
+pub returns-in-Some-clause-stamped : goal.returns-in-Some-clause-stamped
+returns-in-Some-clause-stamped g c = λ m meant stamped.
+    let a = c.args.alpha in
+    let f = c.args.labelling.now.at in
+    let h = c.make_later.new.labelling.at in
+    let stage = c.make_later.new.space.stage in
+    let T : Option Bool → Type 0 = λ later. IfSome later (λ _. AreTaking (length f) stage × HasTaken a (is_marked stage.taken.items) f h × AreFree (costs_of c.args.problem.now.label_costs)) in
+    let M : Option Bool → Type 0 = λ later. IsLater m a f h (Ok later) in
+    let taken = subst T c.in-Some.is c.in_ok-later.ensures.taken in
+    let moved = subst M c.in-Some.is (c.in_ok-later.ensures.moved m meant stamped) in
+    c.note_later.ensures f h taken.0 taken.1 m meant (c.requires.working.fits.sites ∙ sym meant.sites_are) moved.2 stamped
