@@ -11,20 +11,20 @@ use label_field::{Labelling, Pairs};
 use moves::{Alone, Ended, How, MoveError, Sharing, SolveError, run_expansion};
 use std::alloc::Global;
 use std::process::Abort;
-use std::sync::atomic::{AtomicU32, Ordering};
+use std::sync::atomic::{AtomicUsize, Ordering};
 use vision::{Report, VisionError, run_restore};
 
 /// Cuts so many nets, and refuses each further one.
 #[derive(Drop)]
 struct Refusing {
-    left: AtomicU32,
+    left: AtomicUsize,
     error: SolveError,
 }
 
 impl Refusing {
-    fn new(left: u32, error: SolveError) -> Refusing {
+    fn new(left: usize, error: SolveError) -> Refusing {
         Refusing {
-            left: AtomicU32::new(left),
+            left: AtomicUsize::new(left),
             error,
         }
     }
@@ -138,7 +138,7 @@ fn end_after(cuts: usize, told: MoveError) -> Result<Ended, MoveError> {
 
 /// Whether such a run tells so, and leaves these labels.
 fn is_left(rt: &(impl Abort + AllocGlobal), row: &Error, cuts: usize, left: &[u8; 3]) -> bool {
-    let how = Refusing::new(cuts as u32, row.0);
+    let how = Refusing::new(cuts, row.0);
     let (ended, labels) = take_ok(rt, run_from_zero(rt.alloc(), &how));
     ended == end_after(cuts, row.1) && labels.as_slice() == left.as_slice()
 }
@@ -167,7 +167,7 @@ fn restore_with_cuts(
     cuts: usize,
     error: SolveError,
 ) -> (Result<Report, VisionError>, Vec<u8>) {
-    let how = Refusing::new(cuts as u32, error);
+    let how = Refusing::new(cuts, error);
     hold(rt, RESTORE.fits());
     let mut writer = Kept::new(rt.alloc());
     let mut sink = Watched::new(&mut writer);
