@@ -108,20 +108,31 @@ const GROUPS: &[Group] = &[
 /// Whether a run of these words with the option at this value, over no input, ends with this status
 /// and says this first.
 fn is_told(
-    rt: &(impl AllocGlobal + Abort + Threads + Wait + Sync),
+    rt: &(impl AllocGlobal + Threads + Wait + Sync),
     words: &[&str],
     name: &str,
     value: &str,
     status: u8,
     said: &str,
-) -> bool {
-    let option = take_ok(rt, format!(in rt.alloc(); "--{name}={value}"));
-    let words = take_ok(rt, join_words(rt.alloc(), words, &[option.as_str()]));
+) -> Result<bool, AllocError> {
+    let option = format!(in rt.alloc(); "--{name}={value}")?;
+    let words = join_words(rt.alloc(), words, &[option.as_str()])?;
     let mut reader = SlowReader::new(b"", ROOM, false);
     let mut writer = CutWriter::ample();
     let mut faults = CutWriter::ample();
     let ended = run(rt, words.as_slice(), &mut reader, &mut writer, &mut faults);
-    ended == status && writer.held.is_empty() && faults.held.as_slice().starts_with(said.as_bytes())
+    let is_said = faults.held.as_slice().starts_with(said.as_bytes());
+    Ok(ended == status && writer.held.is_empty() && is_said)
+}
+
+/// Whether the option is taken at this value of its row.
+fn is_within(
+    rt: &(impl AllocGlobal + Abort + Threads + Wait + Sync),
+    group: &Group,
+    row: &Row,
+    value: &str,
+) -> bool {
+    take_ok(rt, is_told(rt, group.0, row.0, value, 1, group.1))
 }
 
 /// Whether the option is refused at this value, with the range that its row tells.
@@ -135,7 +146,8 @@ fn is_beyond(
     let said = format!(in rt.alloc();
         "error: invalid value '{value}' for '--{name} <N>': {value} is not in {least}..={most}"
     );
-    is_told(rt, words, name, value, 2, take_ok(rt, said).as_str())
+    let said = take_ok(rt, said);
+    take_ok(rt, is_told(rt, words, name, value, 2, said.as_str()))
 }
 
 /// Whether the option takes the ends of its range, and no number next to them.
@@ -144,8 +156,8 @@ fn is_ranged(
     group: &Group,
     row: &Row,
 ) -> bool {
-    is_told(rt, group.0, row.0, row.2, 1, group.1)
-        && is_told(rt, group.0, row.0, row.3, 1, group.1)
+    is_within(rt, group, row, row.2)
+        && is_within(rt, group, row, row.3)
         && is_beyond(rt, group.0, row, row.1)
         && is_beyond(rt, group.0, row, row.4)
 }
