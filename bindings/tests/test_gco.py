@@ -158,15 +158,27 @@ def bad_input():
 
 
 def progress():
-    told = []
-    whole = gco.label(DATA, gco.potts(3), PAIRS)
-    steps = gco.label(DATA, gco.potts(3), PAIRS, progress=lambda *words: told.append(words))
-    assert list(steps.labels) == list(whole.labels) and steps[1:] == whole[1:]
+    """Calls in the order of the moves: energies never rise, and the last one tells the end. Where a stretch is one move, there is
+    one for each."""
+    whole, kept = gco.label(DATA, gco.potts(3), PAIRS), gco.stretches.SECONDS
     moves = [(c, l) for c in range(1, whole.cycles + 1) for l in range(3)]
-    assert told[0][:2] == moves[0] and told[-1][:2] == moves[-1] and told[-1][3] == whole.energy
-    assert sorted({words[:2] for words in told}) == [words[:2] for words in told] and any(words[2] for words in told)
-    stopped = gco.label(DATA, gco.potts(3), PAIRS, progress=lambda cycle, label, changed, energy: False)
-    assert stopped.cycles == 1 and not stopped.settled and stopped.energy == told[0][3]
+    for seconds in (kept, 0):
+        told = []
+        gco.stretches.SECONDS = seconds
+        steps = gco.label(DATA, gco.potts(3), PAIRS, progress=lambda *words: told.append(words))
+        assert list(steps.labels) == list(whole.labels) and steps[1:] == whole[1:]
+        named, energies = [words[:2] for words in told], [words[3] for words in told]
+        assert named[0] == moves[0] and named[-1] == moves[-1] and energies[-1] == whole.energy
+        assert sorted(set(named)) == named and sorted(energies, reverse=True) == energies and any(words[2] for words in told)
+    # 0, 1 and then 1 1 1 2 2 everywhere. The moves 0 and 1 of cycle 2 change nothing, so its move 2 is not made
+    assert told == [(1, 0, 0, 34), (1, 1, 5, 30), (1, 2, 2, 27), (2, 0, 0, 27), (2, 2, 0, 27)], told
+    for stop in range(len(told)):
+        seen = []
+        stopped = gco.label(DATA, gco.potts(3), PAIRS, progress=lambda *words: seen.append(words) or len(seen) <= stop)
+        assert seen == told[:stop + 1] and stopped.energy == told[stop][3]
+        # the last call comes where the run is at its end, so nothing is stopped there
+        assert (stopped.cycles, stopped.settled) == ((2, True) if stop == len(told) - 1 else (told[stop][0], False))
+    gco.stretches.SECONDS = kept
 
 
 class Bar:
@@ -189,10 +201,10 @@ class Bar:
 
 
 def bars():
-    """A bar for each cycle, as long as the cycle has moves, by tqdm; and lines without it."""
-    data, kept = [[*costs, 5] for costs in DATA], sys.modules.get("tqdm")
+    """A bar for each cycle, as long as the cycle has moves, by tqdm; and without it a line for each call that saw a change."""
+    data, kept, seconds = [[*costs, 5] for costs in DATA], sys.modules.get("tqdm"), gco.stretches.SECONDS
     sys.modules["tqdm"] = types.SimpleNamespace(tqdm=Bar)
-    for moves, count in (("expansion", 4), ("swap", 6)):
+    for moves, count, gco.stretches.SECONDS in (("expansion", 4, seconds), ("swap", 6, seconds), ("expansion", 4, 0), ("swap", 6, 0)):
         Bar.made.clear()
         found = gco.label(data, gco.potts(4), PAIRS, moves=moves, progress=True)
         assert [(bar.total, bar.n, bar.closed) for bar in Bar.made] == [(count, count, True)] * found.cycles and found.cycles > 1
@@ -201,8 +213,9 @@ def bars():
     written = io.StringIO()
     with contextlib.redirect_stderr(written):
         found = gco.label(data, gco.potts(4), PAIRS, progress=True)
-    lines = written.getvalue().splitlines()
-    assert lines[0].startswith("cycle ") and lines[-1].endswith(f"energy {found.energy}") and " 0 sites" not in written.getvalue(), lines
+    gco.stretches.SECONDS = seconds
+    lines = ["cycle 1 label 1: 5 sites, energy 30", "cycle 1 label 2: 2 sites, energy 27", "cycle 1 label 3: 5 sites, energy 25"]
+    assert written.getvalue().splitlines() == lines and found.energy == 25, written.getvalue()
     if kept is None:
         del sys.modules["tqdm"]
     else:

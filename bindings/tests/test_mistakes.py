@@ -253,6 +253,25 @@ def stopped_by_progress():
         raise AssertionError("no KeyboardInterrupt")
 
 
+def stopped_as_refused():
+    """Ctrl-C that comes as the library refuses the expansion of 1 in cycle 2: what was found before it, with its energy."""
+    make, seconds = gco.stretches._Stretches.make, gco.stretches.SECONDS
+
+    def stops(*words):
+        try:
+            return make(*words)
+        except gco.Refused:
+            raise KeyboardInterrupt from None
+    gco.stretches._Stretches.make, gco.stretches.SECONDS = stops, 0
+    try:
+        gco.label([[0, 9, 9], [9, 9, 0]], gco.quadratic(3), [(0, 1, 1)], stoppable=True)
+    except KeyboardInterrupt as stop:
+        assert (flat(stop.partial.labels), stop.partial.energy, stop.partial.cycles, stop.moves_made) == ([0, 2], 4, 2, 4)
+    else:
+        raise AssertionError("no KeyboardInterrupt")
+    gco.stretches._Stretches.make, gco.stretches.SECONDS = make, seconds
+
+
 if __name__ == "__main__":
     pairs_without_weights()
     shapes()
@@ -262,6 +281,7 @@ if __name__ == "__main__":
     graphs()
     pickles()
     stopped_by_progress()
+    stopped_as_refused()
     stoppable()
     interrupted()
     print("mistakes, pickles and Ctrl-C:", "with numpy" if np is not None else "without numpy")

@@ -565,7 +565,7 @@ def stops(folder):
              "--weight", "1", "--progress"]
     child = subprocess.Popen([str(word) for word in words], stderr=subprocess.PIPE)
     seen = b""
-    while seen.count(b"\r") < 8 and seen.count(b"cycle 1") < 8:
+    while seen.count(b"\r") < 3 and seen.count(b"cycle 1") < 2:
         part = os.read(child.stderr.fileno(), 65536)
         assert part, seen
         seen += part

@@ -113,33 +113,48 @@ def nonsense(count):
 
 
 def watched(count):
-    """A run that is watched answers what one call does, whatever the stretches."""
+    """A run that is watched answers what one call does, whatever the stretches, and tells its moves in their order. Where a stretch
+    is one move it tells each, but for those at the end that are known to change nothing: the last of them stands for all."""
     rng = random.Random(75)
-    kept = gco.stretches.SECONDS
+    kept, kinds = gco.stretches.SECONDS, {"each": 0, "some": 0, "jumped": 0, "refused": 0}
     for turn in range(count):
         problem, start = some_problem(rng)
-        moves = rng.choice(list(MOVES))
-        gco.stretches.SECONDS = rng.choice([0, 1e-5, 1e-4, kept])
+        moves, cycles = rng.choice(list(MOVES)), rng.choice([None, None, 0, 1, 2])
+        gco.stretches.SECONDS = rng.choice([0, 0, 1e-5, 1e-4, kept])
         told = []
         try:
             answers = [gco.label([x for row in problem.data for x in row], problem.smooth, problem.pairs, label_costs=problem.costs or None, moves=moves,
-                                 start=start, **more) for more in (dict(stoppable=False), dict(stoppable=True), dict(progress=lambda *words: told.append(words)))]
+                                 cycles=cycles, start=start, **more)
+                       for more in (dict(stoppable=False), dict(stoppable=True), dict(progress=lambda *words: told.append(words)))]
         except gco.Refused as error:
             assert error.status in (24, 27), error
+            kinds["refused"] += 1
             continue
         plain, *others = answers
         for other in others:
             assert list(other.labels) == list(plain.labels) and other[1:] == plain[1:], (turn, answers)
-        steps = [f for f in problem.steps(moves, ALL_CYCLES, start)][:-1]
-        length = len(problem.order(moves))
-        before = start
-        for cycle, named, changed, energy in told:
-            place = problem.order(moves).index(named if moves == "swap" else (named,))
-            now = steps[(cycle - 1) * length + place]
-            assert energy == problem.energy(now) and changed == sum(a != b for a, b in zip(before, now)), (turn, told)
-            before = now
+        chain = [start, *[f for f in problem.steps(moves, ALL_CYCLES if cycles is None else cycles, start)][:-1]]
+        order = [move if moves == "swap" else move[0] for move in problem.order(moves)]
+        at = [(cycle - 1) * len(order) + order.index(named) + 1 for cycle, named, _, _ in told]
+        assert sorted(set(at)) == at and at[-1:] == [len(chain) - 1][:len(chain) - 1], (turn, told)
+        for before, now, (_, _, changed, energy) in zip([0, *at], at, told):
+            assert energy == problem.energy(chain[now]) and changed == sum(a != b for a, b in zip(chain[before], chain[now])), (turn, told)
+        if gco.stretches.SECONDS == 0:
+            made = moves_to_make(chain, len(order))
+            assert at == [*range(1, made), *[len(chain) - 1][:made]], (turn, told, made)
+            kinds["each"] += 1
+            kinds["jumped"] += made < len(chain) - 1
+        else:
+            kinds["some"] += 1
     gco.stretches.SECONDS = kept
+    assert all(kinds.values()), kinds
+    return kinds
 
 
-print("stretches:", by_definition(500), "nonsense:", nonsense(2000))
-watched(500)
+def moves_to_make(chain, length):
+    """How many moves of a chain a run makes: a whole cycle after the last that changed something, if the chain is so long."""
+    last = max([place for place in range(1, len(chain)) if chain[place] != chain[place - 1]], default=1)
+    return min(last + length - 1, len(chain) - 1)
+
+
+print("stretches:", by_definition(500), "nonsense:", nonsense(2000), "watched:", watched(500))

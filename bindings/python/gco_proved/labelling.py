@@ -177,6 +177,11 @@ class Problem:
                            ctypes.addressof(self.told))
         return status
 
+    def run_at_once(self, moves: str, cycles: int) -> None:
+        """A run by one call of the library, or a Refused. Of no cycle it tells the energy."""
+        call = calls.gco_label_int32 if self.narrow else calls.gco_label
+        self.make(call, MOVES[moves], cycles)
+
     def energy(self) -> int:
         return self.told.data + self.told.smooth + self.told.label
 
@@ -188,6 +193,12 @@ class Problem:
                       bound)
         found.given = self.given
         return found
+
+    def found_at_end(self) -> Found:
+        """What was found by a run that is at its end."""
+        told = self.told
+        bound = (told.vmin, told.vmax) if told.vmax else None
+        return self.found(told.cycles, bool(told.settled), bound)
 
 
 def _sides(values, what, status):
@@ -250,18 +261,14 @@ def _labelled(data, smooth, pairs, label_costs, moves, cycles, start, progress, 
     if stoppable is None:
         stoppable = _stops(problem)
     if progress is None and not stoppable:
-        call = calls.gco_label_int32 if problem.narrow else calls.gco_label
-        told = problem.make(call, MOVES[moves], allowed)
-        bound = (told.vmin, told.vmax) if told.vmax else None
-        return problem.found(told.cycles, bool(told.settled), bound)
+        problem.run_at_once(moves, allowed)
+        return problem.found_at_end()
     step = bar(problem.label_count, moves) if progress is True else progress
     return run(problem, moves, allowed, step)
 
 
 def _stops(problem):
-    """Whether a run is to be stopped by Ctrl-C: it takes long enough to be, and this thread is told
-    of it.
-    """
+    """Whether a run is to be stopped by Ctrl-C: it is long, and this thread is told of it."""
     return (problem.sites * problem.label_count >= LONG
             and threading.current_thread() is threading.main_thread()
             and callable(signal.getsignal(signal.SIGINT)))

@@ -36,6 +36,17 @@ def cycle_length(label_count: int, moves: str) -> int:
     return label_count if moves == "expansion" else label_count * (label_count - 1) // 2
 
 
+def move_at(label_count: int, moves: str, place: int) -> Any:
+    """The move at a place of a cycle, from 0: a label, or two of a swap."""
+    if moves == "expansion":
+        return place
+    alpha = 0
+    while place >= label_count - 1 - alpha:
+        place -= label_count - 1 - alpha
+        alpha += 1
+    return alpha, alpha + 1 + place
+
+
 def moves_till(change: Any, label_count: int) -> int:
     """How many moves of a cycle are made where this one is."""
     if not isinstance(change, tuple):

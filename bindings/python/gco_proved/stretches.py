@@ -5,7 +5,7 @@ from typing import TYPE_CHECKING, Any, Callable, Optional, Tuple
 
 from . import _library, arrays
 from ._library import MOVES, UNFINISHED, calls
-from .progress import cycle_length
+from .progress import cycle_length, move_at
 
 if TYPE_CHECKING:
     from .labelling import Found, Problem
@@ -35,24 +35,36 @@ class _Stretches:
             raise self.problem.refused(status)
         return status == UNFINISHED
 
-    def cycle(self) -> int:
-        """The cycle that the labels are of, from 1; 0 where no move was made."""
-        course = self.course
-        return max(self.problem.told.cycles, course.cycles + (1 if course.place else 0))
+    def moves_made(self) -> int:
+        """How many moves of the run are made. At its end those that are left of the cycle count
+        too, since they are known to change nothing."""
+        told, course = self.problem.told, self.course
+        if told.cycles > course.cycles:  # the run ended, and its course stayed as it was
+            return told.cycles * self.count
+        return course.cycles * self.count + course.place
 
-    def last(self, goes_on: bool) -> Tuple[int, int]:
-        """The cycle of the last move that was made, from 1, and its place in it."""
-        if not goes_on:
-            return self.problem.told.cycles, self.count - 1
-        if self.course.place:
-            return self.course.cycles + 1, self.course.place - 1
-        return self.course.cycles, self.count - 1
+    def last(self) -> Tuple[int, int]:
+        """The cycle of the last move that was made, from 1, and its place in it, from 0."""
+        cycle, place = divmod(self.moves_made() - 1, self.count)
+        return cycle + 1, place
+
+    def found_so_far(self) -> Optional["Found"]:
+        """What was found till now, None before the first move. The call before may have been
+        refused, so the energy is asked for anew."""
+        if not self.moves_made():
+            return None
+        cycle, _ = self.last()
+        self.problem.run_at_once(self.moves, 0)
+        return self.problem.found(cycle, False)
 
 
 def run(problem: "Problem", moves: str, allowed: int, progress: Optional[Callable[..., Any]],
         each: bool = False) -> "Found":
     """The cycles of a run, by stretches of some half a second, or move by move where `each` is
     asked for. The labels are those of one call.
+
+    A KeyboardInterrupt has what was found till then as `partial`, None before the first move, and
+    as `moves_made` how many moves that are.
     """
     stretches = _Stretches(problem, moves, allowed)
     most, goes_on = 1, True
@@ -62,20 +74,18 @@ def run(problem: "Problem", moves: str, allowed: int, progress: Optional[Callabl
             began = time.perf_counter()
             goes_on = stretches.make(most)
             spent = time.perf_counter() - began
-            cycle, place = stretches.last(goes_on)
-            if progress and stretches.count and allowed:
+            if progress and stretches.moves_made():
+                cycle, place = stretches.last()
                 changed = arrays.differing(before, problem.labels)
-                named = _move_at(problem.label_count, moves, place)
+                named = move_at(problem.label_count, moves, place)
                 if progress(cycle, named, changed, problem.energy()) is False and goes_on:
                     return problem.found(cycle, False)
             most = 1 if each else _moves_next(most, spent)
     except KeyboardInterrupt as stop:
-        cycle = stretches.cycle()
-        stop.partial = problem.found(cycle, False) if cycle else None  # type: ignore[attr-defined]
+        stop.moves_made = stretches.moves_made()  # type: ignore[attr-defined]
+        stop.partial = stretches.found_so_far()  # type: ignore[attr-defined]
         raise
-    told = problem.told
-    bound = (told.vmin, told.vmax) if told.vmax else None
-    return problem.found(told.cycles, bool(told.settled), bound)
+    return problem.found_at_end()
 
 
 def _moves_next(most: int, spent: float) -> int:
@@ -85,14 +95,3 @@ def _moves_next(most: int, spent: float) -> int:
 
 def _copy(labels: Any) -> Any:
     return labels[:] if arrays.numpy is None else labels.copy()
-
-
-def _move_at(label_count: int, moves: str, place: int) -> Any:
-    """The move at a place of a cycle: a label, or two of a swap."""
-    if moves == "expansion":
-        return place
-    for alpha in range(label_count):
-        if place < label_count - 1 - alpha:
-            return alpha, alpha + 1 + place
-        place -= label_count - 1 - alpha
-    raise AssertionError("a cycle has no such move")

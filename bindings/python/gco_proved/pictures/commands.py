@@ -226,7 +226,7 @@ def run_picture(options: argparse.Namespace) -> int:
         name = pathlib.Path(options.files[0]).name
         plots.plot(options.plot, ran.steps, f"{options.command} {name}", ran.low)
     if stopped:
-        print(f"stopped after {ran.done or '0 moves'}: {out} is what was found till then", file=sys.stderr)
+        print(f"stopped after {ran.done}: {out} is what was found till then", file=sys.stderr)
         return STOPPED
     return 0
 

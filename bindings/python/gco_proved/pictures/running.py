@@ -7,7 +7,6 @@ from concurrent.futures import Future
 from typing import Any, Callable, Iterator, List, NamedTuple, Optional, Tuple
 
 from .. import labelling, progress, stretches
-from .._library import MOVES, calls
 from ..lower_bound import PASSES, LowerBound, lower_bound
 from ..refusals import Refused
 from .words import Wrong
@@ -125,25 +124,17 @@ def _by_stretches(problem: labelling.Problem, moves: str, cycles: int, drawn: bo
         if bar:
             bar(cycle, change, changed, energy)
 
-    call = calls.gco_label_int32 if problem.narrow else calls.gco_label
-    problem.make(call, MOVES[moves], 0)
+    problem.run_at_once(moves, 0)
     told = problem.told
     steps.append(Step(0, None, 0, told.data, told.smooth, told.label))
-    plain = problem.found(0, False)
+    start = problem.found(0, False)
     try:
         return Ran(stretches.run(problem, moves, cycles, step, each), steps, False)
     except KeyboardInterrupt as stop:
-        found = stop.partial or plain  # type: ignore[attr-defined]
-        return Ran(found, steps, True, done=f"{_moves_made(steps[-1], problem, moves)} moves")
-
-
-def _moves_made(step: Step, problem: labelling.Problem, moves: str) -> int:
-    """How many moves of a run were made where its last step is this one."""
-    if not step.cycle:
-        return 0
-    k = problem.label_count
-    whole = (step.cycle - 1) * progress.cycle_length(k, moves)
-    return whole + progress.moves_till(step.change, k)
+        if not hasattr(stop, "partial"):
+            raise
+        return Ran(stop.partial or start, steps, True,
+                   done=f"{stop.moves_made} moves")  # type: ignore[attr-defined]
 
 
 @contextlib.contextmanager
