@@ -23,18 +23,19 @@
 // - A random order of labels is the rising one, so that the answer is one. The order of a list is
 //   made move by move.
 // - setVerbosity(1) prints each cycle, and setVerbosity(2) each move, by a call for each.
+// Beyond gco-v3: lowerBound, startFromBound, setWatch and outcome.
 // Not there: setLabelSubsetCost, and more than 1,048,576 sites or 256 labels.
 #ifndef GCO_GCOPTIMIZATION_H
 #define GCO_GCOPTIMIZATION_H
 
 #include <algorithm>
 #include <array>
+#include <chrono>
 #include <cstddef>
 #include <cstdint>
 #include <cstdio>
 #include <functional>
 #include <limits>
-#include <memory>
 #include <new>
 #include <string>
 #include <type_traits>
@@ -84,6 +85,15 @@ public:
         SiteID site;
         EnergyTermType cost;
     };
+
+    // how far a run came: its last move, of which an expansion has twice the same label, its cycle
+    // from 1, and the energy
+    struct Progress {
+        int cycle;
+        LabelID alpha, beta;
+        EnergyType energy;
+    };
+    typedef std::function<bool(const Progress &)> Watch;
 
     // whether a type has numbers that an int does not hold: fractions are among them
     template <typename Cost>
@@ -223,6 +233,11 @@ public:
     EnergyType swap(int cycles = -1) {
         return in_memory([&] { return run(GCO_SWAP, cycles); });
     }
+    // beyond gco-v3: what each later run calls about twice a second and where it ends, and in an
+    // order of labels after each move. Where it answers no the run stops there, and outcome() is
+    // not settled. What it throws comes through, and the labels are those before the run.
+    // setWatch(nullptr) takes it away
+    void setWatch(Watch watch) { watch_ = std::move(watch); }
     // one move; yes where a label changed, and so the energy fell
     bool alpha_expansion(LabelID alpha) {
         check_label(alpha);
@@ -458,10 +473,7 @@ private:
                 return "refused " + std::to_string(status) + " at " + std::to_string(o.place);
             const gco_pair &pair = (*laid.pairs)[o.place];
             return "the smooth cost is no metric: the term of " + names(pair.first, pair.second) +
-                   " is not regular in the " +
-                   (o.alpha == o.beta ? "expansion of label " + std::to_string(o.alpha)
-                                      : "swap of labels " + std::to_string(o.alpha) + " and " +
-                                            std::to_string(o.beta));
+                   " is not regular in the " + move_name(LabelID(o.alpha), LabelID(o.beta));
         }
         EnergyType energy() const {
             return of.outcome_.data + of.outcome_.smooth + of.outcome_.label + of.shift_;
@@ -485,6 +497,39 @@ private:
         }
     };
 
+    // a run over costs of 32 bits, by some of its moves a call
+    struct Stretches : Arrays {
+        Stretches(GCoptimization &given, std::uint32_t moves, std::uint32_t cycles)
+            : Arrays(given), kind(moves), allowed(cycles), length(given.cycle_length(moves)),
+              stamps(given.labels_.size()), expanded(given.label_total()) {}
+        // makes at most so many moves; yes where the run goes on
+        bool make(std::uint32_t most) {
+            const std::vector<std::int32_t> &costs = data(), &own = of.label_costs_;
+            const std::uint32_t status = gco_label_stretch_int32(
+                std::uint32_t(of.label_count_), costs.data(), costs.size(), laid.table.data(),
+                laid.table.size(), own.data(), own.size(), laid.pairs->data(), laid.pairs->size(),
+                kind, allowed, most, &course, stamps.data(), stamps.size(), expanded.data(),
+                expanded.size(), of.labels_.data(), of.labels_.size(), &of.outcome_);
+            if (status != GCO_UNFINISHED) check(status);
+            return status == GCO_UNFINISHED;
+        }
+        // how many moves are made; at the end of the run those that are left of its cycle count
+        // too, since they are known to change nothing
+        std::uint64_t moves_made() const {
+            const std::uint64_t ended = of.outcome_.cycles, whole = course.cycles;
+            return ended > whole ? ended * length : whole * length + course.place;
+        }
+        // how many moves there are before something is to be printed
+        std::uint32_t moves_unprinted() const {
+            if (of.verbosity_ >= 2) return 1;
+            return of.verbosity_ == 1 ? std::uint32_t(length) - course.place : GCO_ALL_CYCLES;
+        }
+        const std::uint32_t kind, allowed;
+        const std::uint64_t length;
+        std::vector<std::uint32_t> stamps, expanded;
+        gco_course course = gco_course();
+    };
+
     // single moves, over a copy of the costs in 64 bits
     struct Moves : Arrays {
         typedef std::vector<std::int64_t> Wide;
@@ -497,8 +542,7 @@ private:
                              smooth.data(), smooth.size(), own.data(), own.size(),
                              laid.pairs->data(), laid.pairs->size(), std::uint32_t(alpha),
                              of.labels_.data(), of.labels_.size(), &of.outcome_));
-            if (of.verbosity_ >= 2)
-                of.print("  expansion of label " + std::to_string(alpha), energy());
+            if (of.verbosity_ >= 2) of.print("  " + move_name(alpha, alpha), energy());
             return of.outcome_.changed != 0;
         }
         bool swap(LabelID alpha, LabelID beta) {
@@ -524,50 +568,110 @@ private:
             check(status);
             return told.low + of.shift_;
         }
-        // a cycle of moves; yes where one changed a label
-        bool cycle(std::uint32_t moves) {
+        // the cycle of that number, in the order of the labels; yes where a move changed a label
+        bool cycle(std::uint32_t moves, std::uint32_t number) {
             bool is_changed = false;
             const LabelID count = of.order_count();
-            for (LabelID i = 0; i < count; i++) {
-                if (moves == GCO_EXPANSION) is_changed |= expand(of.ordered(i));
-                for (LabelID j = i + 1; moves == GCO_SWAP && j < count; j++)
-                    is_changed |= swap(of.ordered(i), of.ordered(j));
-            }
+            for (LabelID i = 0; i < count; i++)
+                for (LabelID j = moves == GCO_SWAP ? i + 1 : i;
+                     j < (moves == GCO_SWAP ? count : i + 1); j++) {
+                    const LabelID alpha = of.ordered(i), beta = of.ordered(j);
+                    is_changed |= i == j ? expand(alpha) : swap(alpha, beta);
+                    is_stopped = !of.goes_on({int(number), alpha, beta, energy()});
+                    if (is_stopped) return is_changed;
+                }
             return is_changed;
         }
         Wide costs, smooth, own;
+        bool is_stopped = false;
     };
 
     EnergyType run(std::uint32_t moves, int cycles) {
-        if (verbosity_ < 1 && !is_ordered_)
-            return Run(*this).make(moves, cycles < 0 ? GCO_ALL_CYCLES : std::uint32_t(cycles));
+        const std::uint32_t allowed = cycles < 0 ? GCO_ALL_CYCLES : std::uint32_t(cycles);
+        if (verbosity_ < 1 && !is_ordered_ && !watch_) return Run(*this).make(moves, allowed);
         const std::vector<std::uint32_t> before(labels_);
         try {
-            return run_by_cycles(moves, cycles);
+            return is_ordered_ ? run_in_order(moves, allowed) : run_by_stretches(moves, allowed);
         } catch (...) {
             std::copy(before.begin(), before.end(), labels_.begin());
             throw;
         }
     }
-    EnergyType run_by_cycles(std::uint32_t moves, int cycles) {
+    EnergyType run_in_order(std::uint32_t moves, std::uint32_t cycles) {
         Run calls(*this);
         EnergyType energy = calls.make(moves, 0);
         print("start", energy);
-        std::unique_ptr<Moves> single(verbosity_ >= 2 || is_ordered_ ? new Moves(*this) : nullptr);
+        Moves single(*this);
         const bool takes_all = order_count() == label_count_;
         std::uint32_t made = 0;
-        for (bool is_settled = false; !is_settled && (cycles < 0 || made < std::uint32_t(cycles));
-             made++) {
-            if (single) is_settled = !single->cycle(moves);
+        for (bool is_settled = false; !is_settled && made < cycles; made++) {
+            is_settled = !single.cycle(moves, made + 1);
+            if (single.is_stopped) {
+                energy = single.energy();
+                break;
+            }
             // a cycle of all labels that changes nothing is made again by one call, which tells
             // the bound
-            energy = calls.make(moves, single && !(is_settled && takes_all) ? 0 : 1);
-            if (takes_all) is_settled = outcome_.settled != 0;
+            energy = calls.make(moves, is_settled && takes_all ? 1 : 0);
             outcome_.settled = is_settled;
             print("cycle " + std::to_string(made + 1), energy);
         }
         outcome_.cycles = made;
         return energy;
+    }
+    EnergyType run_by_stretches(std::uint32_t moves, std::uint32_t cycles) {
+        Stretches calls(*this, moves, cycles);
+        bool is_under_way = calls.make(0);
+        print("start", calls.energy());
+        std::uint32_t pace = 1;
+        while (is_under_way) {
+            const std::uint64_t before = calls.moves_made();
+            const std::uint32_t most = std::min(watch_ ? pace : GCO_ALL_CYCLES,
+                                                calls.moves_unprinted());
+            const auto began = std::chrono::steady_clock::now();
+            is_under_way = calls.make(most);
+            pace = moves_of_half_second(most, std::chrono::steady_clock::now() - began);
+            print_moves(calls, before);
+            if (!goes_on(progress_of(calls, calls.moves_made() - 1))) break;
+        }
+        return calls.energy();
+    }
+    // how many moves take half a second, where so many took so long; not too many more than those
+    static std::uint32_t moves_of_half_second(std::uint32_t most,
+                                              std::chrono::duration<double> spent) {
+        const double moves = most * 0.5 / std::max(spent.count(), 1e-9);
+        return std::uint32_t(std::max(1.0, std::min({moves, most * 16.0, 1e6})));
+    }
+    bool goes_on(const Progress &progress) const { return !watch_ || watch_(progress); }
+    // how many moves a cycle has
+    std::uint64_t cycle_length(std::uint32_t moves) const {
+        const std::uint64_t k = label_total();
+        return moves == GCO_EXPANSION ? k : k * (k - 1) / 2;
+    }
+    // how far a run is after the move of that number, from 0
+    Progress progress_of(const Stretches &calls, std::uint64_t number) const {
+        const LabelID cycle = LabelID(number / calls.length) + 1;
+        LabelID place = LabelID(number % calls.length);
+        if (calls.kind == GCO_EXPANSION) return {cycle, place, place, calls.energy()};
+        LabelID alpha = 0;
+        for (; place >= label_count_ - 1 - alpha; alpha++) place -= label_count_ - 1 - alpha;
+        return {cycle, alpha, alpha + 1 + place, calls.energy()};
+    }
+    // prints the moves after so many, and the cycles that they end; where there are several to be
+    // printed, those behind the first changed nothing
+    void print_moves(const Stretches &calls, std::uint64_t before) const {
+        if (verbosity_ < 1) return;
+        for (std::uint64_t number = before; number < calls.moves_made(); number++) {
+            const Progress made = progress_of(calls, number);
+            if (verbosity_ >= 2) print("  " + move_name(made.alpha, made.beta), made.energy);
+            if ((number + 1) % calls.length == 0)
+                print("cycle " + std::to_string(made.cycle), made.energy);
+        }
+    }
+    static std::string move_name(LabelID alpha, LabelID beta) {
+        return alpha == beta ? "expansion of label " + std::to_string(alpha)
+                             : "swap of labels " + std::to_string(alpha) + " and " +
+                                   std::to_string(beta);
     }
     LabelID order_count() const { return is_ordered_ ? LabelID(order_.size()) : label_count_; }
     LabelID ordered(LabelID at) const { return is_ordered_ ? order_[std::size_t(at)] : at; }
@@ -592,6 +696,7 @@ private:
     gco_outcome outcome_ = gco_outcome();
     EnergyType shift_ = 0;
     int verbosity_ = 0;
+    Watch watch_;
 };
 
 class GCoptimizationGridGraph : public GCoptimization {

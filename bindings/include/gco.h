@@ -22,8 +22,9 @@
  * What the caller owes, since nothing in C can test it: each array has as many elements as its count says, is aligned as
  * its type asks, overlaps no other that the call writes, and is left alone by other threads while the call runs. A
  * pointer to an array of no elements may be NULL. What a call writes are `labels` and `told` (`assignment` and `told`
- * of gco_minimise; of gco_label_stretch what it is lent, too), nothing else. Its memory comes from malloc and is given back before it returns; it takes about 10 KB
- * of stack, whatever the size of the problem. Not to be called from a signal handler.
+ * of gco_minimise; of gco_label_stretch what it is lent, too), nothing else. Its memory comes from malloc and is given
+ * back before it returns; it takes about 10 KB of stack, whatever the size of the problem. Not to be called from a signal
+ * handler.
  *
  * What the caller may give: anything else. Each length, range, label, site and pair is tested before it is used, and what
  * is wrong is told by the status, in the order of the tests: the first that holds. Where the status is not GCO_OK the

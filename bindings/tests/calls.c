@@ -1,6 +1,7 @@
 /* Each call of gco.h: worked examples, every status once, every field that a call tells, what a refusal leaves, and four
  * threads at once. It exits with the first line that fails. */
 #include <pthread.h>
+#include <stddef.h>
 #include <stdio.h>
 #include <stdlib.h>
 #include <string.h>
@@ -141,12 +142,18 @@ static int refused(void) {
 }
 
 /* costs of 32 bits: the answers of 64, and each refusal of the costs */
-static int narrow(void) {
-    int32_t data32[15], smooth32[9], costs32[3] = {2, 2, 2};
-    uint32_t ends[5] = {0};
-    gco_outcome wide;
+static int32_t data32[15], smooth32[9], costs32[3];
+
+static void fill_narrow(void) {
     for (int i = 0; i < 15; i++) data32[i] = (int32_t)data[i];
     for (int i = 0; i < 9; i++) smooth32[i] = (int32_t)smooth[i];
+    for (int i = 0; i < 3; i++) costs32[i] = 2;
+}
+
+static int narrow(void) {
+    uint32_t ends[5] = {0};
+    gco_outcome wide;
+    fill_narrow();
     memset(labels, 0, sizeof labels);
     WANT(run(3, 15, 9, 0, GCO_EXPANSION, GCO_ALL_CYCLES) == GCO_OK);
     wide = told;
@@ -171,6 +178,116 @@ static int narrow(void) {
     costs32[2] = -1;
     REFUSED(RUN32(15, 3), GCO_LABEL_COST_RANGE, 2);
     WANT(!memcmp(ends, labels, sizeof ends));
+    return 0;
+}
+
+/* what a stretch is lent */
+struct lent {
+    gco_course course;
+    uint32_t stamps[5], made[3], labels[5];
+};
+static struct lent lent;
+
+static uint32_t stretch(int wide, size_t cost_count, uint32_t moves, uint32_t cycles, uint32_t most) {
+    memset(&told, 0xff, sizeof told);
+    if (wide)
+        return gco_label_stretch(3, data, 15, smooth, 9, costs, cost_count, pairs, 6, moves, cycles, most, &lent.course, lent.stamps, 5,
+                                 lent.made, 3, lent.labels, 5, &told);
+    return gco_label_stretch_int32(3, data32, 15, smooth32, 9, costs32, cost_count, pairs, 6, moves, cycles, most, &lent.course,
+                                   lent.stamps, 5, lent.made, 3, lent.labels, 5, &told);
+}
+
+/* a run by so many moves a call: paused calls tell the energy of the labels and the whole cycles, the last one what gco_label does */
+static int by_stretches(int wide, size_t cost_count, uint32_t moves, uint32_t cycles, uint32_t most) {
+    struct lent before;
+    gco_outcome whole;
+    uint32_t made = 0, status;
+    memset(labels, 0, sizeof labels);
+    memset(&lent, 0, sizeof lent);
+    WANT(run(3, 15, 9, cost_count, moves, cycles) == GCO_OK);
+    whole = told;
+    /* no move: nothing is done but where the cycles are 0 */
+    WANT(stretch(wide, cost_count, moves, cycles, 0) == (cycles ? GCO_UNFINISHED : GCO_OK) && !memcmp(lent.labels, zero, sizeof zero));
+    do {
+        before = lent;
+        status = stretch(wide, cost_count, moves, cycles, most);
+        WANT(status == GCO_UNFINISHED || status == GCO_OK);
+        if (status != GCO_UNFINISHED) break;
+        made += most;
+        WANT(lent.course.cycles == made / 3 && lent.course.place == made % 3);
+        gco_outcome paused = told;
+        WANT(gco_label(3, data, 15, smooth, 9, costs, cost_count, pairs, 6, moves, 0, lent.labels, 5, &told) == GCO_OK);
+        told.cycles = made / 3;
+        WANT(tells(paused));
+    } while (made < 99);
+    WANT(tells(whole) && !memcmp(lent.labels, labels, sizeof labels));
+    WANT(!memcmp(&lent, &before, offsetof(struct lent, labels)));
+    return 0;
+}
+
+/* a stretch that is refused and leaves all that it is lent */
+#define UNLENT(call, status, at)                      \
+    do {                                              \
+        REFUSED(call, status, at);                    \
+        WANT(!memcmp(&lent, &before, sizeof lent));   \
+    } while (0)
+
+static int stretched(void) {
+    fill_narrow();
+    for (int i = 0; i < 3; i++) costs[i] = 2;
+    for (int wide = 0; wide < 2; wide++)
+        for (uint32_t most = 1; most < 4; most++)
+            for (uint32_t cycles = 0; cycles < 5; cycles++)
+                if (by_stretches(wide, 0, GCO_EXPANSION, cycles, most) || by_stretches(wide, 3, GCO_EXPANSION, cycles, most)
+                    || by_stretches(wide, 0, GCO_SWAP, cycles, most)) return 1;
+    /* refusals of a run after its second move */
+    memset(&lent, 0, sizeof lent);
+    WANT(stretch(1, 0, GCO_EXPANSION, 3, 2) == GCO_UNFINISHED && lent.course.place == 2 && memcmp(lent.labels, zero, sizeof zero));
+    struct lent before = lent;
+#define LENT(stamp_count, made_count, site_count) \
+    gco_label_stretch(3, data, 15, smooth, 9, NULL, 0, pairs, 6, GCO_EXPANSION, 3, 9, &lent.course, lent.stamps, stamp_count, lent.made, \
+                      made_count, lent.labels, site_count, &told)
+    UNLENT(LENT(4, 3, 5), GCO_NO_SUCH_COURSE, 0);
+    UNLENT(LENT(6, 3, 5), GCO_NO_SUCH_COURSE, 0);
+    UNLENT(LENT(0, 3, 5), GCO_NO_SUCH_COURSE, 0);
+    UNLENT(LENT(5, 2, 5), GCO_NO_SUCH_COURSE, 0);
+    UNLENT(LENT(5, 4, 5), GCO_NO_SUCH_COURSE, 0);
+    UNLENT(LENT(5, 3, 4), GCO_DATA_COUNT, 0);
+    UNLENT(stretch(0, 3, GCO_SWAP, 3, 9), GCO_LABEL_COST_IN_SWAP, 0);
+    UNLENT(stretch(0, 2, GCO_EXPANSION, 3, 9), GCO_LABEL_COST_COUNT, 0);
+    UNLENT(stretch(1, 0, 2, 3, 9), GCO_NO_SUCH_MOVES, 0);
+    /* a course past the end: no move has that place, and so many cycles are no run */
+    before.course.place = lent.course.place = 3;
+    UNLENT(stretch(1, 0, GCO_EXPANSION, 3, 9), GCO_NO_SUCH_COURSE, 0);
+    before.course.place = lent.course.place = 2;
+    before.course.cycles = lent.course.cycles = 3;
+    UNLENT(stretch(0, 0, GCO_EXPANSION, 3, 9), GCO_NO_SUCH_COURSE, 0);
+    before.course.cycles = lent.course.cycles = 0;
+    data[7] = data32[7] = -1;
+    UNLENT(stretch(1, 0, GCO_EXPANSION, 3, 9), GCO_DATA_RANGE, 7);
+    UNLENT(stretch(0, 0, GCO_EXPANSION, 3, 9), GCO_DATA_RANGE, 7);
+    data[7] = data32[7] = 4;
+    before.labels[4] = lent.labels[4] = 3;
+    UNLENT(stretch(1, 0, GCO_EXPANSION, 3, 9), GCO_NO_SUCH_LABEL, 4);
+    for (int i = 0; i < 3; i++) costs[i] = 0;
+    return 0;
+}
+
+/* a run that is refused in a later move: docs/LABEL.md's term is not regular in the expansion of 1 once the labels are 0 and 2 */
+static int stretched_to_refusal(void) {
+    int64_t far[] = {0, 9, 9, 9, 9, 0}, square[] = {0, 1, 4, 1, 0, 1, 4, 1, 0};
+    gco_pair one = {0, 1, 1};
+    gco_course course = {0};
+    uint32_t stamps[2] = {0}, made[3] = {0}, ends[2] = {0};
+#define ONE_MOVE FRESH(gco_label_stretch(3, far, 6, square, 9, NULL, 0, &one, 1, GCO_EXPANSION, 9, 1, &course, stamps, 2, made, 3, ends, 2, &told))
+    for (int i = 0; i < 4; i++) WANT(ONE_MOVE == GCO_UNFINISHED);
+    WANT(ends[0] == 0 && ends[1] == 2 && course.cycles == 1 && course.place == 1 && tells((gco_outcome){.smooth = 4, .cycles = 1}));
+    gco_course kept = course;
+    uint32_t stamped[2], made_before[3];
+    memcpy(stamped, stamps, sizeof stamps);
+    memcpy(made_before, made, sizeof made);
+    WANT(ONE_MOVE == GCO_NOT_REGULAR && tells((gco_outcome){.alpha = 1, .beta = 1}) && ends[0] == 0 && ends[1] == 2);
+    WANT(!memcmp(&kept, &course, sizeof course) && !memcmp(stamped, stamps, sizeof stamps) && !memcmp(made_before, made, sizeof made));
     return 0;
 }
 
@@ -339,7 +456,7 @@ static int at_once(void) {
 }
 
 int main(void) {
-    if (worked() || refused() || narrow() || bounded() || minimised() || at_once()) return 1;
+    if (worked() || refused() || narrow() || stretched() || stretched_to_refusal() || bounded() || minimised() || at_once()) return 1;
     printf("c: every call, every status, four threads\n");
     return 0;
 }

@@ -45,6 +45,39 @@ static gco_three threes[] = {{0, 1, 2, 0, 3, 3, 3, 3, 3, 3, 3, 0}};
 static uint32_t labels[5];
 static uint8_t bits[3];
 
+enum { CALLS = 8, WROTE = 99 };
+
+/* The rest of a run after two moves, whose memory is not refused. What a refusal writes is told by a
+ * status of its own. */
+static uint32_t stretched(void) {
+    gco_course course = {0}, left;
+    uint32_t stamps[5] = {0}, made[3] = {0}, at[5] = {0}, stamps_left[5], made_left[3], at_left[5];
+    gco_outcome told;
+    const long fails_at = fail_at;
+    fail_at = 0;
+    uint32_t status = gco_label_stretch(3, data, 15, smooth, 9, costs, 3, pairs, 6, GCO_EXPANSION,
+                                        GCO_ALL_CYCLES, 2, &course, stamps, 5, made, 3, at, 5,
+                                        &told);
+    if (status != GCO_UNFINISHED) return WROTE;
+    left = course;
+    memcpy(stamps_left, stamps, sizeof stamps);
+    memcpy(made_left, made, sizeof made);
+    memcpy(at_left, at, sizeof at);
+    count = 0;
+    fail_at = fails_at;
+    status = gco_label_stretch_int32(3, data32, 15, smooth32, 9, costs32, 3, pairs, 6,
+                                     GCO_EXPANSION, GCO_ALL_CYCLES, GCO_ALL_CYCLES, &course,
+                                     stamps, 5, made, 3, at, 5, &told);
+    if (memcmp(&left, &course, sizeof left) || memcmp(stamps_left, stamps, sizeof stamps) ||
+        memcmp(made_left, made, sizeof made))
+        return WROTE;
+    if (status == GCO_OK)
+        memcpy(labels, at, sizeof at);
+    else if (memcmp(at_left, at, sizeof at))
+        return WROTE;
+    return status;
+}
+
 static uint32_t call(int which) {
     gco_outcome told;
     gco_minimum found;
@@ -64,13 +97,14 @@ static uint32_t call(int which) {
     case 5:
         return gco_lower_bound(3, data, 15, smooth, 9, costs, 3, pairs, 6, 9, GCO_ANY_SIZE, labels,
                                5, &bound);
+    case 6: return stretched();
     default: return gco_minimise(10, ones, 1, twos, 1, threes, 1, bits, 3, &found);
     }
 }
 
 int main(void) {
     long refused = 0, answered = 0;
-    for (int which = 0; which < 7; which++) {
+    for (int which = 0; which < CALLS; which++) {
         uint32_t right[5] = {0};
         uint8_t right_bits[3] = {0};
         long growths = 0;

@@ -33,7 +33,7 @@ static void fill(GCoptimizationGeneralGraph &gc) {
 static long long wanted = 0;
 
 // yes where nothing was refused
-static bool attempt(long at) {
+static bool attempt(long at, bool is_watched) {
     const int nothing = 9;
     int labels[6] = {nothing};
     count = 0;
@@ -41,6 +41,7 @@ static bool attempt(long at) {
     try {
         GCoptimizationGeneralGraph gc(6, 3);
         fill(gc);
+        if (is_watched) gc.setWatch([](const GCoptimization::Progress &) { return true; });
         bool is_refused = false;
         try {
             const long long energy = gc.expansion();
@@ -63,10 +64,14 @@ static bool attempt(long at) {
 }
 
 int main() {
-    WANT(attempt(1000000));
-    long at = 1;
-    while (!attempt(at)) at++;
-    WANT(at > 10);
-    std::printf("c++: %ld pieces of memory refused in turn\n", at - 1);
+    long refused = 0;
+    for (bool is_watched : {false, true}) {
+        WANT(attempt(1000000, is_watched));
+        long at = 1;
+        while (!attempt(at, is_watched)) at++;
+        WANT(at > 10);
+        refused += at - 1;
+    }
+    std::printf("c++: %ld pieces of memory refused in turn\n", refused);
     return 0;
 }
