@@ -33,6 +33,17 @@ pub struct Bound {
     pub place: u64,
 }
 
+/// Where a run stands between two of its moves.
+#[repr(C)]
+#[derive(Clone, Copy, Default)]
+pub struct Course {
+    pub cycles: u32,
+    pub place: u32,
+    pub last: u32,
+    pub changed: u32,
+    pub noted: u32,
+}
+
 /// `gco_label` and `gco_label_int32`, by the type of the costs.
 pub type Label<Cost> = unsafe extern "C" fn(
     u32,
@@ -46,6 +57,30 @@ pub type Label<Cost> = unsafe extern "C" fn(
     usize,
     u32,
     u32,
+    *mut u32,
+    usize,
+    *mut Outcome,
+) -> u32;
+
+/// `gco_label_stretch` and `gco_label_stretch_int32`, by the type of the costs.
+pub type Stretch<Cost> = unsafe extern "C" fn(
+    u32,
+    *const Cost,
+    usize,
+    *const Cost,
+    usize,
+    *const Cost,
+    usize,
+    *const Pair,
+    usize,
+    u32,
+    u32,
+    u32,
+    *mut Course,
+    *mut u32,
+    usize,
+    *mut u32,
+    usize,
     *mut u32,
     usize,
     *mut Outcome,
@@ -80,6 +115,50 @@ extern "C" {
         pair_count: usize,
         moves: u32,
         cycles: u32,
+        labels: *mut u32,
+        site_count: usize,
+        told: *mut Outcome,
+    ) -> u32;
+    pub fn gco_label_stretch(
+        label_count: u32,
+        data: *const i64,
+        data_count: usize,
+        smooth: *const i64,
+        smooth_count: usize,
+        label_costs: *const i64,
+        label_cost_count: usize,
+        pairs: *const Pair,
+        pair_count: usize,
+        moves: u32,
+        cycles: u32,
+        most: u32,
+        course: *mut Course,
+        stamps: *mut u32,
+        stamp_count: usize,
+        made: *mut u32,
+        made_count: usize,
+        labels: *mut u32,
+        site_count: usize,
+        told: *mut Outcome,
+    ) -> u32;
+    pub fn gco_label_stretch_int32(
+        label_count: u32,
+        data: *const i32,
+        data_count: usize,
+        smooth: *const i32,
+        smooth_count: usize,
+        label_costs: *const i32,
+        label_cost_count: usize,
+        pairs: *const Pair,
+        pair_count: usize,
+        moves: u32,
+        cycles: u32,
+        most: u32,
+        course: *mut Course,
+        stamps: *mut u32,
+        stamp_count: usize,
+        made: *mut u32,
+        made_count: usize,
         labels: *mut u32,
         site_count: usize,
         told: *mut Outcome,

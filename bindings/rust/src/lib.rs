@@ -22,10 +22,12 @@ mod calls;
 mod grids;
 mod refusal;
 mod scaling;
+mod stretches;
 
 pub use grids::{grid_pairs, Neighbours};
 pub use refusal::Refusal;
 pub use scaling::{scale, Scaled, Unscalable};
+pub use stretches::Progress;
 
 /// Two sites, numbered from 0, and the weight of their term. A pair that stands twice counts twice.
 #[repr(C)]
@@ -43,7 +45,7 @@ pub enum Moves {
     Swap,
 }
 
-/// A problem of labels, over costs of 64 bits or, for `label`, of 32.
+/// A problem of labels, over costs of 64 bits or, for `label` and `label_watched`, of 32.
 #[derive(Clone, Copy, Debug)]
 pub struct Problem<'a, Cost = i64> {
     pub label_count: u32,
@@ -72,6 +74,21 @@ pub struct Run {
 }
 
 impl Run {
+    fn of(told: &calls::Outcome) -> Run {
+        Run {
+            data: told.data,
+            smooth: told.smooth,
+            label: told.label,
+            cycles: told.cycles,
+            settled: told.settled != 0,
+            bound: if told.vmax != 0 {
+                Some((told.vmin, told.vmax))
+            } else {
+                None
+            },
+        }
+    }
+
     pub fn energy(&self) -> i64 {
         self.data + self.smooth + self.label
     }
@@ -97,6 +114,7 @@ impl Move {
 mod sealed {
     pub trait Sealed: Sized {
         fn call() -> super::calls::Label<Self>;
+        fn stretch() -> super::calls::Stretch<Self>;
     }
 }
 
@@ -106,10 +124,16 @@ impl sealed::Sealed for i64 {
     fn call() -> calls::Label<i64> {
         calls::gco_label
     }
+    fn stretch() -> calls::Stretch<i64> {
+        calls::gco_label_stretch
+    }
 }
 impl sealed::Sealed for i32 {
     fn call() -> calls::Label<i32> {
         calls::gco_label_int32
+    }
+    fn stretch() -> calls::Stretch<i32> {
+        calls::gco_label_stretch_int32
     }
 }
 impl Cost for i64 {}
@@ -156,18 +180,7 @@ impl<C: Cost> Problem<'_, C> {
         if status != 0 {
             return Err(Refusal::of_outcome(status, &told));
         }
-        Ok(Run {
-            data: told.data,
-            smooth: told.smooth,
-            label: told.label,
-            cycles: told.cycles,
-            settled: told.settled != 0,
-            bound: if told.vmax != 0 {
-                Some((told.vmin, told.vmax))
-            } else {
-                None
-            },
-        })
+        Ok(Run::of(&told))
     }
 }
 
