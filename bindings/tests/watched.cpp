@@ -97,7 +97,7 @@ static void watch(Random &random, Counts &counts) {
     std::vector<std::size_t> told = told_of(chain, d, length);
     if (is_refused || (is_ordered && k > 1)) told = told_of(chain, d, chain.size());
     const bool is_each = random.below(3) != 0;
-    gc.setVerbosity(is_each ? 2 : 0);
+    gc.setVerbosity(is_each ? 2 : random.below(2));
     const std::size_t stop = std::size_t(random.below(int(told.size()) + 2));
     std::vector<GCoptimization::Progress> seen;
     gc.setWatch([&](const GCoptimization::Progress &progress) {
@@ -126,7 +126,9 @@ static void watch(Random &random, Counts &counts) {
     for (int s = 0; s < d.sites; s++) WANT(gc.whatLabel(s) == end[as(s)]);
     const bool is_stopped = seen.size() == stop && (is_refused || at < chain.size());
     WANT(is_stopped || at == chain.size());
-    WANT(!is_stopped || gc.outcome().settled == 0);
+    // whole cycles; of swaps of one label there is one without a move
+    const std::size_t whole = length > 0 ? at / length : std::size_t(std::min(cycles, 1));
+    WANT(gc.outcome().cycles == whole && !(is_stopped && gc.outcome().settled));
     (is_stopped ? counts.stopped : counts.ended)++;
 }
 
