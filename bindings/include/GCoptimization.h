@@ -513,8 +513,8 @@ private:
             if (status != GCO_UNFINISHED) check(status);
             return status == GCO_UNFINISHED;
         }
-        // how many moves are made; at the end of the run those that are left of its cycle count
-        // too, since they are known to change nothing
+        // how many moves are made; at the end of the run all of its cycle, since those that are left
+        // are known to change nothing
         std::uint64_t moves_made() const {
             const std::uint64_t ended = of.outcome_.cycles, whole = course.cycles;
             return ended > whole ? ended * length : whole * length + course.place;
@@ -522,7 +522,7 @@ private:
         // how many moves there are before something is to be printed
         std::uint32_t moves_unprinted() const {
             if (of.verbosity_ >= 2) return 1;
-            return of.verbosity_ == 1 ? std::uint32_t(length) - course.place : GCO_ALL_CYCLES;
+            return of.verbosity_ == 1 ? std::uint32_t(length) - course.place : UINT32_MAX;
         }
         const std::uint32_t kind, allowed;
         const std::uint64_t length;
@@ -568,21 +568,24 @@ private:
             check(status);
             return told.low + of.shift_;
         }
-        // the cycle of that number, in the order of the labels; yes where a move changed a label
+        // a cycle in the labels' order, until the watch stops it; yes where one changed a label
         bool cycle(std::uint32_t moves, std::uint32_t number) {
             bool is_changed = false;
             const LabelID count = of.order_count();
+            moves_left = moves == GCO_SWAP ? count * (count - 1) / 2 : count;
             for (LabelID i = 0; i < count; i++)
                 for (LabelID j = moves == GCO_SWAP ? i + 1 : i;
                      j < (moves == GCO_SWAP ? count : i + 1); j++) {
                     const LabelID alpha = of.ordered(i), beta = of.ordered(j);
                     is_changed |= i == j ? expand(alpha) : swap(alpha, beta);
+                    moves_left--;
                     is_stopped = !of.goes_on({int(number), alpha, beta, energy()});
                     if (is_stopped) return is_changed;
                 }
             return is_changed;
         }
         Wide costs, smooth, own;
+        int moves_left = 0;
         bool is_stopped = false;
     };
 
@@ -604,9 +607,9 @@ private:
         Moves single(*this);
         const bool takes_all = order_count() == label_count_;
         std::uint32_t made = 0;
-        for (bool is_settled = false; !is_settled && made < cycles; made++) {
+        for (bool is_settled = false; !is_settled && !single.is_stopped && made < cycles; made++) {
             is_settled = !single.cycle(moves, made + 1);
-            if (single.is_stopped) {
+            if (single.moves_left > 0) {
                 energy = single.energy();
                 break;
             }
@@ -626,19 +629,17 @@ private:
         std::uint32_t pace = 1;
         while (is_under_way) {
             const std::uint64_t before = calls.moves_made();
-            const std::uint32_t most = std::min(watch_ ? pace : GCO_ALL_CYCLES,
-                                                calls.moves_unprinted());
+            const std::uint32_t most = std::min(watch_ ? pace : UINT32_MAX, calls.moves_unprinted());
             const auto began = std::chrono::steady_clock::now();
             is_under_way = calls.make(most);
-            pace = moves_of_half_second(most, std::chrono::steady_clock::now() - began);
+            pace = moves_next(most, std::chrono::steady_clock::now() - began);
             print_moves(calls, before);
             if (!goes_on(progress_of(calls, calls.moves_made() - 1))) break;
         }
         return calls.energy();
     }
-    // how many moves take half a second, where so many took so long; not too many more than those
-    static std::uint32_t moves_of_half_second(std::uint32_t most,
-                                              std::chrono::duration<double> spent) {
+    // how many moves take half a second, where so many took so long; at most 16 times as many
+    static std::uint32_t moves_next(std::uint32_t most, std::chrono::duration<double> spent) {
         const double moves = most * 0.5 / std::max(spent.count(), 1e-9);
         return std::uint32_t(std::max(1.0, std::min({moves, most * 16.0, 1e6})));
     }
@@ -657,8 +658,7 @@ private:
         for (; place >= label_count_ - 1 - alpha; alpha++) place -= label_count_ - 1 - alpha;
         return {cycle, alpha, alpha + 1 + place, calls.energy()};
     }
-    // prints the moves after so many, and the cycles that they end; where there are several to be
-    // printed, those behind the first changed nothing
+    // prints the moves after so many, and the cycles that they end, at the energy that stands now
     void print_moves(const Stretches &calls, std::uint64_t before) const {
         if (verbosity_ < 1) return;
         for (std::uint64_t number = before; number < calls.moves_made(); number++) {
