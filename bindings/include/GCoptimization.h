@@ -513,8 +513,8 @@ private:
             if (status != GCO_UNFINISHED) check(status);
             return status == GCO_UNFINISHED;
         }
-        // how many moves are made; at the end of the run all of its cycle, since those that are left
-        // are known to change nothing
+        // how many moves are made; at the end of the run all of its cycle, since those that are
+        // left are known to change nothing
         std::uint64_t moves_made() const {
             const std::uint64_t ended = of.outcome_.cycles, whole = course.cycles;
             return ended > whole ? ended * length : whole * length + course.place;
@@ -629,7 +629,8 @@ private:
         std::uint32_t pace = 1;
         while (is_under_way) {
             const std::uint64_t before = calls.moves_made();
-            const std::uint32_t most = std::min(watch_ ? pace : UINT32_MAX, calls.moves_unprinted());
+            const std::uint32_t most =
+                std::min(watch_ ? pace : UINT32_MAX, calls.moves_unprinted());
             const auto began = std::chrono::steady_clock::now();
             is_under_way = calls.make(most);
             pace = moves_next(most, std::chrono::steady_clock::now() - began);
