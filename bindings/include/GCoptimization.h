@@ -624,10 +624,9 @@ private:
     }
     EnergyType run_by_stretches(std::uint32_t moves, std::uint32_t cycles) {
         Stretches calls(*this, moves, cycles);
-        bool is_under_way = calls.make(0);
+        bool is_under_way = verbosity_ < 1 || calls.make(0);
         print("start", calls.energy());
-        std::uint32_t pace = 1;
-        while (is_under_way) {
+        for (std::uint32_t pace = 1; is_under_way;) {
             const std::uint64_t before = calls.moves_made();
             const std::uint32_t most =
                 std::min(watch_ ? pace : UINT32_MAX, calls.moves_unprinted());
@@ -635,7 +634,8 @@ private:
             is_under_way = calls.make(most);
             pace = moves_next(most, std::chrono::steady_clock::now() - began);
             print_moves(calls, before);
-            if (!goes_on(progress_of(calls, calls.moves_made() - 1))) break;
+            const std::uint64_t made = calls.moves_made();
+            if (made > 0 && !goes_on(progress_of(calls, made - 1))) break;
         }
         return calls.energy();
     }
