@@ -626,23 +626,24 @@ private:
         Stretches calls(*this, moves, cycles);
         bool is_under_way = verbosity_ < 1 || calls.make(0);
         print("start", calls.energy());
-        for (std::uint32_t pace = 1; is_under_way;) {
+        // the first moves are taken for slow ones
+        for (std::uint32_t pace = moves_of(6e-7 * sites_); is_under_way;) {
             const std::uint64_t before = calls.moves_made();
             const std::uint32_t most =
                 std::min(watch_ ? pace : UINT32_MAX, calls.moves_unprinted());
             const auto began = std::chrono::steady_clock::now();
             is_under_way = calls.make(most);
-            pace = moves_next(most, std::chrono::steady_clock::now() - began);
+            const std::chrono::duration<double> spent = std::chrono::steady_clock::now() - began;
+            pace = std::min(moves_of(spent.count() / most), 2 * pace);
             print_moves(calls, before);
             const std::uint64_t made = calls.moves_made();
             if (made > 0 && !goes_on(progress_of(calls, made - 1))) break;
         }
         return calls.energy();
     }
-    // how many moves take half a second, where so many took so long; at most 16 times as many
-    static std::uint32_t moves_next(std::uint32_t most, std::chrono::duration<double> spent) {
-        const double moves = most * 0.5 / std::max(spent.count(), 1e-9);
-        return std::uint32_t(std::max(1.0, std::min({moves, most * 16.0, 1e6})));
+    // how many moves take half a second, where each takes so long
+    static std::uint32_t moves_of(double each) {
+        return std::uint32_t(std::max(1.0, std::min(0.5 / std::max(each, 1e-9), 1e6)));
     }
     bool goes_on(const Progress &progress) const { return !watch_ || watch_(progress); }
     // how many moves a cycle has

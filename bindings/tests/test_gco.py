@@ -168,7 +168,7 @@ def progress():
         steps = gco.label(DATA, gco.potts(3), PAIRS, progress=lambda *words: told.append(words))
         assert list(steps.labels) == list(whole.labels) and steps[1:] == whole[1:]
         named, energies = [words[:2] for words in told], [words[3] for words in told]
-        assert named[0] == moves[0] and named[-1] == moves[-1] and energies[-1] == whole.energy
+        assert named[-1] == moves[-1] and energies[-1] == whole.energy
         assert sorted(set(named)) == named and sorted(energies, reverse=True) == energies and any(words[2] for words in told)
     # 0, 1 and then 1 1 1 2 2 everywhere. The moves 0 and 1 of cycle 2 change nothing, so its move 2 is not made
     assert told == [(1, 0, 0, 34), (1, 1, 5, 30), (1, 2, 2, 27), (2, 0, 0, 27), (2, 2, 0, 27)], told

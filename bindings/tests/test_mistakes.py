@@ -243,6 +243,8 @@ def stoppable():
 
 
 def stopped_by_progress():
+    seconds, gco.stretches.SECONDS = gco.stretches.SECONDS, 0
+
     def stops(*told):
         raise KeyboardInterrupt
     try:
@@ -251,6 +253,7 @@ def stopped_by_progress():
         assert flat(stop.partial.labels) == [0] * 5 and stop.partial.cycles == 1
     else:
         raise AssertionError("no KeyboardInterrupt")
+    gco.stretches.SECONDS = seconds
 
 
 def stopped_as_refused():

@@ -151,10 +151,20 @@ def watched(count):
     return kinds
 
 
+def paces():
+    """How many moves each stretch has, of 512 by 512 sites and of moves that take so long."""
+    for each, wanted in ((0.001, [3, 6, 12, 24, 48, 96, 192, 384, 500, 500]), (0.1, [3, 5, 5]), (0.2, [3, 2, 2]), (2, [3, 1, 1])):
+        sizes = [gco.stretches._moves_of(gco.stretches.SECONDS_A_SITE * 512 * 512)]
+        while len(sizes) < len(wanted):
+            sizes.append(gco.stretches._moves_next(sizes[-1], each * sizes[-1]))
+        assert sizes == wanted, (each, sizes)
+
+
 def moves_to_make(chain, length):
     """How many moves of a chain a run makes: a whole cycle after the last that changed something, if the chain is so long."""
     last = max([place for place in range(1, len(chain)) if chain[place] != chain[place - 1]], default=1)
     return min(last + length - 1, len(chain) - 1)
 
 
+paces()
 print("stretches:", by_definition(500), "nonsense:", nonsense(2000), "watched:", watched(500))

@@ -10,10 +10,12 @@ from .progress import cycle_length, move_at
 if TYPE_CHECKING:
     from .labelling import Found, Problem
 
-# a stretch is of as many moves as take so many seconds, by the time of those before
+# a stretch is of as many moves as take so many seconds: the first one by the time of a slow move
 SECONDS = 0.5
-# and of at most so many times as many as the stretch before
-GROWTH = 16
+SECONDS_A_SITE = 6e-7
+# and the later ones by the time of the stretch before, of at most so many times as many moves
+GROWTH = 2
+MOST = 1 << 20
 
 
 class _Stretches:
@@ -67,7 +69,7 @@ def run(problem: "Problem", moves: str, allowed: int, progress: Optional[Callabl
     as `moves_made` how many moves that are.
     """
     stretches = _Stretches(problem, moves, allowed)
-    most, goes_on = 1, True
+    most, goes_on = 1 if each else _moves_of(SECONDS_A_SITE * problem.sites), True
     try:
         while goes_on:
             before = _copy(problem.labels) if progress else None
@@ -89,8 +91,13 @@ def run(problem: "Problem", moves: str, allowed: int, progress: Optional[Callabl
 
 
 def _moves_next(most: int, spent: float) -> int:
-    """How many moves take about SECONDS, where so many took so long."""
-    return max(1, min(int(most * SECONDS / max(spent, 1e-9)), most * GROWTH, 1 << 20))
+    """How many moves the next stretch has, where so many took so long."""
+    return min(_moves_of(spent / most), most * GROWTH)
+
+
+def _moves_of(each: float) -> int:
+    """How many moves take about SECONDS, where each takes so long."""
+    return max(1, min(int(SECONDS / max(each, 1e-9)), MOST))
 
 
 def _copy(labels: Any) -> Any:

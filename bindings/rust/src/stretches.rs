@@ -61,11 +61,13 @@ impl<C: Cost> Problem<'_, C> {
         mut watch: impl FnMut(&Progress) -> ControlFlow<()>,
     ) -> Result<Run, Refusal> {
         let mut run = UnderWay::new(self.label_count, moves, cycles, labels);
-        let mut most = 1;
+        // the first moves are taken for slow ones, and later stretches grow to twice as many at most
+        let mut most = moves_of(every, 6e-7 * labels.len() as f64);
         loop {
             let began = Instant::now();
             let goes_on = run.make(self, most)?;
-            most = moves_next(most, began.elapsed(), every);
+            let each = began.elapsed().as_secs_f64() / f64::from(most);
+            most = moves_of(every, each).min(2 * most);
             let progress = run.progress();
             let is_stopped = progress.moves > 0 && watch(&progress).is_break();
             if is_stopped || !goes_on {
@@ -76,10 +78,9 @@ impl<C: Cost> Problem<'_, C> {
     }
 }
 
-/// How many moves take `wanted`, where so many took so long; at most 16 times as many.
-fn moves_next(most: u32, spent: Duration, wanted: Duration) -> u32 {
-    let more = wanted.as_secs_f64() / spent.as_secs_f64().max(1e-9);
-    (f64::from(most) * more.min(16.0)).clamp(1.0, 1e6) as u32
+/// How many moves take so long, where each takes so many seconds.
+fn moves_of(wanted: Duration, each: f64) -> u32 {
+    (wanted.as_secs_f64() / each.max(1e-9)).clamp(1.0, 1e6) as u32
 }
 
 /// A run that is under way: its labels, and what is lent to each call.
