@@ -627,7 +627,7 @@ private:
         bool is_under_way = verbosity_ < 1 || calls.make(0);
         print("start", calls.energy());
         // the first moves are taken for slow ones
-        for (std::uint32_t pace = moves_of(6e-7 * sites_); is_under_way;) {
+        for (std::uint32_t pace = moves_of(2.5e-7 * sites_); is_under_way;) {
             const std::uint64_t before = calls.moves_made();
             const std::uint32_t most =
                 std::min(watch_ ? pace : UINT32_MAX, calls.moves_unprinted());

@@ -215,10 +215,10 @@ except KeyboardInterrupt as stop:
 
 def interrupted():
     # long enough to be stoppable by itself, and where it is asked for
-    for side, more in ((256, ""), (150, ", moves='swap', stoppable=True")):
+    for side, more in ((512, ""), (300, ", moves='swap', stoppable=True")):
         text = LONG.format(side=side, more=more, bare="--without-numpy" in sys.argv)
         # on a busy machine a run may be stopped before its first move: then it gets more time
-        for seconds in (1.5, 3, 6, 12, 24):
+        for seconds in (0.4, 0.8, 1.5, 3, 6):
             said, wrong = stopped_after(seconds, text)
             if said != "partial False False\n":
                 break

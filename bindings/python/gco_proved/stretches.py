@@ -12,7 +12,7 @@ if TYPE_CHECKING:
 
 # a stretch is of as many moves as take so many seconds: the first one by the time of a slow move
 SECONDS = 0.5
-SECONDS_A_SITE = 6e-7
+SECONDS_A_SITE = 2.5e-7
 # and the later ones by the time of the stretch before, of at most so many times as many moves
 GROWTH = 2
 MOST = 1 << 20

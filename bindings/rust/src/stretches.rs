@@ -62,7 +62,7 @@ impl<C: Cost> Problem<'_, C> {
     ) -> Result<Run, Refusal> {
         let mut run = UnderWay::new(self.label_count, moves, cycles, labels);
         // the first moves are taken for slow ones, and later stretches grow to twice as many at most
-        let mut most = moves_of(every, 6e-7 * labels.len() as f64);
+        let mut most = moves_of(every, 2.5e-7 * labels.len() as f64);
         loop {
             let began = Instant::now();
             let goes_on = run.make(self, most)?;
