@@ -27,7 +27,7 @@ def first_ones():
     lines = said.getvalue().splitlines()
     assert lines[0] == "27 [1, 1, 1, 2, 2] bound (1, 1)", lines
     assert lines[1] == "27 27 0.0", lines
-    assert lines[2].startswith("cycle 1 label 0: ") and lines[-1].endswith("energy 27"), lines
+    assert lines[2:] == ["cycle 2 label 2: 5 sites, energy 27"], lines  # the end of so small a run
     assert space["found"].energy == 27
 
 
