@@ -36,9 +36,7 @@ RUNS = [
     ("small.toml", ["energy"]),
     ("districts.toml", ["label", "--bound"]),
 ]
-# Runs that two threads share: the parts of large moves, and the nets of moves with label costs.
-SHARED = [["restore", "--weight", "2"], ["restore", "--weight", "2", "--label-cost", "50"]]
-SIDE = 256
+SIDE, VARIABLES = 256, 8192  # of the runs that two threads share
 
 
 def elf_machine(data):
@@ -77,12 +75,24 @@ def large_picture():
     return b"P5\n%d %d\n3\n" % (SIDE, SIDE) + bytes(pixels)
 
 
+def large_energy():
+    """A chain, whose cut is shared by blocks."""
+    ones = (f"{{on = [{it}], values = [{it * it * 7 % 31}, {it * 5 % 29}]}}" for it in range(VARIABLES))
+    pairs = (f"{{on = [{it - 1}, {it}], values = [0, {it % 13}, {it % 7}, 0]}}" for it in range(1, VARIABLES))
+    return f"variables = {VARIABLES}\nterms = [{', '.join([*ones, *pairs])}]\n".encode()
+
+
+def shared_runs():
+    """Runs that two threads share: the parts of large moves, and a large cut."""
+    return [(large_picture(), ["restore", "--weight", "2"]), (large_energy(), ["energy"])]
+
+
 def run_threads(trial, tree):
     """The same bytes as the program of this machine, on one thread and by two, and the same refusals."""
     examples = tree / "share/doc/gco/examples"
     known = [((examples / name).read_bytes(), words)
              for name, words in [*RUNS, ("noisy.pgm", ["energy"]), ("small.toml", ["restore"])]]
-    for data, words in [*known, *((large_picture(), words) for words in SHARED)]:
+    for data, words in [*known, *shared_runs()]:
         done = subprocess.run([trial.gco, *words], input=data, capture_output=True)
         wanted = (done.returncode, done.stdout, done.stderr)
         for more in ([], ["--threads", "2"]):
@@ -93,8 +103,8 @@ def run_threads(trial, tree):
 def start_threads(trial, tree):
     """The shared runs do start threads."""
     log = trial.folder / "calls"
-    for words in SHARED:
-        on_arm(["-strace", "-D", log, trial.prefix / "bin/gco", *words, "--threads", "2"], input=large_picture())
+    for data, words in shared_runs():
+        on_arm(["-strace", "-D", log, trial.prefix / "bin/gco", *words, "--threads", "2"], input=data)
         wants(" clone(" in log.read_text(), True, f"gco {' '.join(words)} --threads 2 starts a thread")
 
 
@@ -165,9 +175,9 @@ def main():
     parser.add_argument("--gco", type=Path, required=True)
     options = parser.parse_args()
     with tempfile.TemporaryDirectory() as name:
-        trial = Trial(Path(name), options.package.resolve())
+        trial = Trial(Path(name), options.archive.resolve(), options.package.resolve())
         trial.gco = options.gco.resolve()
-        tree = unpack(trial, options.archive.resolve())
+        tree = unpack(trial, trial.archive)
         for step in (try_machine, install, run_program, run_threads, start_threads, run_calls, run_growths,
                      random_calls, random_runs, uninstall, try_package):
             begun = time.monotonic()
