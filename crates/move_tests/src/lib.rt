@@ -33,6 +33,8 @@ mod rows;
 #[cfg(test)]
 mod stepped;
 #[cfg(test)]
+mod stepped_runs;
+#[cfg(test)]
 mod steps;
 #[cfg(test)]
 mod worked;

@@ -7,7 +7,8 @@ use crate::random::{
     BYTES, DATA, InStrips, SMOOTH, answer_wanted, digit, is_after, number, pairs_of, start_of,
 };
 use crate::rows::{expect, hold};
-use crate::steps::{RUNS_MADE, STEPS};
+use crate::stepped_runs::RUNS_MADE;
+use crate::steps::STEPS;
 use cost_store::{DataCost, Problem, SmoothCost};
 use label_energies::{Move, Moves};
 use label_field::Labelling;
