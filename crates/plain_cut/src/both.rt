@@ -1,6 +1,6 @@
 //! A net that is cut twice, the second time with more room to the sink.
 ghost use Rattle.std.specs.Prelude.{◌≡◌, ◌↔◌, ◌+◌, ◌<◌, ◌≤◌, ◌^◌, ℕ, IfOk, IsTrue, length};
-ghost use Rattle.std.specs.Prelude.{slice_index};
+ghost use Rattle.std.specs.Prelude.{slice_index, OnOk};
 ghost use Rattle.std.specs.Simd.Lanes.{zip2};
 ghost use Rattle.flow_network.specs.Cut.{nodes, set_of, with_larger_sinks, AreExtras, IsNet};
 ghost use Rattle.flow_network.specs.Cut.{IsSmallestLeastCut, LiesWithin};
@@ -145,6 +145,53 @@ fn cut_again(
     Ok(BothSides { lower, upper })
 }
 
+/// Work that is finished in a net that stands in rows, whose lists it takes over.
+fn finish_laid(
+    alloc: Global,
+    outline: &Outline,
+    laid: Laid,
+    space: &mut Workspace,
+) -> Result<Work, AllocError>
+    requires laid { AreLaid laid }
+    requires limits { IsNet (laid_net laid) }
+    requires outline { outline.now ≡ laid_net laid }
+    ensures limits { IsNet outline.now }
+    ensures work { IfOk result (λ w. IsWork outline.now w) }
+    ensures finished { IfOk result (λ w. HasNoActiveNode outline.now w) }
+    ensures exact { IfOk result
+        (λ w. AreDistancesButZeros outline.now (work_flow outline.now w) w.labels.items) }
+    ensures order { OnOk result (length space.new.order.items ≡ nodes outline.now) }
+    ensures found { OnOk result (length space.new.found.items ≡ nodes outline.now) }
+{
+    let rows = Rows {
+        net: Outline::of_laid(&laid),
+        starts: laid.starts,
+        cells: laid.cells,
+    };
+    finish(alloc, outline, rows, laid.sources, laid.sinks, space)
+}
+
+/// The sink side of the smallest least cut of a net that stands in rows, one bit for each node: the
+/// lower of the sides that `both_sides_of` answers, found in the same way. Refuses for the same
+/// reasons.
+pub fn one_side_of(
+    alloc: Global,
+    laid: Laid,
+    space: &mut Workspace,
+) -> Result<Vec<bool>, AllocError>
+    requires laid { AreLaid laid }
+    requires limits { IsNet (laid_net laid) }
+    ensures bits { IfOk result (λ side. length side.items ≡ nodes (laid_net laid)) }
+    ensures smallest { IfOk result
+        (λ side. IsSmallestLeastCut (laid_net laid) (set_of side.items)) }
+{
+    let outline = Outline::of_laid(&laid);
+    let work = finish_laid(alloc, &outline, laid, space)?;
+    let side = least_side(alloc, &outline, &work)?;
+    space.keep(alloc, work);
+    Ok(side)
+}
+
 /// The sink sides of the smallest least cuts of a net that stands in rows, and of the net in which
 /// each node can send the sink so much more, as `more` tells. The second cut goes on from the
 /// preflow of the first: what the sink has got stays, and only the excess that was left is pushed
@@ -173,11 +220,6 @@ pub fn both_sides_of(
 {
     let outline = Outline::of_laid(&laid);
     let wider = Outline::of_wider(&laid, more);
-    let rows = Rows {
-        net: Outline::of_laid(&laid),
-        starts: laid.starts,
-        cells: laid.cells,
-    };
-    let work = finish(alloc, &outline, rows, laid.sources, laid.sinks, space)?;
+    let work = finish_laid(alloc, &outline, laid, space)?;
     cut_again(alloc, &outline, &wider, work, more, space)
 }

@@ -14,6 +14,6 @@ mod solver;
 mod work;
 mod workspace;
 
-pub use both::{BothSides, both_sides_of};
+pub use both::{BothSides, both_sides_of, one_side_of};
 pub use solver::{smallest_side, smallest_side_in, solve};
 pub use workspace::Workspace;
