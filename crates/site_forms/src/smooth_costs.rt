@@ -38,6 +38,19 @@ fn both(one: bool, other: bool) -> bool
     one && other
 }
 
+/// Whether each of the first so many labels was asked.
+fn are_asked(labels: &[bool], count: u32) -> bool
+    requires { count ≤ length labels.now }
+    ensures { result ≡ true →
+        (label : ℕ) → label < count → slice_index_or labels.now label false ≡ true }
+{
+    let mut all = true;
+    for label in 0..count {
+        all = both(all, labels[label as usize]);
+    }
+    all
+}
+
 /// What a pair of weight 1 costs whose first end has the one label and its second the other.
 fn cost_of<F: Fn(u32, u32) -> i64 + Sync, V: Fn(u32, u32) -> i64 + Sync>(
     problem: &Problem<F, V>,
@@ -221,7 +234,7 @@ impl AskedCosts {
         self.ask_new(problem, label);
     }
 
-    /// Asks the labels of the sites.
+    /// Asks the labels of the sites. Where each label of the problem was asked, no site is looked at.
     fn ask_sites<F: Fn(u32, u32) -> i64 + Sync, V: Fn(u32, u32) -> i64 + Sync>(
         &mut self,
         problem: &Problem<F, V>,
@@ -237,6 +250,9 @@ impl AskedCosts {
             was_asked self.new (labelling at.now u) ≡ true }
         ensures kept { KeepsAsked problem.now.data_cost.labels self.old self.new }
     {
+        if are_asked(&self.labels, problem.data_cost.labels) {
+            return;
+        }
         for site in 0..at.len() {
             self.ask(problem, u32::from(at[site]));
         }
