@@ -17,7 +17,7 @@ use Rattle.site_bounds.specs.declared.bounds.Bounds.{Bounds}
 use Rattle.site_bounds.specs.declared.sites.Deciding.{Deciding}
 use Rattle.site_bounds.specs.Decided.{KnowsSites}
 use Rattle.site_bounds.specs.Working.{IsSummed, IsWithinRange, open_ends, budget_of, greatest_total}
-use Rattle.site_bounds.specs.Working.{summed_count, AreWaiting, ArePartlyDecided}
+use Rattle.site_bounds.specs.Working.{summed_count, AreWaiting, ArePartlyDecided, StayDecided}
 
 -- how many ends lie at open sites: those that may still be looked at
 abbrev pub ends_left : SiteForm → Bounds → ℕ
@@ -42,6 +42,7 @@ pub record SumsSite (form : SiteForm) (site : ℕ) (old new : Bounds) : Type 0 w
   pub range : IsWithinRange (budget_of (ends_left form old)) new
   pub total : greatest_total new ≤ greatest_total old + rise_limit form.ends.now site
   pub waiting : AreWaiting (site + 1) new
+  pub closed : StayDecided old new
   pub decided : WhereRead form (λ m move f.
       ArePartlyDecided m move f site old → ArePartlyDecided m move f (site + 1) new)
 

@@ -1,7 +1,8 @@
 -- The lists of the sites that a move has left to look at, made where these are few.
-use Rattle.std.specs.Prelude.{◌≡◌, ◌↔◌, ◌==◌, ◌||◌, ℕ, ◌*◌, ◌≤◌, Bool, false, not, IsTrue, List, []}
-use Rattle.std.specs.Prelude.{length}
+use Rattle.std.specs.Prelude.{◌≡◌, ◌↔◌, ◌==◌, ◌||◌, ℕ, ◌*◌, ◌<◌, ◌≤◌, Bool, false, not, IsTrue}
+use Rattle.std.specs.Prelude.{List, [], length}
 use Rattle.label_energies.specs.declared.change.Move.{Move}
+use Rattle.label_energies.specs.Energies.{labelling}
 use Rattle.label_energies.specs.Moves.{label_after}
 use Rattle.move_energy.specs.BySite.{IsListing}
 use Rattle.move_energy.specs.declared.choice.Choice.{Choice}
@@ -30,6 +31,15 @@ pub record AreListedBelow (n : ℕ) (move : Move) (f : ℕ → ℕ) (choices : L
     (lists : Lists) : Type 0 where
   pub opened : IsListing (open_at choices) n lists.opened.items
   pub changing : IsListing (changes move f choices) n lists.changing.items
+
+-- the sites are listed whose labels could become others before any was decided: of no other site
+-- can the label become another now
+pub record CoversRest (move : Move) (f : List ℕ) (choices : List Choice)
+    (sites : List ℕ) : Type 0 where
+  pub before : ℕ → Bool
+  pub listing : IsListing before (length f) sites
+  pub rest : (p : ℕ) → p < length f → before p ≡ false
+      → changes move (labelling f) choices p ≡ false
 
 -- the open sites are counted; where they are an eighth of all at most, they are listed, and so are
 -- the sites whose labels can still become others

@@ -14,14 +14,14 @@ pub use Rattle.site_bounds.specs.Working.{HasSummed, IsAnswered, AddsBounds, Pas
 pub use Rattle.site_bounds.specs.Working.{AreUndecided, AreUnsummed, AreWaiting, ArePartlyDecided}
 pub use Rattle.site_bounds.specs.Working.{greatest_total, TellsValue, IsMarked, IsSummed}
 pub use Rattle.site_bounds.specs.Working.{IsWithinRange, AreWaitingBut, SeesPair, IsLooking, Shifts}
-pub use Rattle.site_bounds.specs.Working.{least_shift, greatest_shift}
-pub use Rattle.label_field.specs.Limits.{label_limit}
+pub use Rattle.site_bounds.specs.Working.{least_shift, greatest_shift, StayDecided}
+pub use Rattle.label_field.specs.Limits.{label_limit, site_limit}
 pub use Rattle.label_field.specs.PairLists.{IsPair}
 pub use Rattle.label_energies.specs.Energies.{labelling, Instance, IsInstance}
-pub use Rattle.label_energies.specs.Moves.{IsAllowed}
+pub use Rattle.label_energies.specs.Moves.{IsAllowed, IsSwap}
 pub use Rattle.label_energies.specs.declared.change.Move.{Move}
 pub use Rattle.move_energy.specs.BySite.{AreBySite, degree, pair_beside}
-pub use Rattle.move_energy.specs.Choices.{Changes, bit_of, choice_at, AreAllOpen}
+pub use Rattle.move_energy.specs.Choices.{Changes, bit_of, choice_at, AreAllOpen, AreOpenSites}
 pub use Rattle.move_energy.specs.Limits.{surplus_limit, weights_limit}
 pub use Rattle.move_energy.specs.Problems.{IsPrepareRefusal}
 pub use Rattle.move_energy.specs.declared.choice.Choice.TheVariants.{Open, One, Zero}

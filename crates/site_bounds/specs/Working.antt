@@ -152,6 +152,11 @@ pub record PassesClosed (from to : ℕ) (old new : Bounds) : Type 0 where
   pub choices : new.choices ≡ old.choices
   pub waiting : new.waiting ≡ old.waiting
 
+-- no site that was decided is open again
+abbrev pub StayDecided : Bounds → Bounds → Type 0
+StayDecided old new =
+    (u : ℕ) → choice_at old.choices.items u ≢ Open → choice_at new.choices.items u ≢ Open
+
 -- the site has this value, and nothing else changes
 pub record IsMarked (site : ℕ) (value : Bool) (old new : Bounds) : Type 0 where
   pub count : length new.choices.items ≡ length old.choices.items

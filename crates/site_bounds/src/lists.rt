@@ -2,10 +2,11 @@
 ghost use Rattle.std.specs.Prelude.{◌≡◌, ◌<◌, ◌≤◌, ◌++◌, ◌∷◌, [], ℕ, cond};
 ghost use Rattle.std.specs.Prelude.{false, length, OnOk, OnErr};
 ghost use Rattle.label_energies.specs.Energies.{labelling};
+ghost use Rattle.label_energies.specs.Moves.{IsSwap};
 ghost use Rattle.label_field.specs.Limits.{site_limit};
-ghost use Rattle.move_energy.specs.Choices.{open_count, is_open};
+ghost use Rattle.move_energy.specs.Choices.{open_count, is_open, AreOpenSites};
 ghost use Rattle.site_bounds.specs.Listed.{can_become_other, changes};
-ghost use Rattle.site_bounds.specs.Listed.{AreListed, AreListedBelow, AreListsEmpty};
+ghost use Rattle.site_bounds.specs.Listed.{AreListed, AreListedBelow, AreListsEmpty, CoversRest};
 
 use label_energies::Move;
 use move_energy::Choice;
@@ -71,6 +72,18 @@ fn add_chosen(list: &mut Vec<u32>, site: u32, chosen: bool) -> Result<(), AllocE
 {
     if chosen {
         list.push(site)?;
+    }
+    Ok(())
+}
+
+/// Lists the open sites.
+pub(crate) fn list_open(list: &mut Vec<u32>, choices: &[Choice]) -> Result<(), AllocError>
+    requires { length choices.now ≤ site_limit }
+    ensures { OnOk result (AreOpenSites choices.now list.new.items) }
+{
+    list.clear();
+    for site in 0..choices.len() {
+        add_chosen(list, site as u32, choices[site].is_open())?;
     }
     Ok(())
 }
@@ -151,6 +164,31 @@ impl Lists {
         Ok(())
     }
 
+    /// Lists the same, where they are among these sites.
+    fn list_among(
+        &mut self,
+        at: &[u8],
+        change: Move,
+        choices: &[Choice],
+        sites: &[u32],
+    ) -> Result<(), AllocError>
+        requires count { length choices.now ≡ length at.now }
+        requires among { CoversRest change at.now choices.now sites.now }
+        ensures lists { OnOk result (AreListedBelow (length choices.now) change
+            (labelling at.now) choices.now self.new) }
+        ensures same { (self.new.count ≡ self.old.count) × (self.new.listed ≡ self.old.listed) }
+    {
+        self.opened.clear();
+        self.opened.reserve(self.count)?;
+        self.changing.clear();
+        for place in 0..sites.len() {
+            let site = sites[place];
+            let label = u32::from(at[site as usize]);
+            self.add_site(site, choices[site as usize], change, label)?;
+        }
+        Ok(())
+    }
+
     /// Counts the open sites of a move that was decided, and lists them where they are few.
     /// `listed` is written once they are.
     pub fn fill(&mut self, at: &[u8], change: Move, choices: &[Choice]) -> Result<(), AllocError>
@@ -162,6 +200,32 @@ impl Lists {
         let few = self.count * LISTED_SHARE <= choices.len();
         if few {
             self.list(at, change, choices)?;
+        }
+        self.listed = few;
+        Ok(())
+    }
+
+    /// The same. If the move is a swap, each site that it could change is among these: then no other
+    /// is looked at for a list.
+    pub(crate) fn fill_rest(
+        &mut self,
+        at: &[u8],
+        change: Move,
+        choices: &[Choice],
+        swapped: &[u32],
+    ) -> Result<(), AllocError>
+        requires sites { (length choices.now ≡ length at.now) × (length at.now ≤ site_limit) }
+        requires among { IsSwap change → CoversRest change at.now choices.now swapped.now }
+        ensures lists { OnOk result (AreListed change (labelling at.now) choices.now self.new) }
+        ensures refused { OnErr result (self.new.listed ≡ self.old.listed) }
+    {
+        let Move::Swap(_, _) = change else {
+            return self.fill(at, change, choices);
+        };
+        self.count = count_open(choices);
+        let few = self.count * LISTED_SHARE <= choices.len();
+        if few {
+            self.list_among(at, change, choices, swapped)?;
         }
         self.listed = few;
         Ok(())

@@ -8,7 +8,7 @@ ghost use Rattle.site_bounds.specs.Prelude.{IsOverPairs, WhereRead, IsInBudget, 
 ghost use Rattle.site_bounds.specs.Prelude.{summed_count, CanDecide, AreOfSites, AreOfNoSites};
 ghost use Rattle.site_bounds.specs.Prelude.{HasBounds, HasSummed, IsAnswered, AddsBounds};
 ghost use Rattle.site_bounds.specs.Prelude.{PassesClosed, AreUndecided, AreUnsummed, AreWaiting};
-ghost use Rattle.site_bounds.specs.Prelude.{ArePartlyDecided, greatest_total};
+ghost use Rattle.site_bounds.specs.Prelude.{ArePartlyDecided, greatest_total, StayDecided};
 
 use crate::Bounds;
 use label_energies::Move;
@@ -155,6 +155,7 @@ impl Bounds {
         ensures total { OnOk result (greatest_total self.new ≤ weights_limit) }
         ensures none { OnOk result ((u : ℕ) → u < length form.now.at.now →
             choice_at self.new.choices.items u ≡ Open → ¬ CanDecide self.new u) }
+        ensures closed { OnOk result (StayDecided self.old self.new) }
         ensures decided { OnOk result (WhereRead form.now (λ m move f.
             ArePartlyDecided m move f 0 self.old →
             ArePartlyDecided m move f (length form.now.at.now) self.new)) }

@@ -1,16 +1,18 @@
 //! Deciding the sites of a move.
-ghost use Rattle.std.specs.Prelude.{◌≡◌, ◌≤◌, [], IfOk, IfErr, OnOk, OnErr, false};
+ghost use Rattle.std.specs.Prelude.{◌≡◌, ◌≤◌, [], length, IfOk, IfErr, OnOk, OnErr, false};
 ghost use Rattle.site_bounds.specs.Prelude.{AreBySite, choice_at, AreAllOpen, IsPrepareRefusal};
 ghost use Rattle.site_bounds.specs.Prelude.{labelling, WhereMeant, IsDecidedMove, IsAskedBySite};
 ghost use Rattle.site_bounds.specs.Prelude.{KnowsMove, AreListsEmpty, AreFormLists, IsReadOf};
 ghost use Rattle.site_bounds.specs.Prelude.{ArePassedChoices, AreOfNoSites, IsAllowed};
-ghost use Rattle.site_bounds.specs.Prelude.{KnowsCosts, HasNoCosts, label_limit};
+ghost use Rattle.site_bounds.specs.Prelude.{KnowsCosts, HasNoCosts, label_limit, site_limit};
+ghost use Rattle.site_bounds.specs.Prelude.{IsSwap, AreOpenSites, IsPosed, IsAsked};
 
+use crate::lists::list_open;
 use crate::{Bounds, Lists};
 use cost_store::Problem;
 use label_energies::Move;
 use label_field::Pairs;
-use move_energy::{BuildError, Neighbours, group_pairs, test_terms};
+use move_energy::{BuildError, Choice, Neighbours, group_pairs, test_terms};
 use site_forms::FormLists;
 use std::alloc::{AllocError, Global};
 
@@ -22,6 +24,39 @@ pub struct Deciding {
     pub bounds: Bounds,
     pub lists: Lists,
     pub numbers: FormLists,
+    /// The sites that a swap can change, 4 bytes each.
+    swapped: Vec<u32>,
+}
+
+/// Reads the costs of a move whose sites are open. Of a swap, which can change few of the sites,
+/// these are listed first, and no other is looked at.
+fn read_costs<F: Fn(u32, u32) -> i64 + Sync, V: Fn(u32, u32) -> i64 + Sync>(
+    numbers: &mut FormLists,
+    swapped: &mut Vec<u32>,
+    problem: &Problem<F, V>,
+    at: &[u8],
+    change: Move,
+    choices: &[Choice],
+) -> Result<(), AllocError>
+    requires posed { IsPosed F.Fn V.Fn problem.now }
+    requires asked { IsAsked problem.now at.now change }
+    requires few { problem.now.data_cost.labels ≤ label_limit }
+    requires small { length at.now ≤ site_limit }
+    requires known { KnowsCosts F.Fn V.Fn problem.now numbers.old }
+    requires opened { AreAllOpen change at.now choices.now }
+    ensures known { KnowsCosts F.Fn V.Fn problem.now numbers.new }
+    ensures lists { OnOk result (AreFormLists at.now numbers.new) }
+    ensures read { OnOk result (WhereMeant F.Fn V.Fn problem.now
+        (λ m. IsReadOf m change at.now numbers.new)) }
+    ensures listed { OnOk result (IsSwap change → AreOpenSites choices.now swapped.new.items) }
+{
+    match change {
+        Move::Expand(_) => numbers.read(problem, at, change),
+        Move::Swap(_, _) => {
+            list_open(swapped, choices)?;
+            numbers.read_among(problem, at, change, swapped)
+        }
+    }
 }
 
 impl Deciding {
@@ -38,6 +73,7 @@ impl Deciding {
             bounds: Bounds::new(alloc),
             lists: Lists::empty(alloc),
             numbers: FormLists::empty(alloc),
+            swapped: Vec::new(alloc),
         }
     }
 
@@ -53,6 +89,7 @@ impl Deciding {
             bounds: Bounds::new(alloc),
             lists: Lists::empty(alloc),
             numbers: FormLists::empty(alloc),
+            swapped: Vec::new(alloc),
         })
     }
 
@@ -89,10 +126,18 @@ impl Deciding {
         self.lists.listed = false;
         test_terms(problem, at, change)?;
         self.bounds.open_sites(at, change)?;
-        self.numbers.read(problem, at, change)?;
+        read_costs(
+            &mut self.numbers,
+            &mut self.swapped,
+            problem,
+            at,
+            change,
+            &self.bounds.choices,
+        )?;
         let form = self.numbers.form(&problem.pairs, &self.ends, at);
         self.bounds.decide_sites(&form)?;
-        self.lists.fill(at, change, &self.bounds.choices)?;
+        self.lists
+            .fill_rest(at, change, &self.bounds.choices, &self.swapped)?;
         Ok(())
     }
 
@@ -124,7 +169,14 @@ impl Deciding {
         self.lists.listed = false;
         test_terms(problem, at, change)?;
         self.bounds.open_sites(at, change)?;
-        self.numbers.read(problem, at, change)?;
+        read_costs(
+            &mut self.numbers,
+            &mut self.swapped,
+            problem,
+            at,
+            change,
+            &self.bounds.choices,
+        )?;
         Ok(())
     }
 }

@@ -5,7 +5,7 @@ ghost use Rattle.site_bounds.specs.Prelude.{IsSitePlace, pair_beside, degree};
 ghost use Rattle.site_bounds.specs.Prelude.{Open, choice_at, bit_of, surplus_limit};
 ghost use Rattle.site_bounds.specs.Prelude.{IsOverPairs, WhereRead, IsInBudget, ends_left};
 ghost use Rattle.site_bounds.specs.Prelude.{total_left, summed_count, CanDecide, TellsValue};
-ghost use Rattle.site_bounds.specs.Prelude.{IsMarked};
+ghost use Rattle.site_bounds.specs.Prelude.{IsMarked, StayDecided};
 ghost use Rattle.site_bounds.specs.Prelude.{IsSummed, IsWithinRange, AreWaiting, AreWaitingBut};
 ghost use Rattle.site_bounds.specs.Prelude.{ArePartlyDecided, SeesPair, IsLooking, Shifts};
 ghost use Rattle.site_bounds.specs.Prelude.{least_shift as least_shift_of};
@@ -144,6 +144,7 @@ impl Bounds {
             length self.old.waiting.items + degree form.now.ends.now site) }
         ensures left { OnOk result (ends_left form.now self.new + degree form.now.ends.now site
             ≡ ends_left form.now self.old) }
+        ensures closed { OnOk result (StayDecided self.old self.new) }
         ensures decided { OnOk result (WhereRead form.now (λ m move f.
             TellsValue self.old site value →
             ArePartlyDecided m move f (summed_count self.old) self.old →
@@ -180,6 +181,7 @@ impl Bounds {
         ensures less { OnOk result
             (length self.new.waiting.items + ends_left form.now self.new
             ≤ length self.old.waiting.items + ends_left form.now self.old) }
+        ensures closed { OnOk result (StayDecided self.old self.new) }
         ensures decided { OnOk result (WhereRead form.now (λ m move f.
             ArePartlyDecided m move f (summed_count self.old) self.old →
             ArePartlyDecided m move f (summed_count self.old) self.new)) }
@@ -201,6 +203,7 @@ impl Bounds {
         ensures same { OnOk result (summed_count self.new ≡ summed_count self.old) }
         ensures waiting { OnOk result (AreWaiting (summed_count self.old) self.new) }
         ensures none { OnOk result (self.new.waiting.items ≡ []) }
+        ensures closed { OnOk result (StayDecided self.old self.new) }
         ensures total { OnOk result (total_left form.now self.new ≤ total_left form.now self.old) }
         ensures decided { OnOk result (WhereRead form.now (λ m move f.
             ArePartlyDecided m move f (summed_count self.old) self.old →

@@ -1,14 +1,16 @@
 -- What is read of a move at some of its sites.
-use Rattle.std.proofs.Common.{◌≡◌, ◌==◌, ℕ, ◌+◌, ◌<◌, Bool, true, false, cond, List, [], ◌∷◌, ◌++◌, All, ℤ, pos, ◌-ℤ◌, length, take, get_or, refl, sym, ap, ◌∙◌, subst, inl, inr, add-one}
+use Rattle.std.proofs.Common.{◌≡◌, ◌==◌, ℕ, ◌+◌, ◌<◌, Bool, true, false, cond, List, All, ℤ, pos, ◌-ℤ◌, length, take, get_or, refl, sym, ap, ◌∙◌, subst, inl, inr, add-one, arith}
+use Rattle.std.proofs.lemmas.Int.{ints}
 use Rattle.std.proofs.lemmas.Bool.{cases_eq, eq-eqb, ne_eqb}
-use Rattle.std.proofs.lemmas.List.Elements.{All-push, All-weaker}
+use Rattle.std.proofs.lemmas.List.Elements.{All-push, All-weaker, All-contains}
 use Rattle.std.proofs.Math.Seq.{take-suc}
 use Rattle.label_energies.specs.declared.change.Move.{Move}
 use Rattle.label_energies.specs.Energies.{Instance, labelling}
 use Rattle.label_energies.specs.Moves.{label_after}
 use Rattle.move_energy.specs.MoveValues.{data_rise}
 use Rattle.site_forms.specs.Fields.{own_at}
-use Rattle.site_forms.specs.Lists.{with_costs_at, AreRisesNear}
+use Rattle.site_forms.specs.declared.lists.FormLists.{FormLists}
+use Rattle.site_forms.specs.Lists.{with_costs_at, AreRisesNear, CoversChanges, IsReadNear, IsReadOf}
 
 rise_by_asked : (m : Instance) (move : Move) (f : ℕ → ℕ) (a b : ℕ → Bool) (u : ℕ) → a u ≡ b u
     → data_rise (with_costs_at a m) move f u ≡ data_rise (with_costs_at b m) move f u
@@ -56,3 +58,30 @@ read_one m move at own new sites place site l is here there was =
             there u other ∙ (was.rises u below ∙ sym (rise_by_asked m move f more was.asked u (more_there site u was.asked other)))
       ];
     }
+
+-- ---- where each site that the move can change was read
+
+zero_of : (z : ℤ) → z -ℤ z ≡ pos 0
+zero_of z = omega (arith, ints)
+
+no_rise : (m : Instance) (move : Move) (f : ℕ → ℕ) (u : ℕ) → label_after move (f u) true ≡ label_after move (f u) false → data_rise m move f u ≡ pos 0
+no_rise m move f u same =
+    ap (λ label. pos (m.data_cost u label) -ℤ pos (m.data_cost u (label_after move (f u) false))) same ∙ zero_of (pos (m.data_cost u (label_after move (f u) false)))
+
+near_rise : (m : Instance) (move : Move) (at : List ℕ) (asked : ℕ → Bool) (sites : List ℕ) (u : ℕ) → u < length at → CoversChanges move at sites → All (λ p. asked p ≡ true) sites
+    → data_rise (with_costs_at asked m) move (labelling at) u ≡ data_rise m move (labelling at) u
+near_rise m move at asked sites u l covers all =
+    let f = labelling at in
+    elim (cases_eq (label_after move (f u) true) (label_after move (f u) false)) [
+      | inl same ↦ no_rise (with_costs_at asked m) move f u same ∙ sym (no_rise m move f u same)
+      | inr other ↦ rise_by_asked m move f asked (λ _. true) u (All-contains (λ p. asked p ≡ true) sites u all (covers.each u l other))
+    ]
+
+pub all_read : (m : Instance) (move : Move) (at : List ℕ) (lists : FormLists) (sites : List ℕ) → CoversChanges move at sites → IsReadNear m move at lists sites → IsReadOf m move at lists
+all_read m move at lists sites covers near = record {
+  sites = near.read.sites;
+  labels = near.read.labels;
+  after = near.read.after;
+  costs = near.read.costs;
+  own_are = λ u l. near.read.own_are u l ∙ near_rise m move at near.asked sites u l covers near.covers;
+}

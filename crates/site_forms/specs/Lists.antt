@@ -2,7 +2,7 @@
 use Rattle.std.specs.Prelude.{◌≡◌, ℕ, ◌+◌, ◌*◌, ◌<◌, ◌≤◌, Bool, true, false, cond, ℤ, List, []}
 use Rattle.std.specs.Prelude.{length}
 use Rattle.std.specs.Prelude.{slice_index, slice_index_or}
-use Rattle.std.specs.List.{All}
+use Rattle.std.specs.List.{All, Contains}
 use Rattle.label_field.specs.Limits.{label_limit}
 use Rattle.label_energies.specs.declared.change.Move.{Move}
 use Rattle.label_energies.specs.declared.change.Move.TheVariants.{Expand, Swap}
@@ -10,6 +10,7 @@ use Rattle.label_energies.specs.Energies.{Instance, labelling}
 use Rattle.label_energies.specs.Moves.{label_after}
 use Rattle.cost_store.specs.declared.problem.Problem.{Problem}
 use Rattle.cost_store.specs.Posed.{Closure, WhereMeant}
+use Rattle.move_energy.specs.Choices.{Changes}
 use Rattle.move_energy.specs.MoveValues.{data_rise}
 use Rattle.site_forms.specs.Fields.{AreReadableLists, AreReadOf, AreSymmetric, own_at}
 use Rattle.site_forms.specs.declared.lists.FormLists.{FormLists}
@@ -124,3 +125,8 @@ pub record IsReadNear (m : Instance) (move : Move) (at : List ℕ) (lists : Form
   pub asked : ℕ → Bool
   pub covers : All (λ p. asked p ≡ true) sites
   pub read : IsReadOf (with_costs_at asked m) move at lists
+
+-- these are sites, and each site that the move can change is one of them
+pub record CoversChanges (move : Move) (at sites : List ℕ) : Type 0 where
+  pub inside : All (λ p. p < length at) sites
+  pub each : (u : ℕ) → u < length at → Changes move (labelling at u) → Contains sites u

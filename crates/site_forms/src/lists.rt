@@ -13,7 +13,7 @@ ghost use Rattle.move_energy.specs.Rising.{table_labels, entry_place};
 ghost use Rattle.site_forms.specs.Fields.{own_at, unit_rise, AreUnitRises, rises_in};
 ghost use Rattle.site_forms.specs.Fields.{unit_rises_at, HaveRowsOf};
 ghost use Rattle.site_forms.specs.Lists.{AreFormLists, IsReadOf, KnowsCosts, HasNoCosts};
-ghost use Rattle.site_forms.specs.Lists.{AreCostsSmall, AreRisesNear, IsReadNear};
+ghost use Rattle.site_forms.specs.Lists.{AreCostsSmall, AreRisesNear, IsReadNear, CoversChanges};
 ghost use Rattle.site_forms.specs.Numbers.{IsFormOf, IsOverPairs};
 
 use crate::numbers::SiteForm;
@@ -355,6 +355,30 @@ impl FormLists {
             IsReadNear m change at.now self.new sites.now) }
     {
         add_own_rises(self.own.as_mut_slice(), problem, at, change, sites);
+    }
+
+    /// Reads the costs of a move from these labels, where each site that it can change is among
+    /// these: no other is looked at. It refuses only where memory runs out.
+    pub fn read_among<F: Fn(u32, u32) -> i64 + Sync, V: Fn(u32, u32) -> i64 + Sync>(
+        &mut self,
+        problem: &Problem<F, V>,
+        at: &[u8],
+        change: Move,
+        sites: &[u32],
+    ) -> Result<(), AllocError>
+        requires posed { IsPosed F.Fn V.Fn problem.now }
+        requires asked { IsAsked problem.now at.now change }
+        requires few { problem.now.data_cost.labels ≤ label_limit }
+        requires known { KnowsCosts F.Fn V.Fn problem.now self.old }
+        requires covers { CoversChanges change at.now sites.now }
+        ensures known { KnowsCosts F.Fn V.Fn problem.now self.new }
+        ensures lists { OnOk result (AreFormLists at.now self.new) }
+        ensures read { OnOk result (WhereMeant F.Fn V.Fn problem.now
+            (λ m. IsReadOf m change at.now self.new)) }
+    {
+        self.begin(problem, at, change)?;
+        self.read_sites(problem, at, change, sites);
+        Ok(())
     }
 
     /// The form that the lists tell, of these labels and of the neighbours by these pairs.

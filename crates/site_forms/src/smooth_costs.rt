@@ -234,7 +234,7 @@ impl AskedCosts {
         self.ask_new(problem, label);
     }
 
-    /// Asks the labels of the sites. Where each label of the problem was asked, no site is looked at.
+    /// Asks the labels of the sites. Where all labels were asked, no site is looked at.
     fn ask_sites<F: Fn(u32, u32) -> i64 + Sync, V: Fn(u32, u32) -> i64 + Sync>(
         &mut self,
         problem: &Problem<F, V>,

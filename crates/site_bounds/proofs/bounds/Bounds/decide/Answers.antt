@@ -6,6 +6,7 @@ use Rattle.move_energy.specs.Choices.{choice_at}
 use Rattle.site_bounds.specs.Working.{AreWaiting, SeesPair}
 use Rattle.move_energy.proofs.Parts.{start_read, starts_rise}
 use Rattle.site_bounds.proofs.Left.{left_less}
+use Rattle.site_bounds.proofs.Closed.{same_closed, both_closed, marked_closed}
 use Rattle.site_bounds.proofs.Ranges.{range_wider, decided_waits, total_same}
 use Rattle.site_bounds.proofs.Spreading.{IsSpread, spread_start, spread_step, spread_end, pair_in}
 use Rattle.move_energy.proofs.Places.{meant_grouped}
@@ -180,5 +181,16 @@ returns-clause-total c =
 
 pub returns-in_err-see-clause-total : goal.returns-in_err-see-clause-total
 returns-in_err-see-clause-total c =
+    let p = err_from_is_err_and c.from_residual.result c.from_residual.ensures.1 in
+    rw (p.1) tt
+
+pub returns-clause-closed : goal.returns-clause-closed
+returns-clause-closed c =
+    let a = c.args in
+    both_closed a.self.now c.mark.new.self c.loop-place.self (marked_closed a.site a.value a.self.now c.mark.new.self c.mark.ensures)
+    (same_closed c.mark.new.self c.loop-place.self c.loop-place.invariant.choices)
+
+pub returns-in_err-see-clause-closed : goal.returns-in_err-see-clause-closed
+returns-in_err-see-clause-closed c =
     let p = err_from_is_err_and c.from_residual.result c.from_residual.ensures.1 in
     rw (p.1) tt

@@ -5,6 +5,7 @@ use Rattle.move_energy.specs.Choices.{choice_at}
 use Rattle.site_bounds.specs.Working.{AreWaiting, ArePartlyDecided, IsWithinRange, open_ends, budget_of}
 use Rattle.move_energy.proofs.Parts.{starts_rise, starts_within}
 use Rattle.move_energy.proofs.PairEnds.{ends_len}
+use Rattle.site_bounds.proofs.Closed.{same_closed, both_closed}
 use Rattle.site_bounds.proofs.Left.{left_most, starts_climb}
 use Rattle.site_bounds.proofs.Passing.{passed_len, passed_sized, passed_range, passed_total, passed_waits, passed_decides}
 use Rattle.site_bounds.proofs.Places.{none_waits}
@@ -25,6 +26,7 @@ loop-site-init c =
       };
       same = u.least;
       waiting = record { sites = λ i d l. absurd (omega (arith, l, u.none)); each = λ v l. absurd (omega (arith, l)) };
+      closed = λ u was. was;
       none = empty_list a.self.now.waiting.items u.none;
       total = (let few : open_ends a.form.now.ends.now (length a.form.now.at.now) a.self.now.choices.items ≤ 2 * length a.form.now.pairs.now.list = subst L (sym c.requires.over.sites) (left_most a.form.now.pairs.now a.form.now.ends.now a.self.now.choices.items c.requires.over.by_site) in
           omega (arith, few, total_none a.self.now u.greatest));
@@ -118,6 +120,8 @@ loop-site-preserved c =
       budget = e.budget;
       same = e.same ∙ one.summed;
       waiting = subst W one.summed e.waiting;
+      closed = both_closed a.self.now mid c.decide_waiting.new.self (both_closed a.self.now c.loop-site.self mid i.closed (same_closed c.loop-site.self mid passes.choices))
+          (both_closed mid c.sum_site.new.self c.decide_waiting.new.self one.closed e.closed);
       none = e.none;
       total = (let inside : next < a.form.now.pairs.now.sites = omega (arith, passes.within, i.budget.sized.choices, c.if-next-sites.false, c.requires.over.sites) in
           let ordered = starts_rise a.form.now.pairs.now a.form.now.ends.now next c.requires.over.by_site inside in
@@ -243,5 +247,23 @@ returns-in_err-sum_site-clause-total c =
 
 pub returns-in_err-decide_waiting-clause-total : goal.returns-in_err-decide_waiting-clause-total
 returns-in_err-decide_waiting-clause-total c =
+    let p = err_from_is_err_and c.from_residual-in_err-decide_waiting.result c.from_residual-in_err-decide_waiting.ensures.1 in
+    rw (p.1) tt
+
+pub returns-then-next-sites-clause-closed : goal.returns-then-next-sites-clause-closed
+returns-then-next-sites-clause-closed c =
+    both_closed c.args.self.now c.loop-site.self c.pass_closed.new.self c.loop-site.invariant.closed
+    (same_closed c.loop-site.self c.pass_closed.new.self c.in_ok-next.ensures.choices)
+
+pub returns-clause-closed : goal.returns-clause-closed
+returns-clause-closed c = c.loop-site.invariant.closed
+
+pub returns-in_err-sum_site-clause-closed : goal.returns-in_err-sum_site-clause-closed
+returns-in_err-sum_site-clause-closed c =
+    let p = err_from_is_err_and c.from_residual-in_err-sum_site.result c.from_residual-in_err-sum_site.ensures.1 in
+    rw (p.1) tt
+
+pub returns-in_err-decide_waiting-clause-closed : goal.returns-in_err-decide_waiting-clause-closed
+returns-in_err-decide_waiting-clause-closed c =
     let p = err_from_is_err_and c.from_residual-in_err-decide_waiting.result c.from_residual-in_err-decide_waiting.ensures.1 in
     rw (p.1) tt

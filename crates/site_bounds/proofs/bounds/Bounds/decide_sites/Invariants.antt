@@ -4,7 +4,7 @@ use Rattle.label_energies.specs.declared.change.Move.{Move}
 use Rattle.label_energies.specs.Energies.{Instance, labelling}
 use Rattle.site_forms.specs.Numbers.{IsFormOf}
 use Rattle.site_bounds.specs.Finding.{IsInBudget, total_left}
-use Rattle.site_bounds.specs.Working.{AreWaiting, ArePartlyDecided}
+use Rattle.site_bounds.specs.Working.{AreWaiting, ArePartlyDecided, StayDecided}
 use Rattle.site_bounds.proofs.bounds.Bounds.decide_sites.Given as goal
 
 abbrev pub invariant-loop-site : goal.invariant-loop-site
@@ -13,6 +13,7 @@ invariant-loop-site l = record {
   budget : IsInBudget l.form l.self;
   same : length l.self.least.items ≡ l.site;
   waiting : AreWaiting l.site l.self;
+  closed : StayDecided l.fn.self l.self;
   none : l.self.waiting.items ≡ [];
   total : total_left l.form l.self
       ≤ 40000000 * length l.form.pairs.now.list + 10000000 * l.site + 10000000 * neighbours_start l.form.ends.now l.site;

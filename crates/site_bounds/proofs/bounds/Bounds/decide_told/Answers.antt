@@ -39,3 +39,6 @@ returns-clause-waiting c = c.decide.ensures.waiting
 
 pub returns-clause-total : goal.returns-clause-total
 returns-clause-total c = on_ok_two c.decide.result _ _ _ (λ less total. omega (arith, less, total)) c.decide.ensures.left c.decide.ensures.total
+
+pub returns-clause-closed : goal.returns-clause-closed
+returns-clause-closed c = c.decide.ensures.closed

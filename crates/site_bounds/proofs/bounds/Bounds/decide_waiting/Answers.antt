@@ -10,6 +10,7 @@ deciding-init c = record {
   budget = c.requires.budget;
   same = refl;
   waiting = c.requires.waiting;
+  closed = λ u was. was;
   total = omega arith;
   decided = λ m move read decided. decided;
 }
@@ -37,6 +38,7 @@ deciding-preserved c =
       budget = e.budget;
       same = e.same ∙ same;
       waiting = subst W same e.waiting;
+      closed = λ u was. e.closed u (c.deciding.invariant.closed u was);
       total = omega (arith, e.total, c.deciding.invariant.total);
       decided = λ m move read first.
           let f = labelling c.args.form.now.at.now in
@@ -105,3 +107,8 @@ returns-clause-budget c = record {
   left = c.deciding.invariant.budget.left;
   range = c.deciding.invariant.budget.range;
 }
+
+pub returns-in_err-decide_told-clause-closed : goal.returns-in_err-decide_told-clause-closed
+returns-in_err-decide_told-clause-closed c =
+    let p = err_from_is_err_and c.from_residual.result c.from_residual.ensures.1 in
+    rw (p.1) tt

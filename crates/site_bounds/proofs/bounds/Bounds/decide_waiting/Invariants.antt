@@ -3,7 +3,7 @@ use Rattle.label_energies.specs.declared.change.Move.{Move}
 use Rattle.label_energies.specs.Energies.{Instance, labelling}
 use Rattle.site_forms.specs.Numbers.{IsFormOf}
 use Rattle.site_bounds.specs.Finding.{IsInBudget, ends_left, total_left}
-use Rattle.site_bounds.specs.Working.{AreWaiting, ArePartlyDecided}
+use Rattle.site_bounds.specs.Working.{AreWaiting, ArePartlyDecided, StayDecided}
 use Rattle.site_bounds.proofs.bounds.Bounds.decide_waiting.Given as goal
 
 abbrev pub invariant-deciding : goal.invariant-deciding
@@ -11,6 +11,7 @@ invariant-deciding l = record {
   budget : IsInBudget l.form l.self;
   same : length l.self.least.items ≡ length l.fn.self.least.items;
   waiting : AreWaiting (length l.fn.self.least.items) l.self;
+  closed : StayDecided l.fn.self l.self;
   total : total_left l.form l.self ≤ total_left l.form l.fn.self;
   decided : (m : Instance) (move : Move) → IsFormOf m move l.form
       → ArePartlyDecided m move (labelling l.form.at.now) (length l.fn.self.least.items) l.fn.self

@@ -8,6 +8,7 @@ use Rattle.move_energy.specs.Assignments.{rise}
 use Rattle.move_energy.specs.MoveValues.{move_value}
 use Rattle.move_energy.specs.Ends.{decided_or, HasNoneBefore}
 use Rattle.site_bounds.specs.Working.{open_ends, budget_of}
+use Rattle.site_bounds.proofs.Closed.{same_closed, both_closed, answered_closed}
 use Rattle.site_bounds.proofs.Answering.{answered_bounds, answered_summed, answered_waits, answered_left, answered_decides}
 use Rattle.move_energy.proofs.Places.{degree_most}
 use Rattle.site_bounds.proofs.Ranges.{added_of, added_summed, added_range, added_waits, range_same, added_total, total_same, sum_room}
@@ -56,6 +57,8 @@ returns c =
           (sum_room rises.result.greatest (degree a.form.now.ends.now a.site) _ rises.ensures.range.1 few (omega (arith, c.requires.budget.left, c.requires.over.list.count))) c.requires.budget.range));
       waiting = answered_waits (a.site + 1) a.site _ c.add_bounds.new.self c.answer.new.self (omega arith) told
           (added_waits a.site _ _ a.self.now c.add_bounds.new.self added c.requires.waiting);
+      closed = both_closed a.self.now c.add_bounds.new.self c.answer.new.self (same_closed a.self.now c.add_bounds.new.self added.choices)
+          (answered_closed a.site _ c.add_bounds.new.self c.answer.new.self told);
       decided = λ m move read decided.
           let f = labelling a.form.now.at.now in
           let tells = form_tells a.form.now m move read in
