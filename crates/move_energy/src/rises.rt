@@ -43,27 +43,24 @@ pub fn other_end(pair: Pair, site: u32) -> u32
     }
 }
 
-/// The rises of a pair, at least and at most, where this is known of its other end.
+/// The rises of a pair, at least and at most, where this is known of its other end. It takes no
+/// branch on what is known, since that can seldom be foretold.
 #[inline]
 pub fn rises_beside(rises: EndRises, choice: Choice) -> Rises
     ensures least { result.least ≡ cond (bit_of choice true) rises.high rises.low }
     ensures greatest { result.greatest ≡ cond (bit_of choice false) rises.high rises.low }
 {
-    let low = i64::from(rises.low);
-    let high = i64::from(rises.high);
-    match choice {
-        Choice::Open => Rises {
-            least: high,
-            greatest: low,
-        },
-        Choice::Zero => Rises {
-            least: low,
-            greatest: low,
-        },
-        Choice::One => Rises {
-            least: high,
-            greatest: high,
-        },
+    Rises {
+        least: i64::from(if choice.bit(true) {
+            rises.high
+        } else {
+            rises.low
+        }),
+        greatest: i64::from(if choice.bit(false) {
+            rises.high
+        } else {
+            rises.low
+        }),
     }
 }
 

@@ -102,7 +102,7 @@ fn is_open_before(known: &[Choice], site: u32, head: u32) -> bool
     requires { head < length known.now }
     ensures { result ≡ false → (u : ℕ) → u < site → choice_at known.now u ≡ Open → head ≢ u }
 {
-    head < site && known[head as usize].is_open()
+    (head < site) & known[head as usize].is_open()
 }
 
 /// Whether the neighbour at a place is.
@@ -122,7 +122,7 @@ fn meets_open(form: &SiteForm, known: &[Choice], site: u32, place: u32, head: u3
 fn either(one: bool, other: bool) -> bool
     ensures { result ≡ false → (one ≡ false) × (other ≡ false) }
 {
-    one || other
+    one | other
 }
 
 /// The rises of a site by what is known of its neighbours, summed place by place. What the form
