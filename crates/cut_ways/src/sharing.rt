@@ -37,6 +37,12 @@ pub trait Sharing: How {
         false
     }
 
+    /// Whether the thread of the caller cuts each net as `Alone` does. Then a move lays what is
+    /// left of it in rows, which that thread cuts, and asks for no net.
+    fn is_alone(&self) -> bool {
+        false
+    }
+
     /// What does the parts of a move.
     fn fork(&self) -> Self::Fork
         requires ready { Self.ready self.now }
@@ -45,6 +51,10 @@ pub trait Sharing: How {
 
 impl Sharing for Alone {
     type Fork = InOrder;
+
+    fn is_alone(&self) -> bool {
+        true
+    }
 
     fn fork(&self) -> InOrder {
         InOrder

@@ -1,22 +1,18 @@
 -- The stages of an expansion that is made once more.
-use Rattle.std.proofs.Common.{◌≡◌, ◌≢◌, ◌⊎◌, ◌↔◌, ◌==◌, ℕ, ◌+◌, ◌<◌, Bool, true, false, not, cond, List, All, length, get_or, vec_len, IsTrue, IfOk, Result, Ok, Err, refl, sym, ap, ◌∙◌, inl, inr, subst, arith}
+use Rattle.std.proofs.Common.{◌≡◌, ◌≢◌, ◌⊎◌, ◌↔◌, ◌==◌, ℕ, ◌+◌, ◌<◌, Bool, true, false, not, cond, List, All, length, get_or, IsTrue, IfOk, Result, Ok, Err, refl, sym, ap, ◌∙◌, inl, inr, subst, arith}
 use Rattle.std.specs.Prelude.{slice_index, slice_set, IsFalse, OnOk}
 use Rattle.std.specs.List.{Contains}
 use Rattle.std.proofs.lemmas.Bool.{cases_Bool, cases_eq, cases_lt, eqb-true}
 use Rattle.std.proofs.lemmas.List.{length-set, get_or-set_same, get_or-set_other, set-get_or}
 use Rattle.std.proofs.lemmas.Grind.{get_or_default_zero}
 use Rattle.label_field.specs.PairLists.{PairList}
-use Rattle.label_energies.specs.declared.change.Move.{Move}
 use Rattle.label_energies.specs.declared.change.Move.TheVariants.{Expand}
 use Rattle.label_energies.specs.Energies.{Instance, IsInstance, IsMetric, AreLabelsFree, labelling}
 use Rattle.label_energies.proofs.Metric.{metric_allows}
 use Rattle.label_energies.specs.Moves.{IsAllowed, IsBest}
-use Rattle.pseudo_bool.specs.Energies.{assignment}
-use Rattle.compile_cut.specs.declared.quadratic.Quadratic.{Quadratic}
-use Rattle.compile_cut.specs.Quadratics.{quadratic_value}
 use Rattle.move_energy.specs.declared.choice.Choice.{Choice}
 use Rattle.move_energy.specs.declared.choice.Choice.TheVariants.{Zero}
-use Rattle.move_energy.specs.Choices.{choice_at, choice_of, bit_of, value_of, open_rank, StandsFor}
+use Rattle.move_energy.specs.Choices.{choice_at, choice_of, bit_of, value_of}
 use Rattle.site_bounds.specs.Decisions.{IsSmallestLeast}
 use Rattle.move_energy.specs.MoveValues.{move_value}
 use Rattle.move_energy.proofs.Rising.{move_falls, move_over}
@@ -24,24 +20,11 @@ use Rattle.persistency.specs.Fixing.{with_choices, AreLeastZeros}
 use Rattle.near_changes.specs.Fresh.{WasExpanded, AreFresh, IsApart}
 use Rattle.near_changes.specs.Looking.{IsClosedIn}
 use Rattle.near_changes.proofs.Parts.{ones_can_take}
-use Rattle.persistency.specs.Forms.{bits_by_site}
 use Rattle.persistency.proofs.Fixing.{ones_bound}
-use Rattle.persistency.proofs.Forms.{open_bit, form_smallest}
 use Rattle.near_changes.proofs.Ending.{stage_ends}
 use Rattle.strips.specs.Looking.{IsStageLeast}
 use Rattle.one_move.specs.Building.{HasTaken}
 use Rattle.one_move.proofs.Least.{expanded_best, free_least}
-
--- ---- the cut of a stage
-
-pub stage_least : (m : Instance) (move : Move) (f : ℕ → ℕ) (choices : List Choice) (q : Quadratic) (bits : List Bool) → IsInstance m
-    → StandsFor m move f (choice_at choices) q (open_rank choices) → IsSmallestLeast (vec_len q.weights) (quadratic_value q) (assignment bits)
-    → IsStageLeast m move f choices bits
-stage_least m move f choices q bits pairs stands least = record {
-  values = bits_by_site (choice_at choices) (open_rank choices) (assignment bits);
-  least = form_smallest m move f (choice_at choices) q (open_rank choices) (assignment bits) pairs stands least;
-  shown = λ p. open_bit (choice_at choices p) (assignment bits (open_rank choices p));
-}
 
 -- ---- the zeros of the stages
 

@@ -31,7 +31,8 @@ pub(crate) enum Standing {
     Open,
 }
 
-/// The cut of a partly fixed move, over the listed open sites: a bit for each.
+/// The cut of a partly fixed move, over the listed open sites: a bit for each. Few are cut in rows,
+/// on the thread of the caller, and all where that cuts alone.
 pub(crate) fn cut_stage<H: Sharing>(
     form: &SiteForm,
     strips: &mut Strips,
@@ -53,10 +54,25 @@ pub(crate) fn cut_stage<H: Sharing>(
         (λ bits. IsStageLeast m move f built.new.variables.choices.items bits.items)) }
     ensures refused { IfErr result (IsCutRefusal (H.refuses how.now)) }
 {
-    let alloc = *built.form.weights.allocator();
-    strips.build_read(form, opened, built)?;
-    let left = replace(&mut built.form, Quadratic::new(alloc));
     let small = least_nodes(how.shares_nets(), form.at.len(), true).max(how.strip_sites());
+    if how.is_alone() || opened.len() < small {
+        let bits = strips.look_read(
+            form,
+            &built.variables.choices,
+            opened,
+            &mut built.variables.of_sites,
+        )?;
+        return Ok(bits);
+    }
+    let alloc = *built.form.weights.allocator();
+    strips.build_read(
+        form,
+        &built.variables.choices,
+        opened,
+        &mut built.variables.of_sites,
+        &mut built.form,
+    )?;
+    let left = replace(&mut built.form, Quadratic::new(alloc));
     cut_small(alloc, left, small, how, cutting)
 }
 

@@ -15,6 +15,8 @@ use Rattle.move_energy.specs.declared.building.MoveEnergy.{MoveEnergy}
 use Rattle.move_energy.specs.declared.error.BuildError.{BuildError}
 use Rattle.move_energy.specs.Choices.{open_rank, value_of, AreAllOpen}
 use Rattle.move_energy.specs.Problems.{IsPrepared}
+use Rattle.one_move.specs.declared.left.Left.{Left}
+use Rattle.one_move.specs.declared.left.Left.TheVariants.{Form}
 use Rattle.one_move.specs.Building.{IsBuiltPlain, IsBuiltMove}
 use Rattle.cost_store.specs.LabelCosts.{costs_of, AreCosts, AreLabelCosts, HasCosts, AreCostly, AreFree}
 use Rattle.one_move.specs.LabelCosts.{IsFreeFor, IsTaken}
@@ -67,14 +69,13 @@ pair_may_come refuses labels move place BadOptions told = absurd told
 pair_may_come refuses labels move place OutOfMemory told = absurd told
 
 -- what the building of a move says of which nothing was decided
-pub built_whole : (m : Instance) (move : Move) (f : List ℕ) (made : MoveEnergy) (r : Result Unit BuildError) → IsInstance m → length f ≡ m.sites
-    → OnOk r (AreAllOpen move f made.variables.choices.items) → IsPrepared m move f made r → IsBuiltPlain m move f made r
-built_whole m move f made (Ok done) pairs size whole built = (
+pub built_whole : (m : Instance) (move : Move) (f : List ℕ) (made : MoveEnergy) → IsInstance m → length f ≡ m.sites
+    → AreAllOpen move f made.variables.choices.items → IsPrepared m move f made (Ok tt) → IsBuiltPlain m move f made (Ok Form)
+built_whole m move f made pairs size whole built = (
   built.0,
-  (λ bits least. open_least m move f made.variables.choices.items made.form (open_rank made.variables.choices.items) (assignment bits)
+  (λ bits least. open_least m move f made.variables.choices.items made.form (open_rank made.variables.choices.items) (assignment bits.items)
       pairs size whole built.1 least),
 )
-built_whole m move f made (Err e) pairs size whole built = built
 
 chosen_lt : (k a b : ℕ) (bit : Bool) → a < k → b < k → cond bit b a < k
 chosen_lt k a b true la lb = lb
@@ -102,9 +103,9 @@ pair_refusal m move f place NoBound below first taken told = absurd told
 pair_refusal m move f place OutOfMemory below first taken told = tt
 
 -- a move that is built without label costs, where no label costs anything by itself
-pub built_free : (m : Instance) (move : Move) (f : List ℕ) (made : MoveEnergy) (r : Result Unit BuildError) → AreLabelsFree m → IsBuiltPlain m move f made r → IsBuiltMove m move f made r
-built_free m move f made (Ok done) free built =
-    (built.0, (λ bits least. free_least m move (labelling f) (value_of made.variables.choices.items bits) free (built.1 bits least)))
+pub built_free : (m : Instance) (move : Move) (f : List ℕ) (made : MoveEnergy) (r : Result Left BuildError) → AreLabelsFree m → IsBuiltPlain m move f made r → IsBuiltMove m move f made r
+built_free m move f made (Ok left) free built =
+    (built.0, (λ bits least. free_least m move (labelling f) (value_of made.variables.choices.items bits.items) free (built.1 bits least)))
 built_free m move f made (Err e) free built = built
 
 -- costs that were found to be above 0, or not

@@ -1,29 +1,34 @@
 -- What is said of a form that is lent of the workspace's numbers, and of a move that is built of
 -- it.
-use Rattle.std.proofs.Common.{◌≡◌, ◌∙◌, ℕ, List, Result, Ok, Err, OnOk, length, ap, sym, subst}
+use Rattle.std.proofs.Common.{◌≡◌, ◌∙◌, ℕ, Bool, List, Ok, length, ap, sym, subst}
 use Rattle.pseudo_bool.specs.Energies.{assignment}
 use Rattle.label_energies.specs.declared.change.Move.{Move}
-use Rattle.label_energies.specs.Energies.{Instance, labelling}
+use Rattle.label_energies.specs.Energies.{Instance, IsInstance, labelling}
 use Rattle.label_energies.specs.Moves.{IsAllowed}
 use Rattle.cost_store.specs.declared.problem.Problem.{Problem}
 use Rattle.cost_store.specs.Posed.{Closure, IsPosed, IsMeant, WhereMeant}
 use Rattle.cost_store.proofs.Meaning.{pairs_meant}
 use Rattle.move_energy.specs.declared.choice.Choice.{Choice}
 use Rattle.move_energy.specs.declared.building.MoveEnergy.{MoveEnergy}
-use Rattle.move_energy.specs.declared.error.BuildError.{BuildError}
 use Rattle.move_energy.specs.declared.by_site.Neighbours.{Neighbours}
 use Rattle.move_energy.specs.BySite.{AreBySite}
-use Rattle.move_energy.specs.Choices.{choice_at, open_rank}
+use Rattle.move_energy.specs.Choices.{choice_at, open_rank, value_of}
 use Rattle.move_energy.specs.MoveValues.{move_value}
+use Rattle.move_energy.proofs.Rising.{move_falls, move_over}
 use Rattle.site_forms.specs.declared.lists.FormLists.{FormLists}
 use Rattle.site_forms.specs.declared.numbers.SiteForm.{SiteForm}
 use Rattle.site_forms.specs.Lists.{AreFormLists, IsReadOf}
 use Rattle.site_forms.specs.Numbers.{IsFormOf}
 use Rattle.site_bounds.specs.declared.sites.Deciding.{Deciding}
+use Rattle.site_bounds.specs.Decisions.{IsSmallestLeast}
 use Rattle.site_bounds.specs.Listed.{AreListed}
+use Rattle.persistency.specs.Fixing.{with_choices}
+use Rattle.persistency.proofs.Agreeing.{rest_agrees}
 use Rattle.persistency.specs.Agreeing.{Agree}
+use Rattle.one_move.specs.declared.left.Left.{Left}
+use Rattle.one_move.specs.declared.left.Left.TheVariants.{Form, Values}
 use Rattle.one_move.specs.declared.workspace.Workspace.{Workspace}
-use Rattle.one_move.specs.Building.{HasNumbersOf, HasFormOf, IsReadMove, IsOpenForm, KeepsDecided, KeepsChoices, IsBuiltPlain}
+use Rattle.one_move.specs.Building.{HasNumbersOf, HasFormOf, IsReadMove, IsLeftOf, KeepsDecided, KeepsChoices, IsBuiltPlain, MakesPlain, TellsLeft}
 use Rattle.one_move.specs.PlainBuilding.{IsPlainBuilding}
 use Rattle.one_move.proofs.Least.{agreed_least}
 use Rattle.one_move.proofs.Changes.{near_rest}
@@ -73,35 +78,34 @@ form_kept {F} {V} f v problem at move old new ends lists read =
       by_site = subst E (sym ends) read.near.by_site;
     }
 
--- a move of which nothing is decided, and whose numbers were read
-pub whole_form : {F V : Type 0} (f : Closure F) (v : Closure V) (problem : Problem F V) (at : List ℕ) (move : Move) (space : Workspace) (made : MoveEnergy) (result : Result Unit BuildError)
-    → length at ≡ problem.pairs.sites → AreBySite problem.pairs space.deciding.ends → AreFormLists at space.deciding.numbers
-    → WhereMeant f v problem (λ m. IsReadOf m move at space.deciding.numbers) → WhereMeant f v problem (λ m. IsBuiltPlain m move at made result)
-    → OnOk result (HasFormOf f v problem at move space)
-whole_form {F} {V} f v problem at move space made (Ok done) sites by_site lists read built = record {
-  numbers = record { sites = sites; allowed = λ m meant. (built m meant).0; lists = lists; read = read };
-  by_site = by_site;
-}
-whole_form {F} {V} f v problem at move space made (Err e) sites by_site lists read built = tt
+-- where choices agree, what is left makes the least values of all sites
+left_makes : (m : Instance) (move : Move) (f : List ℕ) (made : MoveEnergy) (left : Left) → IsInstance m → IsAllowed m move (labelling f)
+    → Agree m.sites (move_value m move (labelling f)) (choice_at made.variables.choices.items)
+    → TellsLeft m move (labelling f) made.variables.choices.items made.form left → MakesPlain m move f made left
+left_makes m move f made Form pairs allowed agree stands bits least =
+    agreed_least m move (labelling f) (choice_at made.variables.choices.items) made.form (open_rank made.variables.choices.items) (assignment bits.items) pairs allowed agree stands least
+left_makes m move f made (Values told) pairs allowed agree stage bits same =
+    let E = move_value m move (labelling f) in
+    let choices = made.variables.choices.items in
+    let shown : with_choices (choice_at choices) stage.values ≡ value_of choices told.items = λ j p. stage.shown p j in
+    subst (λ (bs : List Bool). IsSmallestLeast m.sites E (value_of choices bs)) (sym same)
+    (subst (λ (x : ℕ → Bool). IsSmallestLeast m.sites E x) shown
+    (rest_agrees m.sites E (choice_at choices) stage.values (move_falls m move (labelling f) pairs allowed) (move_over m move (labelling f) pairs) agree stage.least))
 
--- the form of a move whose choices agree is that of its least values
-pub agreed_built : {F V : Type 0} (f : Closure F) (v : Closure V) (problem : Problem F V) (at : List ℕ) (move : Move) (space : Workspace) → IsPosed f v problem
-    → WhereMeant f v problem (λ m. IsAllowed m move (labelling at)) → IsOpenForm f v problem at move space
+-- so what is left of a move whose choices agree is that of its least values
+pub agreed_built : {F V : Type 0} (f : Closure F) (v : Closure V) (problem : Problem F V) (at : List ℕ) (move : Move) (space : Workspace) (left : Left) → IsPosed f v problem
+    → WhereMeant f v problem (λ m. IsAllowed m move (labelling at)) → IsLeftOf f v problem at move space left
     → WhereMeant f v problem (λ m. Agree m.sites (move_value m move (labelling at)) (choice_at space.built.variables.choices.items))
-    → WhereMeant f v problem (λ m. IsBuiltPlain m move at space.built (Ok tt))
-agreed_built {F} {V} f v problem at move space posed allowed form agree m meant =
-    let choices = space.built.variables.choices.items in (
-      allowed m meant,
-      λ bits least. agreed_least m move (labelling at) (choice_at choices) space.built.form (open_rank choices) (assignment bits) (pairs_meant f v problem m posed meant)
-          (allowed m meant) (agree m meant) (form.stands m meant) least,
-    )
+    → WhereMeant f v problem (λ m. IsBuiltPlain m move at space.built (Ok left))
+agreed_built {F} {V} f v problem at move space left posed allowed is agree m meant =
+    (allowed m meant, left_makes m move at space.built left (pairs_meant f v problem m posed meant) (allowed m meant) (agree m meant) (is.tells m meant))
 
--- a move whose numbers were read, and whose form is then built
-pub plain_built : {F V : Type 0} (f : Closure F) (v : Closure V) (problem : Problem F V) (at : List ℕ) (move : Move) (old new : Workspace) → IsPosed f v problem
-    → IsReadMove f v problem at move old → KeepsDecided old new → KeepsChoices old new → IsOpenForm f v problem at move new
+-- a move whose numbers were read, and of which this is then left
+pub plain_built : {F V : Type 0} (f : Closure F) (v : Closure V) (problem : Problem F V) (at : List ℕ) (move : Move) (old new : Workspace) (left : Left) → IsPosed f v problem
+    → IsReadMove f v problem at move old → KeepsDecided old new → KeepsChoices old new → IsLeftOf f v problem at move new left
     → WhereMeant f v problem (λ m. Agree m.sites (move_value m move (labelling at)) (choice_at old.built.variables.choices.items))
-    → IsPlainBuilding f v problem at move new (Ok tt)
-plain_built {F} {V} f v problem at move old new posed read same kept form agree =
+    → IsPlainBuilding f v problem at move new (Ok left)
+plain_built {F} {V} f v problem at move old new left posed read same kept is agree =
     let count = ap (λ (xs : List Choice). length xs) kept ∙ read.count in
     let E : Deciding → Type 0 = λ d. AreBySite problem.pairs d.ends in
     let L : Deciding → Type 0 = λ d. AreListed move (labelling at) new.built.variables.choices.items d.lists in
@@ -113,10 +117,9 @@ plain_built {F} {V} f v problem at move old new posed read same kept form agree 
         near = near_rest problem.pairs move at new count
             (record { by_site = subst E (sym same) read.near.by_site; lists = subst L (sym same) (subst C (sym kept) read.near.lists) });
         choices = count;
-        bounded = form.bounded;
-        few = form.few;
+        sized = is.sized;
       };
-      built = agreed_built f v problem at move new posed read.numbers.allowed form (λ m meant.
+      built = agreed_built f v problem at move new left posed read.numbers.allowed is (λ m meant.
           let A : List Choice → Type 0 = λ choices. Agree m.sites (move_value m move (labelling at)) (choice_at choices) in
           subst A (sym kept) (agree m meant));
     }

@@ -1,7 +1,7 @@
 -- The sites of a move as they turn, one after another, and what the labels that their values make
 -- then cost.
-use Rattle.std.proofs.Common.{◌≡◌, ◌≢◌, ℕ, zero, suc, ◌+◌, ◌*◌, ◌<◌, ◌≤◌, ◌==◌, Bool, true, false, eqb, cond, not, nat_lt, List, length, get_or, refl, sym, ap, ◌∙◌, subst, inl, inr, add-one, arith, ℤ, pos, unsigned_abs, ◌+ℤ◌, ◌-ℤ◌}
-use Rattle.std.specs.Prelude.{◌||◌, slice_index}
+use Rattle.std.proofs.Common.{◌≡◌, ◌≢◌, ℕ, zero, suc, ◌+◌, ◌<◌, ◌≤◌, ◌==◌, Bool, true, false, cond, not, nat_lt, List, length, get_or, refl, sym, ap, ◌∙◌, inl, inr, add-one, arith, ℤ, pos, ◌+ℤ◌, ◌-ℤ◌}
+use Rattle.std.specs.Prelude.{◌||◌}
 use Rattle.std.proofs.lemmas.Int.{ints}
 use Rattle.std.proofs.lemmas.Bool.{cases_eq, cases_lt, cases_Bool}
 use Rattle.std.proofs.lemmas.Bool.Decides.{nat_tests}
@@ -23,7 +23,7 @@ use Rattle.move_energy.proofs.Listings.{chosen_below, listing_length}
 use Rattle.move_energy.proofs.Rising.{move_over}
 use Rattle.site_forms.specs.declared.numbers.SiteForm.{SiteForm}
 use Rattle.site_forms.specs.Fields.{ArePlaces}
-use Rattle.site_forms.specs.Numbers.{form_of, label_by, IsFormOf}
+use Rattle.site_forms.specs.Numbers.{label_by, IsFormOf}
 use Rattle.site_forms.proofs.Entries.{label_within}
 use Rattle.site_forms.proofs.Telling.{form_tells}
 use Rattle.one_move.specs.Building.{site_values, moves_site, HasChanges}

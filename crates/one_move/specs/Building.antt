@@ -2,6 +2,7 @@
 use Rattle.std.specs.Prelude.{◌≡◌, ◌≢◌, ◌^◌, ◌<◌, ◌≤◌, ◌==◌, ℕ, Bool, true, false, not}
 use Rattle.std.specs.Prelude.{List, [], length, vec_len, IsTrue, IsFalse, Result, Ok, Err, ℤ, pos}
 use Rattle.std.specs.Prelude.{slice_index}
+use Rattle.std.specs.Global.{Vec}
 use Rattle.label_field.specs.LabelFields.{LabelField}
 use Rattle.cost_store.specs.declared.problem.Problem.{Problem}
 use Rattle.cost_store.specs.Posed.{Closure, IsPosed, IsAsked, WhereMeant}
@@ -12,13 +13,15 @@ use Rattle.label_energies.specs.Moves.{IsAllowed, label_after, labelling_made}
 use Rattle.pseudo_bool.specs.Energies.{assignment}
 use Rattle.label_field.specs.Limits.{site_limit, label_limit}
 use Rattle.pseudo_bool.specs.Limits.{term_limit}
+use Rattle.compile_cut.specs.declared.quadratic.Quadratic.{Quadratic}
 use Rattle.compile_cut.specs.Quadratics.{quadratic_value, IsQuadraticBounded}
 use Rattle.compile_cut.specs.Weights.{weights_size}
 use Rattle.move_energy.specs.declared.choice.Choice.{Choice}
 use Rattle.move_energy.specs.declared.building.MoveEnergy.{MoveEnergy}
 use Rattle.move_energy.specs.declared.error.BuildError.{BuildError}
-use Rattle.move_energy.specs.Choices.{bit_of, choice_at, value_of, AreOpenSites}
-use Rattle.move_energy.specs.Problems.{IsPrepareRefusal, Stands}
+use Rattle.move_energy.specs.Choices.{bit_of, choice_at, open_rank, value_of, AreOpenSites}
+use Rattle.move_energy.specs.Choices.{StandsFor}
+use Rattle.move_energy.specs.Problems.{IsPrepareRefusal}
 use Rattle.move_energy.specs.Limits.{weights_limit}
 use Rattle.move_energy.specs.OpenMoves.{IsAllowedFrom}
 use Rattle.move_energy.specs.Weights.{AreWeights}
@@ -28,6 +31,9 @@ use Rattle.site_bounds.specs.Listed.{AreListed, changes}
 use Rattle.site_bounds.specs.Decisions.{IsSmallestLeast}
 use Rattle.move_energy.specs.MoveValues.{move_value}
 use Rattle.site_forms.specs.Lists.{AreFormLists, IsReadOf, KnowsCosts}
+use Rattle.strips.specs.Looking.{IsStageLeast}
+use Rattle.one_move.specs.declared.left.Left.{Left}
+use Rattle.one_move.specs.declared.left.Left.TheVariants.{Form, Values}
 use Rattle.one_move.specs.declared.workspace.Workspace.{Workspace}
 
 -- the fewest nodes of a later net that a way with parts cuts: one thread cuts a smaller one in less
@@ -112,25 +118,37 @@ pub record IsWeighedMove {F V : Type 0} (f : Closure F) (v : Closure V) (problem
   pub sized : AreWeightsSized (length at) space
   pub weights : WhereMeant f v problem (λ m. KnowsWeights m move at space)
 
--- the form of the workspace stands for what is open of the move, and is of a size that can be cut
-pub record IsOpenForm {F V : Type 0} (f : Closure F) (v : Closure V) (problem : Problem F V)
-    (at : List ℕ) (move : Move) (space : Workspace) : Type 0 where
-  pub bounded : IsQuadraticBounded term_limit space.built.form
-  pub few : vec_len space.built.form.weights ≤ site_limit
-  pub stands : WhereMeant f v problem (λ m. Stands m move at space.built)
+-- what is left tells the least values of the move: it has them, with the fewest ones, or a form
+-- stands for what is open
+abbrev pub TellsLeft : Instance → Move → (ℕ → ℕ) → List Choice → Quadratic → Left → Type 0
+TellsLeft m move f choices form Form =
+    StandsFor m move f (choice_at choices) form (open_rank choices)
+TellsLeft m move f choices form (Values bits) = IsStageLeast m move f choices bits.items
+
+-- a form that is left can be cut, and has at most so many nodes
+abbrev pub IsLeftSized : ℕ → Quadratic → Left → Type 0
+IsLeftSized nodes form Form =
+    IsQuadraticBounded term_limit form × (vec_len form.weights ≤ nodes)
+IsLeftSized nodes form (Values bits) = Unit
+
+-- this is what is left of the move, by the workspace
+pub record IsLeftOf {F V : Type 0} (f : Closure F) (v : Closure V) (problem : Problem F V)
+    (at : List ℕ) (move : Move) (space : Workspace) (left : Left) : Type 0 where
+  pub sized : IsLeftSized site_limit space.built.form left
+  pub tells : WhereMeant f v problem (λ m. TellsLeft m move (labelling at)
+      space.built.variables.choices.items space.built.form left)
 
 -- each site keeps its choice
 abbrev pub KeepsChoices : Workspace → Workspace → Type 0
 KeepsChoices old new = new.built.variables.choices.items ≡ old.built.variables.choices.items
 
 -- what is left of the move can be cut: it is listed where a move is to look at the listed sites
--- alone, there is a choice for each site, and the form is in its limits
-pub record IsReadyToCut (at : List ℕ) (move : Move) (nodes : ℕ) (space : Workspace)
+-- alone, there is a choice for each site, and a form is in its limits
+pub record IsReadyToCut (at : List ℕ) (move : Move) (nodes : ℕ) (space : Workspace) (left : Left)
     : Type 0 where
   pub near : IsRestWhereListed move at space
   pub choices : length space.built.variables.choices.items ≡ length at
-  pub bounded : IsQuadraticBounded term_limit space.built.form
-  pub few : vec_len space.built.form.weights ≤ nodes
+  pub sized : IsLeftSized nodes space.built.form left
 
 -- the value of each site's variable, once its choice is assigned
 abbrev pub site_values : List Choice → ℕ → Bool
@@ -184,30 +202,36 @@ AreChangesListed move f space =
 abbrev pub made_value : Instance → Move → (ℕ → ℕ) → (ℕ → Bool) → ℤ
 made_value m move f x = pos (energy m (labelling_made move f x))
 
--- the least assignment of the form with the fewest ones makes the least values of all sites with
--- the fewest ones
-abbrev pub MakesLeast : Instance → Move → List ℕ → MoveEnergy → Type 0
-MakesLeast m move f made = (bits : List Bool)
-    → IsSmallestLeast (vec_len made.form.weights) (quadratic_value made.form) (assignment bits)
+-- these bits are what is left, where it has the values, or are the least assignment of the form
+-- with the fewest ones
+abbrev pub LeavesLeast : MoveEnergy → Left → Vec Bool → Type 0
+LeavesLeast made Form bits = IsSmallestLeast (vec_len made.form.weights)
+    (quadratic_value made.form) (assignment bits.items)
+LeavesLeast made (Values least) bits = bits.items ≡ least.items
+
+-- such bits make the least values of all sites with the fewest ones
+abbrev pub MakesLeast : Instance → Move → List ℕ → MoveEnergy → Left → Type 0
+MakesLeast m move f made left = (bits : Vec Bool) → LeavesLeast made left bits
     → IsSmallestLeast m.sites (made_value m move (labelling f))
-    (value_of made.variables.choices.items bits)
+    (value_of made.variables.choices.items bits.items)
 
 -- what the building of the energy of a move answers
-abbrev pub IsBuiltMove : Instance → Move → List ℕ → MoveEnergy → Result Unit BuildError → Type 0
-IsBuiltMove m move f made (Ok done) = IsAllowed m move (labelling f) × MakesLeast m move f made
+abbrev pub IsBuiltMove : Instance → Move → List ℕ → MoveEnergy → Result Left BuildError → Type 0
+IsBuiltMove m move f made (Ok left) =
+    IsAllowed m move (labelling f) × MakesLeast m move f made left
 IsBuiltMove m move f made (Err e) = IsPrepareRefusal m move (labelling f) e
 
--- without label costs: the least assignment of the form with the fewest ones makes, with what was
--- decided, the least values of all sites with the fewest ones
-abbrev pub MakesPlain : Instance → Move → List ℕ → MoveEnergy → Type 0
-MakesPlain m move f made = (bits : List Bool)
-    → IsSmallestLeast (vec_len made.form.weights) (quadratic_value made.form) (assignment bits)
+-- without label costs: such bits make, with what was decided, the least values of all sites with
+-- the fewest ones
+abbrev pub MakesPlain : Instance → Move → List ℕ → MoveEnergy → Left → Type 0
+MakesPlain m move f made left = (bits : Vec Bool) → LeavesLeast made left bits
     → IsSmallestLeast m.sites (move_value m move (labelling f))
-    (value_of made.variables.choices.items bits)
+    (value_of made.variables.choices.items bits.items)
 
 -- what the building of the energy of such a move answers
-abbrev pub IsBuiltPlain : Instance → Move → List ℕ → MoveEnergy → Result Unit BuildError → Type 0
-IsBuiltPlain m move f made (Ok done) = IsAllowed m move (labelling f) × MakesPlain m move f made
+abbrev pub IsBuiltPlain : Instance → Move → List ℕ → MoveEnergy → Result Left BuildError → Type 0
+IsBuiltPlain m move f made (Ok left) =
+    IsAllowed m move (labelling f) × MakesPlain m move f made left
 IsBuiltPlain m move f made (Err e) = IsPrepareRefusal m move (labelling f) e
 
 -- what was grouped and decided stays as it is

@@ -1,14 +1,14 @@
 -- The sites of a move as they turn, one after another, from the values of the labels as they are to
 -- their own.
-use Rattle.std.specs.Prelude.{◌≡◌, ◌==◌, ℕ, nat_lt, Bool, not, cond, List, length, ℤ, pos, ◌-ℤ◌}
+use Rattle.std.specs.Prelude.{◌==◌, ℕ, nat_lt, Bool, not, cond, List, length, ℤ, pos, ◌-ℤ◌}
 use Rattle.label_energies.specs.declared.change.Move.{Move}
 use Rattle.label_energies.specs.Energies.{Instance, labelling, plain_energy}
 use Rattle.label_energies.specs.Moves.{labelling_made}
 use Rattle.move_energy.specs.declared.choice.Choice.{Choice}
 use Rattle.move_energy.specs.Assignments.{IsOver}
 use Rattle.site_forms.specs.declared.numbers.SiteForm.{SiteForm}
-use Rattle.site_forms.specs.Numbers.{label_by, Tells, WhereRead}
-use Rattle.one_move.specs.Building.{site_values, HasChanges}
+use Rattle.site_forms.specs.Numbers.{label_by, Tells}
+use Rattle.one_move.specs.Building.{site_values}
 
 -- does a site's value change its label?
 abbrev pub turns_label : SiteForm → List Choice → ℕ → Bool

@@ -1,13 +1,14 @@
-//! The energy of a move, of which sites are decided before it is built.
+//! What is left of a move, of which sites are decided before it is built or cut.
 ghost use Rattle.std.specs.Prelude.{◌≡◌, ◌+◌, ◌<◌, length, IfOk, IfErr, OnOk, IsTrue};
 ghost use Rattle.one_move.specs.Prelude.{labelling, site_limit, label_limit, WhereMeant, choice_at};
 ghost use Rattle.one_move.specs.Prelude.{IsPrepareRefusal, IsDecidedMove, move_value, Agree};
 ghost use Rattle.one_move.specs.Prelude.{IsOfProblem, IsRestWhereListed, IsReadyMove, IsReadMove};
-ghost use Rattle.one_move.specs.Prelude.{IsWeighedMove, IsOpenForm, KeepsChoices, KeepsDecided};
+ghost use Rattle.one_move.specs.Prelude.{IsWeighedMove, IsLeftOf, KeepsChoices, KeepsDecided};
 ghost use Rattle.one_move.specs.Prelude.{IsReadyToCut, IsBuiltMove, costs_of, AreCosts, IsFreeFor};
 ghost use Rattle.one_move.specs.Prelude.{Expand, AreCostsOf, IsSwap, HasFormOf};
 ghost use Rattle.one_move.specs.PlainBuilding.{IsPlainBuilding};
 
+use crate::left::{Left, leave_read, leave_weighed};
 use crate::workspace::Workspace;
 use cost_store::{Problem, costs_of, has_cost};
 use cut_ways::Sharing;
@@ -42,41 +43,52 @@ fn decide<F: Fn(u32, u32) -> i64 + Sync, V: Fn(u32, u32) -> i64 + Sync>(
     Ok(())
 }
 
-/// The energy of a move whose sites are decided, over its listed open sites, from what they weigh.
-fn build_open<F: Fn(u32, u32) -> i64 + Sync, V: Fn(u32, u32) -> i64 + Sync>(
+/// What is left of a move whose sites are decided, over its listed open sites, from what they
+/// weigh.
+fn leave_open<F: Fn(u32, u32) -> i64 + Sync, V: Fn(u32, u32) -> i64 + Sync>(
     problem: &Problem<F, V>,
     space: &mut Workspace,
     at: &[u8],
     change: Move,
-) -> Result<(), AllocError>
+    small: usize,
+) -> Result<Left, AllocError>
     requires weighed { IsWeighedMove F.Fn V.Fn problem.now at.now change space.old }
     requires listed { IsTrue space.old.deciding.lists.listed }
     ensures same { KeepsDecided space.old space.new }
     ensures kept { KeepsChoices space.old space.new }
-    ensures form { OnOk result (IsOpenForm F.Fn V.Fn problem.now at.now change space.new) }
+    ensures left { IfOk result (IsLeftOf F.Fn V.Fn problem.now at.now change space.new) }
 {
     let form = space
         .deciding
         .numbers
         .form(&problem.pairs, &space.deciding.ends, at);
-    space.strips.build_open(
+    let basis = Basis {
+        start: &space.built.variables.choices,
+        weights: &space.deciding.bounds.greatest,
+    };
+    let left = leave_weighed(
+        &mut space.strips,
         &form,
-        &space.deciding.bounds.greatest,
+        &basis,
+        &space.built.variables.choices,
         &space.deciding.lists.opened,
-        &mut space.built,
+        &mut space.built.variables.of_sites,
+        &mut space.built.form,
+        small,
     )?;
-    Ok(())
+    Ok(left)
 }
 
-/// The energy of the last strip of a move whose sites are decided: all strips before it are closed
-/// in, so many sites each, and only its own open sites are left.
-fn build_strips<F: Fn(u32, u32) -> i64 + Sync, V: Fn(u32, u32) -> i64 + Sync>(
+/// What is left of a move whose sites are decided, of its last strip: all strips before it are
+/// closed in, so many sites each.
+fn leave_strip<F: Fn(u32, u32) -> i64 + Sync, V: Fn(u32, u32) -> i64 + Sync>(
     problem: &Problem<F, V>,
     space: &mut Workspace,
     at: &[u8],
     change: Move,
     size: usize,
-) -> Result<(), AllocError>
+    small: usize,
+) -> Result<Left, AllocError>
     requires some { 0 < size }
     requires weighed { IsWeighedMove F.Fn V.Fn problem.now at.now change space.old }
     ensures of_problem { IsOfProblem F.Fn V.Fn problem.now space.new }
@@ -84,7 +96,7 @@ fn build_strips<F: Fn(u32, u32) -> i64 + Sync, V: Fn(u32, u32) -> i64 + Sync>(
     ensures known { (space.new.deciding.ends ≡ space.old.deciding.ends)
         × (space.new.deciding.numbers ≡ space.old.deciding.numbers) }
     ensures choices { OnOk result (length space.new.built.variables.choices.items ≡ length at.now) }
-    ensures form { OnOk result (IsOpenForm F.Fn V.Fn problem.now at.now change space.new) }
+    ensures left { IfOk result (IsLeftOf F.Fn V.Fn problem.now at.now change space.new) }
     ensures agree { WhereMeant F.Fn V.Fn problem.now (λ m.
         Agree m.sites (move_value m change (labelling at.now))
         (choice_at space.old.built.variables.choices.items) →
@@ -105,11 +117,23 @@ fn build_strips<F: Fn(u32, u32) -> i64 + Sync, V: Fn(u32, u32) -> i64 + Sync>(
     };
     space
         .strips
-        .close_in(&form, &basis, &mut space.built, size)?;
+        .close_in(&form, &basis, &mut space.built.variables, size)?;
+    swap(&mut space.stage.opened, &mut space.strips.opened);
+    let left = leave_weighed(
+        &mut space.strips,
+        &form,
+        &basis,
+        &space.built.variables.choices,
+        &space.stage.opened,
+        &mut space.built.variables.of_sites,
+        &mut space.built.form,
+        small,
+    )?;
     if space.deciding.lists.listed {
-        swap(&mut space.deciding.lists.opened, &mut space.strips.opened);
+        swap(&mut space.deciding.lists.opened, &mut space.stage.opened);
+        return Ok(left);
     }
-    Ok(())
+    Ok(left)
 }
 
 /// Decides and closes in the sites of a move by parts, side by side, where the way to cut asks for
@@ -163,34 +187,47 @@ fn close_apart<F: Fn(u32, u32) -> i64 + Sync, V: Fn(u32, u32) -> i64 + Sync, H: 
     Ok(true)
 }
 
-/// The energy of what the parts of a move left open.
-fn build_rest<F: Fn(u32, u32) -> i64 + Sync, V: Fn(u32, u32) -> i64 + Sync>(
+/// What is left of a move that was closed in by parts.
+fn leave_rest<F: Fn(u32, u32) -> i64 + Sync, V: Fn(u32, u32) -> i64 + Sync>(
     problem: &Problem<F, V>,
     space: &mut Workspace,
     at: &[u8],
     change: Move,
-) -> Result<(), AllocError>
+    small: usize,
+) -> Result<Left, AllocError>
     requires read { IsReadMove F.Fn V.Fn problem.now at.now change space.old }
     ensures same { KeepsDecided space.old space.new }
     ensures kept { KeepsChoices space.old space.new }
-    ensures form { OnOk result (IsOpenForm F.Fn V.Fn problem.now at.now change space.new) }
+    ensures left { IfOk result (IsLeftOf F.Fn V.Fn problem.now at.now change space.new) }
 {
     let form = space
         .deciding
         .numbers
         .form(&problem.pairs, &space.deciding.ends, at);
     if space.deciding.lists.listed {
-        space
-            .strips
-            .build_read(&form, &space.deciding.lists.opened, &mut space.built)?;
-        return Ok(());
+        let left = leave_read(
+            &mut space.strips,
+            &form,
+            &space.built.variables.choices,
+            &space.deciding.lists.opened,
+            &mut space.built.variables.of_sites,
+            &mut space.built.form,
+            small,
+        )?;
+        return Ok(left);
     }
     space.strips.list_open(&space.built.variables.choices)?;
     swap(&mut space.stage.opened, &mut space.strips.opened);
-    space
-        .strips
-        .build_read(&form, &space.stage.opened, &mut space.built)?;
-    Ok(())
+    let rest = leave_read(
+        &mut space.strips,
+        &form,
+        &space.built.variables.choices,
+        &space.stage.opened,
+        &mut space.built.variables.of_sites,
+        &mut space.built.form,
+        small,
+    )?;
+    Ok(rest)
 }
 
 /// How many open sites a move closes in at once: all, where the way to cut takes all that is open
@@ -204,8 +241,8 @@ fn strip_size<H: Sharing>(how: &H) -> usize
     }
 }
 
-/// The energy of a move whose sites were decided first. Where it was closed in by parts, it is that
-/// of the rest, and where more sites are open than one net takes, that of the last strip.
+/// What is left of a move whose sites were decided first: of the rest, where it was closed in by
+/// parts, and of the last strip, where more sites are open than one net takes.
 fn build_decided<F: Fn(u32, u32) -> i64 + Sync, V: Fn(u32, u32) -> i64 + Sync, H: Sharing>(
     alloc: Global,
     problem: &Problem<F, V>,
@@ -213,23 +250,24 @@ fn build_decided<F: Fn(u32, u32) -> i64 + Sync, V: Fn(u32, u32) -> i64 + Sync, H
     at: &[u8],
     change: Move,
     how: &H,
-) -> Result<(), BuildError>
+    small: usize,
+) -> Result<Left, BuildError>
     requires ready { H.ready how.now }
     requires asked { IsReadyMove F.Fn V.Fn problem.now at.now change space.old }
     ensures { IsPlainBuilding F.Fn V.Fn problem.now at.now change space.new result }
 {
     if close_apart(alloc, problem, space, at, change, how)? {
-        build_rest(problem, space, at, change)?;
-        return Ok(());
+        let rest = leave_rest(problem, space, at, change, small)?;
+        return Ok(rest);
     }
     decide(alloc, problem, space, at, change)?;
     let size = strip_size(how);
     if space.deciding.lists.listed && space.deciding.lists.count <= size {
-        build_open(problem, space, at, change)?;
-        return Ok(());
+        let open = leave_open(problem, space, at, change, small)?;
+        return Ok(open);
     }
-    build_strips(problem, space, at, change, size)?;
-    Ok(())
+    let strip = leave_strip(problem, space, at, change, size, small)?;
+    Ok(strip)
 }
 
 /// The energy of a move of which nothing is decided.
@@ -239,17 +277,18 @@ fn build_whole<F: Fn(u32, u32) -> i64 + Sync, V: Fn(u32, u32) -> i64 + Sync>(
     space: &mut Workspace,
     at: &[u8],
     change: Move,
-) -> Result<(), BuildError>
+) -> Result<Left, BuildError>
     requires asked { IsReadyMove F.Fn V.Fn problem.now at.now change space.old }
     ensures { IsPlainBuilding F.Fn V.Fn problem.now at.now change space.new result }
 {
     space.group(alloc, problem)?;
     space.deciding.numbers.read(problem, at, change)?;
     space.deciding.lists.listed = false;
-    space.built.prepare(alloc, problem, at, change)
+    space.built.prepare(alloc, problem, at, change)?;
+    Ok(Left::Form)
 }
 
-/// The energy of a move where no label costs anything by itself, its sites decided first or not.
+/// What is left of a move where no label costs anything by itself, its sites decided first or not.
 fn build_plain<F: Fn(u32, u32) -> i64 + Sync, V: Fn(u32, u32) -> i64 + Sync, H: Sharing>(
     alloc: Global,
     problem: &Problem<F, V>,
@@ -257,13 +296,14 @@ fn build_plain<F: Fn(u32, u32) -> i64 + Sync, V: Fn(u32, u32) -> i64 + Sync, H: 
     at: &[u8],
     change: Move,
     how: &H,
-) -> Result<(), BuildError>
+    small: usize,
+) -> Result<Left, BuildError>
     requires ready { H.ready how.now }
     requires asked { IsReadyMove F.Fn V.Fn problem.now at.now change space.old }
     ensures { IsPlainBuilding F.Fn V.Fn problem.now at.now change space.new result }
 {
     if how.decides_first() {
-        build_decided(alloc, problem, space, at, change, how)
+        build_decided(alloc, problem, space, at, change, how, small)
     } else {
         build_whole(alloc, problem, space, at, change)
     }
@@ -278,11 +318,11 @@ fn build_costed<F: Fn(u32, u32) -> i64 + Sync, V: Fn(u32, u32) -> i64 + Sync>(
     at: &[u8],
     alpha: u32,
     costs: &[i64],
-) -> Result<(), BuildError>
+) -> Result<Left, BuildError>
     requires asked { IsReadyMove F.Fn V.Fn problem.now at.now (Expand alpha) space.old }
     requires label_costs { AreCosts problem.now.data_cost.labels costs.now }
     ensures of_problem { IsOfProblem F.Fn V.Fn problem.now space.new }
-    ensures left { OnOk result
+    ensures left { IfOk result
         (IsReadyToCut at.now (Expand alpha) (site_limit + label_limit) space.new) }
     ensures built { WhereMeant F.Fn V.Fn problem.now (λ m. AreCostsOf m costs.now →
         IsBuiltMove m (Expand alpha) at.now space.new.built result) }
@@ -299,11 +339,12 @@ fn build_costed<F: Fn(u32, u32) -> i64 + Sync, V: Fn(u32, u32) -> i64 + Sync>(
         alpha,
         costs,
     )?;
-    Ok(())
+    Ok(Left::Form)
 }
 
-/// The energy of a move: with label costs nothing is decided, and without them its sites are
-/// decided first or not.
+/// What is left of a move: with label costs nothing is decided, and without them its sites are
+/// decided first or not. Where fewer are then open than `small`, their least values are found, and
+/// else the form of what is open is.
 pub(crate) fn build_move<F: Fn(u32, u32) -> i64 + Sync, V: Fn(u32, u32) -> i64 + Sync, H: Sharing>(
     alloc: Global,
     problem: &Problem<F, V>,
@@ -311,12 +352,13 @@ pub(crate) fn build_move<F: Fn(u32, u32) -> i64 + Sync, V: Fn(u32, u32) -> i64 +
     at: &[u8],
     change: Move,
     how: &H,
-) -> Result<(), BuildError>
+    small: usize,
+) -> Result<Left, BuildError>
     requires ready { H.ready how.now }
     requires asked { IsReadyMove F.Fn V.Fn problem.now at.now change space.old }
     requires free { IsFreeFor change (costs_of problem.now.label_costs) }
     ensures of_problem { IsOfProblem F.Fn V.Fn problem.now space.new }
-    ensures left { OnOk result
+    ensures left { IfOk result
         (IsReadyToCut at.now change (site_limit + label_limit) space.new) }
     ensures form { OnOk result
         (IsSwap change → HasFormOf F.Fn V.Fn problem.now at.now change space.new) }
@@ -326,12 +368,12 @@ pub(crate) fn build_move<F: Fn(u32, u32) -> i64 + Sync, V: Fn(u32, u32) -> i64 +
     let costs = costs_of(&problem.label_costs);
     let costly = has_cost(costs);
     match change {
-        Move::Swap(_, _) => build_plain(alloc, problem, space, at, change, how),
+        Move::Swap(_, _) => build_plain(alloc, problem, space, at, change, how, small),
         Move::Expand(alpha) => {
             if costly {
                 return build_costed(alloc, problem, space, at, alpha, costs);
             }
-            build_plain(alloc, problem, space, at, change, how)
+            build_plain(alloc, problem, space, at, change, how, small)
         }
     }
 }

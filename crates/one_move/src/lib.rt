@@ -7,6 +7,7 @@
 mod building;
 mod energy_change;
 mod error;
+mod left;
 mod move_by_cut;
 mod taking;
 mod workspace;

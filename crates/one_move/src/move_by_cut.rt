@@ -14,6 +14,7 @@ ghost use Rattle.one_move.specs.Prelude.{IsMoveRefusal, TellsPair};
 
 use crate::MoveError;
 use crate::building::build_move;
+use crate::left::cut_left;
 use crate::taking::take_best;
 use crate::workspace::{Workspace, give_numbers_back};
 use compile_cut::{Quadratic, net_of};
@@ -23,7 +24,6 @@ use label_energies::Move;
 use label_field::Labelling;
 use move_energy::BuildError;
 use std::alloc::Global;
-use std::mem::replace;
 
 /// The fewest nodes of a net that is left to a way with parts once it had one in the run. One
 /// thread cuts smaller ones in less time than several take to share them.
@@ -42,6 +42,13 @@ pub fn least_nodes(shared: bool, sites: usize, later: bool) -> usize
         return 0;
     }
     if later { sites.max(LATER_NODES) } else { sites }
+}
+
+/// Of how many open sites a move has at least to be left its form, where nets of as many nodes as
+/// `small` or more are left to the way to cut: what is left of others is cut in rows, on the thread
+/// of the caller. That cuts all nets where it is alone.
+fn row_nodes<H: Sharing>(how: &H, small: usize) -> usize {
+    if how.is_alone() { usize::MAX } else { small }
 }
 
 /// The least assignment of a form with the fewest ones, a bit for each node.
@@ -128,21 +135,27 @@ pub fn make_move<F: Fn(u32, u32) -> i64 + Sync, V: Fn(u32, u32) -> i64 + Sync, H
     if !is_taken(&problem.label_costs, change) {
         return Err(MoveError::LabelCostInSwap);
     }
-    match build_move(alloc, problem, space, labelling.as_slice(), change, how) {
-        Ok(()) => {}
+    let small = least_nodes(how.shares_nets(), labelling.sites() as usize, space.shared);
+    let rows = row_nodes(how, small);
+    let left = match build_move(
+        alloc,
+        problem,
+        space,
+        labelling.as_slice(),
+        change,
+        how,
+        rows,
+    ) {
+        Ok(left) => left,
         Err(BuildError::PairNotRegular(pair)) => return Err(not_regular(pair, change)),
         Err(BuildError::OutOfMemory) => return Err(MoveError::OutOfMemory),
-    }
+    };
     give_numbers_back(
         alloc,
         space.deciding.lists.listed,
         &mut space.built.variables.of_sites,
     );
-    let form = replace(&mut space.built.form, Quadratic::new(alloc));
-    let sites = labelling.sites() as usize;
-    let small = least_nodes(how.shares_nets(), sites, space.shared);
-    space.shared = space.shared || form.weights.len() >= small;
-    let bits = cut_small(alloc, form, small, how, &mut space.cutting)?;
+    let bits = cut_left(alloc, left, space, small, how)?;
     space.assign(&bits);
     Ok(take_best(problem, labelling, change, space))
 }

@@ -13,8 +13,8 @@ use std::alloc::{AllocError, Global};
 use strips::Strips;
 
 /// The most sites whose variables' numbers keep their memory for the next move. Those of more
-/// sites, over 1 MB, are given back once the energy is built, since the cut comes then, and its
-/// values are taken in the order of the sites.
+/// sites, over 1 MB, are given back once nothing is built by them any more: the values of a cut are
+/// taken in the order of the sites.
 const KEPT_SITES: usize = 1 << 18;
 
 /// Gives the memory of the numbers of many sites' variables back, but where the open sites are

@@ -1,5 +1,5 @@
 -- What is known of a move that is closed in on strip by strip, and what a strip sees of it.
-use Rattle.std.specs.Prelude.{◌≡◌, ◌≢◌, ℕ, ◌<◌, ◌≤◌, List, length, map, ℤ, pos, ◌-ℤ◌}
+use Rattle.std.specs.Prelude.{◌≡◌, ◌≢◌, ℕ, ◌<◌, List, length, map, ℤ, pos, ◌-ℤ◌}
 use Rattle.std.specs.List.{range_with_len}
 use Rattle.label_energies.specs.declared.change.Move.{Move}
 use Rattle.label_energies.specs.Energies.{Instance}
@@ -7,17 +7,8 @@ use Rattle.move_energy.specs.declared.choice.Choice.{Choice}
 use Rattle.move_energy.specs.declared.choice.Choice.TheVariants.{Open, Zero}
 use Rattle.move_energy.specs.Choices.{choice_at}
 use Rattle.site_bounds.specs.Parts.{site_weight}
-use Rattle.persistency.specs.Agreeing.{or_else}
 use Rattle.persistency.specs.Strips.{others_at}
 use Rattle.persistency.specs.Borders.{range_of, border_at, not_ones}
-
--- the view of a strip that ends at a site: below its end what was chosen at the start stays, and
--- from there on each site that was open is at 0
-pub record IsView (start view : List Choice) (to : ℕ) : Type 0 where
-  pub kept : (p : ℕ) → p < length view → p < to → choice_at start p ≢ Open
-      → choice_at view p ≡ choice_at start p
-  pub above : (p : ℕ) → p < length view → to ≤ p
-      → choice_at view p ≡ or_else (choice_at start p) Zero
 
 -- more is known than at the start: what was chosen then stays
 abbrev pub KeepsChosen : List Choice → List Choice → Type 0

@@ -5,12 +5,9 @@ ghost use Rattle.label_field.specs.Limits.{site_limit};
 ghost use Rattle.label_energies.specs.Energies.{IsInstance};
 ghost use Rattle.pseudo_bool.specs.Limits.{term_limit};
 ghost use Rattle.compile_cut.specs.Quadratics.{IsQuadraticBounded};
-ghost use Rattle.compile_cut.specs.Weights.{weights_size};
 ghost use Rattle.move_energy.specs.Choices.{choice_at, choice_of, value_of, open_count};
-ghost use Rattle.move_energy.specs.Choices.{AreOpenSites, IsNumbering};
+ghost use Rattle.move_energy.specs.Choices.{open_rank, AreOpenSites, IsNumbering, StandsFor};
 ghost use Rattle.move_energy.specs.declared.choice.Choice.{Choice as AnyChoice};
-ghost use Rattle.move_energy.specs.Limits.{weights_limit};
-ghost use Rattle.move_energy.specs.Problems.{Stands};
 ghost use Rattle.move_energy.specs.Weights.{AreWeights};
 ghost use Rattle.move_energy.specs.MoveValues.{move_value};
 ghost use Rattle.site_forms.specs.Numbers.{IsOverPairs, WhereRead};
@@ -20,14 +17,15 @@ ghost use Rattle.strips.specs.Closing.{IsBasisOf, CanClose};
 ghost use Rattle.strips.specs.Looking.{IsStageLeast};
 ghost use Rattle.strips.specs.Parts.{EndsWithStrip};
 ghost use Rattle.strips.specs.Sides.{IsAsTold};
-ghost use Rattle.strips.specs.Views.{IsView, KeepsChosen, strip_view};
+ghost use Rattle.strips.specs.Views.{KeepsChosen, strip_view};
 
-use crate::cutting::{cut_read, cut_strip, list_weights, write_open};
+use crate::cutting::{cut_open, cut_read, cut_strip, list_weights, write_open};
 use crate::material::{Basis, Material, Room, StripSites};
 use crate::opening::list_next;
 use crate::parting::read_weights;
 use crate::telling::tell_strip;
-use move_energy::{Choice, MoveEnergy};
+use compile_cut::Quadratic;
+use move_energy::{Choice, Variables};
 use plain_cut::BothSides;
 use site_bounds::SiteForm;
 use std::alloc::{AllocError, Global};
@@ -157,21 +155,50 @@ impl Strips {
         self.tell(known, &sides)
     }
 
-    /// Cuts all open sites by numbers alone, where those that count as 1 may be 0 at the end: a bit
-    /// for each open site, which are listed. The bits and what is known are the least values, with
-    /// the fewest ones, of what is open (`least`). So where each zero was known for good, each zero
-    /// of the bits is one for good (`zeros`). The sites are numbered in the memory of `list`, which
-    /// holds nothing of use afterwards. It refuses only where memory runs out.
+    /// Cuts all open sites, which are listed, from what each site weighed at the start, and numbers
+    /// them by site: a bit for each. The bits and what is known are the least values, with the
+    /// fewest ones, of what is open. It takes time in proportion to the open sites and their
+    /// neighbours, and at the first use to all sites. It refuses only where memory runs out.
+    pub fn look(
+        &mut self,
+        form: &SiteForm,
+        basis: &Basis,
+        known: &[Choice],
+        opened: &[u32],
+        numbers: &mut Vec<u32>,
+    ) -> Result<Vec<bool>, AllocError>
+        requires can { CanClose form.now basis.now known.now }
+        requires opened { AreOpenSites known.now opened.now }
+        ensures numbering { OnOk result (IsNumbering known.now numbers.new.items) }
+        ensures count { IfOk result (λ bits. length bits.items ≡ open_count known.now) }
+        ensures least { WhereRead form.now (λ m move f.
+            AreWeights m move f (choice_at basis.now.start.now) basis.now.weights.now →
+            IfOk result (λ bits. IsStageLeast m move f known.now bits.items)) }
+    {
+        list_weights(&mut self.weights, basis.weights, opened)?;
+        let material = Material {
+            form: *form,
+            start: basis.start,
+            known,
+        };
+        let bits = cut_open(&material, opened, &self.weights, &mut self.room, numbers)?;
+        Ok(bits)
+    }
+
+    /// The same, where it is not known what the sites weigh, by numbers alone: that is read of each
+    /// open site and its neighbours. Those that count as 1 may be 0 at the end. Where each zero was
+    /// known for good, each zero of the bits is one for good (`zeros`).
     pub fn look_read(
         &mut self,
         form: &SiteForm,
         known: &[Choice],
         opened: &[u32],
-        list: &mut Vec<u32>,
+        numbers: &mut Vec<u32>,
     ) -> Result<Vec<bool>, AllocError>
         requires over { IsOverPairs form.now }
         requires count { length known.now ≡ length form.now.at.now }
         requires opened { AreOpenSites known.now opened.now }
+        ensures numbering { OnOk result (IsNumbering known.now numbers.new.items) }
         ensures count { IfOk result (λ bits. length bits.items ≡ open_count known.now) }
         ensures least { WhereRead form.now (λ m move f. IsInstance m →
             IfOk result (λ bits. IsStageLeast m move f known.now bits.items)) }
@@ -180,76 +207,51 @@ impl Strips {
             IfOk result (λ bits. AreLeastZeros m.sites (move_value m move f)
             (λ p. choice_of (value_of known.now bits.items p)))) }
     {
-        swap(list, &mut self.room.numbers);
-        let to = known.len() as u32;
-        let both = cut_read(
-            form,
+        let to = form.at.len() as u32;
+        read_weights(&mut self.weights, form, known, 0, to, opened)?;
+        let material = Material {
+            form: *form,
+            start: known,
             known,
-            0,
-            to,
-            opened,
-            &mut self.weights,
-            &mut self.room,
-        )?;
-        swap(list, &mut self.room.numbers);
-        Ok(both.lower)
+        };
+        let bits = cut_open(&material, opened, &self.weights, &mut self.room, numbers)?;
+        Ok(bits)
     }
 
     /// Closes in all strips but the last, so many sites each and what the strip before left open.
-    /// It leaves the choices that are known then, and the form of the last strip, whose open sites
-    /// are listed: its least assignment is what is left to be found.
+    /// It leaves the choices that are known then, and a list of the open sites, all of the last
+    /// strip: their least values are what is left to be found. It numbers sites in the memory of
+    /// the variables' numbers, which hold nothing of use afterwards.
     pub fn close_in(
         &mut self,
         form: &SiteForm,
         basis: &Basis,
-        built: &mut MoveEnergy,
+        variables: &mut Variables,
         size: usize,
     ) -> Result<(), AllocError>
         requires begins { IsBasisOf form.now basis.now }
         requires some { 0 < size }
-        ensures count { OnOk result
-            (length built.new.variables.choices.items ≡ length form.now.at.now) }
-        ensures more { OnOk result (IsView basis.now.start.now
-            built.new.variables.choices.items (length form.now.at.now)) }
+        ensures can { OnOk result (CanClose form.now basis.now variables.new.choices.items) }
         ensures opened { OnOk result
-            (AreOpenSites built.new.variables.choices.items self.new.opened.items) }
-        ensures bounded { OnOk result (IsQuadraticBounded term_limit built.new.form) }
-        ensures few { OnOk result (vec_len built.new.form.weights ≤ site_limit) }
-        ensures stands { WhereRead form.now (λ m move f.
-            AreWeights m move f (choice_at basis.now.start.now) basis.now.weights.now →
-            OnOk result (Stands m move form.now.at.now built.new)) }
+            (AreOpenSites variables.new.choices.items self.new.opened.items) }
         ensures agree { WhereRead form.now (λ m move f.
             AreWeights m move f (choice_at basis.now.start.now) basis.now.weights.now →
             Agree m.sites (move_value m move f) (choice_at basis.now.start.now) →
             OnOk result (Agree m.sites (move_value m move f)
-            (choice_at built.new.variables.choices.items))) }
+            (choice_at variables.new.choices.items))) }
     {
-        know_start(&mut built.variables.choices, basis.start)?;
-        swap(&mut built.variables.of_sites, &mut self.room.numbers);
+        know_start(&mut variables.choices, basis.start)?;
+        swap(&mut variables.of_sites, &mut self.room.numbers);
         self.room.numbers.resize(basis.start.len(), 0)?;
         self.opened.clear();
         let all = basis.start.len() as u32;
-        let mut to = list_next(&built.variables.choices, &mut self.opened, 0, 0, all, size)?;
+        let mut to = list_next(&variables.choices, &mut self.opened, 0, 0, all, size)?;
         'strips: while to < all {
-            self.close_weighed(form, basis, &mut built.variables.choices, to)?;
+            self.close_weighed(form, basis, &mut variables.choices, to)?;
             let more = size.max(self.opened.len());
-            to = list_next(&built.variables.choices, &mut self.opened, 0, to, all, more)?;
+            to = list_next(&variables.choices, &mut self.opened, 0, to, all, more)?;
         }
-        swap(&mut built.variables.of_sites, &mut self.room.numbers);
-        list_weights(&mut self.weights, basis.weights, &self.opened)?;
-        let material = Material {
-            form: *form,
-            start: basis.start,
-            known: &built.variables.choices,
-        };
-        write_open(
-            &material,
-            &self.opened,
-            &self.weights,
-            &mut self.room,
-            &mut built.variables.of_sites,
-            &mut built.form,
-        )?;
+        swap(&mut variables.of_sites, &mut self.room.numbers);
         Ok(())
     }
 
@@ -264,45 +266,43 @@ impl Strips {
         Ok(())
     }
 
-    /// The form of a move over all its open sites, which are listed, from what each site weighs by
-    /// what is known, and their numbers by site. It takes time in proportion to the open sites and
+    /// The form of a move over all its open sites, which are listed, from what each site weighed at
+    /// the start, and their numbers by site. It takes time in proportion to the open sites and
     /// their neighbours, and at the first use to all sites. It refuses only where memory runs out.
     pub fn build_open(
         &mut self,
         form: &SiteForm,
-        weights: &[i64],
+        basis: &Basis,
+        known: &[Choice],
         opened: &[u32],
-        built: &mut MoveEnergy,
+        numbers: &mut Vec<u32>,
+        written: &mut Quadratic,
     ) -> Result<(), AllocError>
-        requires over { IsOverPairs form.now }
-        requires count { length built.old.variables.choices.items ≡ length form.now.at.now }
-        requires opened { AreOpenSites built.old.variables.choices.items opened.now }
-        requires weighed { length weights.now ≡ length form.now.at.now }
-        requires size { weights_size weights.now ≤ weights_limit }
-        ensures kept { built.new.variables.choices.items ≡ built.old.variables.choices.items }
-        ensures numbering { OnOk result (IsNumbering built.new.variables.choices.items
-            built.new.variables.of_sites.items) }
-        ensures bounded { OnOk result (IsQuadraticBounded term_limit built.new.form) }
-        ensures few { OnOk result (vec_len built.new.form.weights ≤ site_limit) }
+        requires can { CanClose form.now basis.now known.now }
+        requires opened { AreOpenSites known.now opened.now }
+        ensures numbering { OnOk result (IsNumbering known.now numbers.new.items) }
+        ensures bounded { OnOk result (IsQuadraticBounded term_limit written.new) }
+        ensures few { OnOk result (vec_len written.new.weights ≤ site_limit) }
+        ensures nodes { OnOk result (vec_len written.new.weights ≡ length opened.now) }
         ensures stands { WhereRead form.now (λ m move f.
-            AreWeights m move f (choice_at built.old.variables.choices.items) weights.now →
-            OnOk result (Stands m move form.now.at.now built.new)) }
+            AreWeights m move f (choice_at basis.now.start.now) basis.now.weights.now →
+            OnOk result (StandsFor m move f (choice_at known.now) written.new
+            (open_rank known.now))) }
     {
-        list_weights(&mut self.weights, weights, opened)?;
+        list_weights(&mut self.weights, basis.weights, opened)?;
         let material = Material {
             form: *form,
-            start: &built.variables.choices,
-            known: &built.variables.choices,
+            start: basis.start,
+            known,
         };
         write_open(
             &material,
             opened,
             &self.weights,
             &mut self.room,
-            &mut built.variables.of_sites,
-            &mut built.form,
-        )?;
-        Ok(())
+            numbers,
+            written,
+        )
     }
 
     /// The same, where it is not known what the sites weigh: that is read of each open site and its
@@ -310,43 +310,36 @@ impl Strips {
     pub fn build_read(
         &mut self,
         form: &SiteForm,
+        known: &[Choice],
         opened: &[u32],
-        built: &mut MoveEnergy,
+        numbers: &mut Vec<u32>,
+        written: &mut Quadratic,
     ) -> Result<(), AllocError>
         requires over { IsOverPairs form.now }
-        requires count { length built.old.variables.choices.items ≡ length form.now.at.now }
-        requires opened { AreOpenSites built.old.variables.choices.items opened.now }
-        ensures kept { built.new.variables.choices.items ≡ built.old.variables.choices.items }
-        ensures numbering { OnOk result (IsNumbering built.new.variables.choices.items
-            built.new.variables.of_sites.items) }
-        ensures bounded { OnOk result (IsQuadraticBounded term_limit built.new.form) }
-        ensures few { OnOk result (vec_len built.new.form.weights ≤ site_limit) }
-        ensures nodes { OnOk result (vec_len built.new.form.weights ≡ length opened.now) }
-        ensures stands { WhereRead form.now
-            (λ m move f. OnOk result (Stands m move form.now.at.now built.new)) }
+        requires count { length known.now ≡ length form.now.at.now }
+        requires opened { AreOpenSites known.now opened.now }
+        ensures numbering { OnOk result (IsNumbering known.now numbers.new.items) }
+        ensures bounded { OnOk result (IsQuadraticBounded term_limit written.new) }
+        ensures few { OnOk result (vec_len written.new.weights ≤ site_limit) }
+        ensures nodes { OnOk result (vec_len written.new.weights ≡ length opened.now) }
+        ensures stands { WhereRead form.now (λ m move f.
+            OnOk result (StandsFor m move f (choice_at known.now) written.new
+            (open_rank known.now))) }
     {
         let to = form.at.len() as u32;
-        read_weights(
-            &mut self.weights,
-            form,
-            &built.variables.choices,
-            0,
-            to,
-            opened,
-        )?;
+        read_weights(&mut self.weights, form, known, 0, to, opened)?;
         let material = Material {
             form: *form,
-            start: &built.variables.choices,
-            known: &built.variables.choices,
+            start: known,
+            known,
         };
         write_open(
             &material,
             opened,
             &self.weights,
             &mut self.room,
-            &mut built.variables.of_sites,
-            &mut built.form,
-        )?;
-        Ok(())
+            numbers,
+            written,
+        )
     }
 }

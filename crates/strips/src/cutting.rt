@@ -1,5 +1,6 @@
 //! A strip, built and cut, and the form of all that is open.
-ghost use Rattle.std.specs.Prelude.{◌≡◌, ◌≤◌, ◌<◌, All, map, length, vec_len, IfOk, OnOk};
+ghost use Rattle.std.specs.Prelude.{◌≡◌, ◌≤◌, ◌<◌, ℕ, All, List, map, length, vec_len};
+ghost use Rattle.std.specs.Prelude.{IfOk, OnOk};
 ghost use Rattle.label_field.specs.Limits.{site_limit};
 ghost use Rattle.label_energies.specs.Energies.{IsInstance};
 ghost use Rattle.pseudo_bool.specs.Limits.{term_limit};
@@ -12,13 +13,16 @@ ghost use Rattle.move_energy.specs.Weights.{weight_at};
 ghost use Rattle.site_bounds.specs.Parts.{site_weight};
 ghost use Rattle.site_forms.specs.Numbers.{IsOverPairs, WhereRead};
 ghost use Rattle.strips.specs.Building.{CanBuild, AreStartWeights, AreStripSites, AreWeighed};
+ghost use Rattle.strips.specs.Looking.{IsStageLeast};
+ghost use Rattle.strips.specs.RowForms.{form_in};
 ghost use Rattle.strips.specs.Sides.{AreBounds};
+ghost use Rattle.strips.specs.Strips.{IsRowForm};
 ghost use Rattle.strips.specs.Views.{strip_view};
 
 use crate::building::build_strip;
 use crate::material::{Material, Room, StripSites};
 use crate::parting::read_weights;
-use crate::sides::{row_sides, write_form};
+use crate::sides::{row_side, row_sides, write_form};
 use compile_cut::Quadratic;
 use move_energy::Choice;
 use plain_cut::BothSides;
@@ -55,9 +59,50 @@ pub(crate) fn cut_strip(
     Ok(sides)
 }
 
-/// Writes the form of all open sites, which are listed with what they weighed at the start, and
-/// numbers them by site. It takes time in proportion to these sites and their neighbours, and at
+/// Lays the form of all open sites in rows. They are listed with what they weighed at the start,
+/// and get numbers by site. It takes time in proportion to these sites and their neighbours, and at
 /// the first use of the numbers to all sites.
+fn lay_open(
+    material: &Material,
+    opened: &[u32],
+    weights: &[i64],
+    room: &mut Room,
+    numbers: &mut Vec<u32>,
+) -> Result<(), AllocError>
+    requires can { CanBuild material.now }
+    requires opened { AreOpenSites material.now.known.now opened.now }
+    requires count { length weights.now ≡ length opened.now }
+    requires size { weights_size weights.now ≤ weights_limit }
+    ensures numbering { OnOk result (IsNumbering material.now.known.now numbers.new.items) }
+    ensures laid { OnOk result
+        ((ends : List ℕ) × IsRowForm (length opened.now) ends room.new.form) }
+    ensures stands { WhereRead material.now.form (λ m move f.
+        weights.now ≡ map (site_weight m move f (choice_at material.now.start.now)) opened.now →
+        OnOk result (StandsFor m move f (choice_at material.now.known.now)
+        (form_in room.new.form) (open_rank material.now.known.now))) }
+{
+    let alloc = *room.more.allocator();
+    room.stand_again(alloc);
+    numbers.resize(material.known.len(), 0)?;
+    let sites = StripSites {
+        from: 0,
+        to: material.known.len() as u32,
+        opened,
+        weights,
+    };
+    build_strip(
+        material,
+        &sites,
+        numbers,
+        &mut room.form,
+        &mut room.weights,
+        &mut room.more,
+    )?;
+    Ok(())
+}
+
+/// Writes the form of all open sites, which are listed with what they weighed at the start, and
+/// numbers them by site.
 pub(crate) fn write_open(
     material: &Material,
     opened: &[u32],
@@ -79,25 +124,35 @@ pub(crate) fn write_open(
         OnOk result (StandsFor m move f (choice_at material.now.known.now) written.new
         (open_rank material.now.known.now))) }
 {
-    let alloc = *room.more.allocator();
-    room.stand_again(alloc);
-    numbers.resize(material.known.len(), 0)?;
-    let sites = StripSites {
-        from: 0,
-        to: material.known.len() as u32,
-        opened,
-        weights,
-    };
-    build_strip(
-        material,
-        &sites,
-        numbers,
-        &mut room.form,
-        &mut room.weights,
-        &mut room.more,
-    )?;
+    lay_open(material, opened, weights, room, numbers)?;
     write_form(&room.form, written)?;
     Ok(())
+}
+
+/// Cuts all open sites, which are listed with what they weighed at the start, and numbers them by
+/// site: a bit for each. The bits and what is known are the least values, with the fewest ones, of
+/// what is open.
+pub(crate) fn cut_open(
+    material: &Material,
+    opened: &[u32],
+    weights: &[i64],
+    room: &mut Room,
+    numbers: &mut Vec<u32>,
+) -> Result<Vec<bool>, AllocError>
+    requires can { CanBuild material.now }
+    requires opened { AreOpenSites material.now.known.now opened.now }
+    requires count { length weights.now ≡ length opened.now }
+    requires size { weights_size weights.now ≤ weights_limit }
+    ensures numbering { OnOk result (IsNumbering material.now.known.now numbers.new.items) }
+    ensures count { IfOk result (λ bits. length bits.items ≡ length opened.now) }
+    ensures least { WhereRead material.now.form (λ m move f.
+        weights.now ≡ map (site_weight m move f (choice_at material.now.start.now)) opened.now →
+        IfOk result (λ bits. IsStageLeast m move f material.now.known.now bits.items)) }
+{
+    let alloc = *room.more.allocator();
+    lay_open(material, opened, weights, room, numbers)?;
+    let bits = row_side(alloc, &mut room.form, &mut room.space)?;
+    Ok(bits)
 }
 
 /// Lists what the listed sites weighed at the start.

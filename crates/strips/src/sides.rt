@@ -15,7 +15,7 @@ ghost use Rattle.strips.specs.Strips.{IsRowForm};
 
 use crate::material::RowForm;
 use compile_cut::{Quadratic, sink_capacities, source_capacities};
-use plain_cut::{BothSides, Workspace, both_sides_of};
+use plain_cut::{BothSides, Workspace, both_sides_of, one_side_of};
 use sink_distances::Laid;
 use std::alloc::{AllocError, Global};
 use std::mem::replace;
@@ -64,6 +64,23 @@ pub(crate) fn row_sides(
     let laid = take_net(alloc, form)?;
     let both = both_sides_of(alloc, laid, borders, cutting)?;
     Ok(both)
+}
+
+/// The least assignment with the fewest ones of a form in rows, a bit for each node: the lower of
+/// those that `row_sides` answers. Refuses only where memory runs out.
+pub(crate) fn row_side(
+    alloc: Global,
+    form: &mut RowForm,
+    cutting: &mut Workspace,
+) -> Result<Vec<bool>, AllocError>
+    requires laid { (n : ℕ) × (ends : List ℕ) × IsRowForm n ends form.old }
+    ensures bits { IfOk result (λ side. length side.items ≡ vec_len form.old.weights) }
+    ensures least { IfOk result (λ side. IsSmallestLeast (vec_len form.old.weights)
+        (quadratic_value (form_in form.old)) (assignment side.items)) }
+{
+    let laid = take_net(alloc, form)?;
+    let side = one_side_of(alloc, laid, cutting)?;
+    Ok(side)
 }
 
 /// Writes a form in rows as a sum of terms. A pair that saves nothing is left out.

@@ -16,7 +16,7 @@ returns-clause-built g c = λ m meant are.
     let pairs = pairs_meant _ _ _ m c.requires.asked.posed meant in (
       prepared.0,
       λ bits least. costed_least m c.args.alpha c.args.at.now c.prepare.new.self.variables.choices.items c.prepare.new.self.form c.add_label_costs.new.form c.args.costs.now
-          (assignment bits) pairs (c.requires.asked.asked.sites ∙ sym meant.sites_are) c.in_ok-prepare.ensures.opened prepared.1 are c.in_ok-add_label_costs.ensures.adds least,
+          (assignment bits.items) pairs (c.requires.asked.asked.sites ∙ sym meant.sites_are) c.in_ok-prepare.ensures.opened prepared.1 are c.in_ok-add_label_costs.ensures.adds least,
     )
 
 pub returns-clause-left : goal.returns-clause-left
@@ -25,6 +25,5 @@ returns-clause-left g c =
     record {
       near = λ listed. absurd (cc (listed));
       choices = c.in_ok-prepare.ensures.opened.count;
-      bounded = c.in_ok-add_label_costs.ensures.bounded;
-      few = omega (arith, c.in_ok-add_label_costs.ensures.nodes, form.few);
+      sized = (c.in_ok-add_label_costs.ensures.bounded, omega (arith, c.in_ok-add_label_costs.ensures.nodes, form.few));
     }

@@ -27,37 +27,36 @@ returns-in_err-decide g c = record {
 
 pub returns : goal.returns
 returns g c =
-    let form = c.in_ok-build_strips.ensures.form in
+    let left = c.in_ok-strip.strip in
     record {
-      of_problem = c.build_strips.ensures.of_problem;
-      form = form_kept _ _ c.args.problem.now c.args.at.now c.args.change c.decide.new.space c.build_strips.new.space
-          c.build_strips.ensures.known.0 c.build_strips.ensures.known.1 c.in_ok-decide.ensures.weighed.read;
+      of_problem = c.leave_strip.ensures.of_problem;
+      form = form_kept _ _ c.args.problem.now c.args.at.now c.args.change c.decide.new.space c.leave_strip.new.space
+          c.leave_strip.ensures.known.0 c.leave_strip.ensures.known.1 c.in_ok-decide.ensures.weighed.read;
       left = record {
-        near = c.in_ok-build_strips.ensures.near;
-        choices = c.in_ok-build_strips.ensures.choices;
-        bounded = form.bounded;
-        few = form.few;
+        near = c.in_ok-strip.ensures.near;
+        choices = c.in_ok-strip.ensures.choices;
+        sized = c.in_ok-strip.ensures.left.sized;
       };
-      built = agreed_built _ _ c.args.problem.now c.args.at.now c.args.change c.build_strips.new.space c.requires.asked.posed
-          (λ m meant. (c.in_ok-decide.ensures.decided m meant).0) form
+      built = agreed_built _ _ c.args.problem.now c.args.at.now c.args.change c.leave_strip.new.space left c.requires.asked.posed
+          (λ m meant. (c.in_ok-decide.ensures.decided m meant).0) c.in_ok-strip.ensures.left
           (λ m meant.
           let decided = c.in_ok-decide.ensures.decided m meant in
-          c.in_ok-build_strips.ensures.agree m meant
+          c.in_ok-strip.ensures.agree m meant
           (decided_agree m c.args.change (labelling c.args.at.now) (choice_at c.decide.new.space.built.variables.choices.items) (pairs_meant _ _ _ m c.requires.asked.posed meant)
           decided.0 decided.1));
     }
 
 pub returns-then-branch : goal.returns-then-branch
 returns-then-branch g c =
-    plain_built _ _ c.args.problem.now c.args.at.now c.args.change c.close_apart.new.space c.build_rest.new.space c.requires.asked.posed
-    (c.in_ok-close_apart.ensures.read c.if-branch.true) c.build_rest.ensures.same c.build_rest.ensures.kept c.in_ok-build_rest.ensures.form
+    plain_built _ _ c.args.problem.now c.args.at.now c.args.change c.close_apart.new.space c.leave_rest.new.space c.in_ok-rest.rest c.requires.asked.posed
+    (c.in_ok-close_apart.ensures.read c.if-branch.true) c.leave_rest.ensures.same c.leave_rest.ensures.kept c.in_ok-rest.ensures.left
     (λ m meant. c.in_ok-close_apart.ensures.agree m meant c.if-branch.true)
 
-pub returns-in_err-build_rest : goal.returns-in_err-build_rest
-returns-in_err-build_rest g c =
-    let p = err_from_is_err_and c.from_residual-in_err-build_rest.result c.from_residual-in_err-build_rest.ensures.1 in
+pub returns-in_err-rest : goal.returns-in_err-rest
+returns-in_err-rest g c =
+    let p = err_from_is_err_and c.from_residual-in_err-rest.result c.from_residual-in_err-rest.ensures.1 in
     record {
-      of_problem = still_of_problem _ _ c.args.problem.now c.close_apart.new.space c.build_rest.new.space c.build_rest.ensures.same c.in_ok-close_apart.ensures.of_problem;
+      of_problem = still_of_problem _ _ c.args.problem.now c.close_apart.new.space c.leave_rest.new.space c.leave_rest.ensures.same c.in_ok-close_apart.ensures.of_problem;
       left = rw (p.1) tt;
       form = rw (p.1) tt;
       built = λ m meant. rw (p.1, p.2) tt;
@@ -65,8 +64,8 @@ returns-in_err-build_rest g c =
 
 pub returns-then-space-size : goal.returns-then-space-size
 returns-then-space-size g c =
-    plain_built _ _ c.args.problem.now c.args.at.now c.args.change c.decide.new.space c.build_open.new.space c.requires.asked.posed
-    c.in_ok-decide.ensures.weighed.read c.build_open.ensures.same c.build_open.ensures.kept c.in_ok-build_open.ensures.form
+    plain_built _ _ c.args.problem.now c.args.at.now c.args.change c.decide.new.space c.leave_open.new.space c.in_ok-open.open c.requires.asked.posed
+    c.in_ok-decide.ensures.weighed.read c.leave_open.ensures.same c.leave_open.ensures.kept c.in_ok-open.ensures.left
     (λ m meant.
     let decided = c.in_ok-decide.ensures.decided m meant in
     decided_agree m c.args.change (labelling c.args.at.now) (choice_at c.decide.new.space.built.variables.choices.items) (pairs_meant _ _ _ m c.requires.asked.posed meant)

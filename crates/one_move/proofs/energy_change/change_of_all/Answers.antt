@@ -1,4 +1,4 @@
-use Rattle.std.proofs.Common.{◌≤◌, ◌+◌, ◌-◌, length, w64, to_z, arith}
+use Rattle.std.proofs.Common.{◌≤◌, ◌+◌, length, w64, to_z, arith}
 use Rattle.std.proofs.lemmas.Int.{ints}
 use Rattle.move_energy.specs.BySite.{neighbours_start, degree}
 use Rattle.one_move.specs.Turning.{turned_below}

@@ -1,4 +1,4 @@
-use Rattle.std.proofs.Common.{◌∙◌, ◌≤◌, ◌-◌, sym, arith}
+use Rattle.std.proofs.Common.{◌∙◌, sym}
 use Rattle.move_energy.specs.BySite.{degree}
 use Rattle.move_energy.proofs.SiteSums.{sum_passed}
 use Rattle.one_move.proofs.Rising.{negated}

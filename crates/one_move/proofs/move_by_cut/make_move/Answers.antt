@@ -1,11 +1,9 @@
-use Rattle.std.proofs.Common.{rules, ◌+◌, ◌<◌, ◌≤◌, ◌∙◌, vec_len, All, List, refl, ap, sym, subst, length, IsTrue, ℕ, arith}
+use Rattle.std.proofs.Common.{rules, ◌<◌, ◌∙◌, All, List, refl, ap, sym, subst, length, IsTrue, ℕ, arith}
 use Rattle.std.proofs.lemmas.Result.{err_from_is_err_and}
 use Rattle.label_energies.specs.Energies.{labelling}
 use Rattle.label_energies.specs.Moves.{IsMoveOf}
-use Rattle.pseudo_bool.specs.Energies.{assignment}
-use Rattle.compile_cut.specs.declared.quadratic.Quadratic.{Quadratic}
-use Rattle.compile_cut.specs.Quadratics.{quadratic_value, IsQuadraticBounded}
-use Rattle.site_bounds.specs.Decisions.{IsSmallestLeast}
+use Rattle.move_energy.specs.declared.choice.Choice.{Choice}
+use Rattle.move_energy.specs.Choices.{AreAssigned, AreOpenSites}
 use Rattle.one_move.proofs.Answers.{cut_refusal, cut_may_come, pair_may_come, pair_refusal, taken_free, costs_costly}
 use Rattle.site_bounds.specs.declared.sites.Deciding.{Deciding}
 use Rattle.cost_store.proofs.Meaning.{pairs_meant}
@@ -46,9 +44,9 @@ returns-clause-moved g c = λ m meant.
     let here = subst P (c.labels.ensures.value ∙ c.requires.fits.labels ∙ sym meant.labels_are) (c.is_below.ensures.0 c.if-not-is_below.false) in
     let ready = rw (c.as_slice.ensures.value) at (c.in-Ok.ensures.built m meant) in
     let pairs = pairs_meant _ _ _ m c.requires.posed meant in
-    let Q : Quadratic → Type 0 = λ q. IsSmallestLeast (vec_len q.weights) (quadratic_value q) (assignment c.in_ok-bits.bits.items) in
-    let least = ready.1 c.in_ok-bits.bits.items (subst Q c.replace-form.ensures.value c.in_ok-bits.ensures.least) in
-    let assigned = rw (c.deref.ensures.value) at c.assign.ensures.assigned in
+    let least = ready.1 c.in_ok-bits.bits c.in_ok-bits.ensures.least in
+    let A : List Choice → Type 0 = λ cs. AreAssigned cs c.in_ok-bits.bits.items c.assign.new.self.built.variables.choices.items in
+    let assigned = subst A c.cut_left.ensures.kept (rw (c.deref.ensures.value) at c.assign.ensures.assigned) in
     let values = assigned_least m c.args.change (labelling c.args.labelling.now.at) _ _ c.in_ok-bits.bits.items pairs
     (c.in-Ok.ensures.left.choices ∙ ap (λ (xs : List ℕ). length xs) c.as_slice.ensures.value ∙ c.requires.fits.sites ∙ sym meant.sites_are) assigned least in
     let best = c.take_best.ensures.best m meant values in
@@ -103,18 +101,12 @@ returns-in-Err-OutOfMemory-clause-unchanged g c = refl
 pub returns-in-Err-OutOfMemory-clause-refused : goal.returns-in-Err-OutOfMemory-clause-refused
 returns-in-Err-OutOfMemory-clause-refused g c = tt
 
-pub cut_small-requires-clause-bounded : goal.cut_small-requires-clause-bounded
-cut_small-requires-clause-bounded g c =
-    let P : Quadratic → Type 0 = λ q. IsQuadraticBounded 8388608 q in
-    subst P (sym c.replace-form.ensures.value) c.in-Ok.ensures.left.bounded
-
-pub cut_small-requires-clause-few : goal.cut_small-requires-clause-few
-cut_small-requires-clause-few g c =
-    let P : Quadratic → Type 0 = λ q. vec_len q.weights ≤ 1048576 + 256 in
-    subst P (sym c.replace-form.ensures.value) c.in-Ok.ensures.left.few
+pub cut_left-requires-clause-sized : goal.cut_left-requires-clause-sized
+cut_left-requires-clause-sized g c = c.in-Ok.ensures.left.sized
 
 pub returns-in_err-bits-clause-of_problem : goal.returns-in_err-bits-clause-of_problem
-returns-in_err-bits-clause-of_problem g c = c.in-Ok.ensures.of_problem
+returns-in_err-bits-clause-of_problem g c =
+    still_of_problem _ _ c.args.problem.now c.build_move.new.space c.cut_left.new.space c.cut_left.ensures.same c.in-Ok.ensures.of_problem
 
 pub returns-in_err-bits-clause-sizes : goal.returns-in_err-bits-clause-sizes
 returns-in_err-bits-clause-sizes g c = record { labels = refl; sites = refl }
@@ -136,22 +128,29 @@ take_best-requires-clause-below g c = λ κs lives.
 
 pub take_best-requires-clause-choices : goal.take_best-requires-clause-choices
 take_best-requires-clause-choices g c = λ κs lives.
-    c.assign.ensures.assigned.count ∙ c.in-Ok.ensures.left.choices ∙ ap (λ (xs : List ℕ). length xs) c.as_slice.ensures.value
+    c.assign.ensures.assigned.count ∙ ap (λ (cs : List Choice). length cs) c.cut_left.ensures.kept ∙ c.in-Ok.ensures.left.choices ∙ ap (λ (xs : List ℕ). length xs) c.as_slice.ensures.value
 
 pub take_best-requires-clause-changes : goal.take_best-requires-clause-changes
 take_best-requires-clause-changes g c = λ κs lives listed.
-    let same = c.assign.ensures.same in
+    let same = c.assign.ensures.same ∙ c.cut_left.ensures.same in
     let yes = subst (λ (d : Deciding). IsTrue d.lists.listed) same listed in
     let near = rw (c.as_slice.ensures.value) at (c.in-Ok.ensures.left.near yes) in
-    near_changes c.args.change c.args.labelling.now.at _ c.assign.new.self _
-    (c.in-Ok.ensures.left.choices ∙ ap (λ (xs : List ℕ). length xs) c.as_slice.ensures.value) near same c.assign.ensures.assigned
+    let A : List Choice → Type 0 = λ cs. AreAssigned cs c.deref.result.now c.assign.new.self.built.variables.choices.items in
+    near_changes c.args.change c.args.labelling.now.at c.build_move.new.space c.assign.new.self _
+    (c.in-Ok.ensures.left.choices ∙ ap (λ (xs : List ℕ). length xs) c.as_slice.ensures.value) near same (subst A c.cut_left.ensures.kept c.assign.ensures.assigned)
 
 pub returns-clause-of_problem : goal.returns-clause-of_problem
 returns-clause-of_problem g c =
-    still_of_problem _ _ c.args.problem.now c.build_move.new.space c.assign.new.self c.assign.ensures.same c.in-Ok.ensures.of_problem
+    still_of_problem _ _ c.args.problem.now c.build_move.new.space c.assign.new.self (c.assign.ensures.same ∙ c.cut_left.ensures.same) c.in-Ok.ensures.of_problem
 
 pub assign-requires : goal.assign-requires
-assign-requires g c = λ listed. (c.in-Ok.ensures.left.near listed).opened
+assign-requires g c = λ listed.
+    let same = c.cut_left.ensures.same in
+    let lists = c.build_move.new.space.deciding.lists.opened.items in
+    let D : Deciding → Type 0 = λ d. AreOpenSites c.cut_left.new.space.built.variables.choices.items d.lists.opened.items in
+    let K : List Choice → Type 0 = λ cs. AreOpenSites cs lists in
+    let yes = subst (λ (d : Deciding). IsTrue d.lists.listed) same listed in
+    subst D (sym same) (subst K (sym c.cut_left.ensures.kept) (c.in-Ok.ensures.left.near yes).opened)
 
 pub returns-clause-sizes : goal.returns-clause-sizes
 returns-clause-sizes g c = c.take_best.ensures.sizes
@@ -213,5 +212,5 @@ returns-clause-taken g c = c.take_best.ensures.taken
 pub take_best-requires-clause-form : goal.take_best-requires-clause-form
 take_best-requires-clause-form g c = λ κs lives swap.
     let P : List ℕ → Type 0 = λ f. HasFormOf g.F.Fn g.V.Fn c.args.problem.now f c.args.change c.build_move.new.space in
-    still_form _ _ c.args.problem.now c.args.labelling.now.at c.args.change c.build_move.new.space c.assign.new.self c.assign.ensures.same
+    still_form _ _ c.args.problem.now c.args.labelling.now.at c.args.change c.build_move.new.space c.assign.new.self (c.assign.ensures.same ∙ c.cut_left.ensures.same)
     (subst P c.as_slice.ensures.value (c.in-Ok.ensures.form swap))

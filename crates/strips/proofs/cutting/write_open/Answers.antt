@@ -1,39 +1,19 @@
-use Rattle.std.proofs.Common.{◌≡◌, ◌≤◌, ◌∙◌, ℕ, length, subst, arith}
+use Rattle.std.proofs.Common.{◌∙◌}
 use Rattle.label_energies.specs.Energies.{labelling}
-use Rattle.move_energy.specs.declared.choice.Choice.{Choice}
-use Rattle.move_energy.specs.Choices.{choice_at, open_rank, StandsFor}
+use Rattle.move_energy.specs.Choices.{choice_at, open_rank}
 use Rattle.strips.specs.RowForms.{form_in}
-use Rattle.strips.specs.Views.{strip_view}
-use Rattle.strips.proofs.Numbering.{numbers_whole}
-use Rattle.strips.proofs.Views.{whole_is, whole_rank}
 use Rattle.strips.proofs.Writing.{stands_on}
-use Rattle.strips.proofs.Zeros.{whole_listed}
 use Rattle.strips.proofs.cutting.write_open.Goals as goal
 
-pub build_strip-requires-clause-opened : goal.build_strip-requires-clause-opened
-build_strip-requires-clause-opened c = whole_listed c.args.material.now.known.now c.args.opened.now (length c.args.material.now.known.now) (omega arith) c.requires.opened
-
 pub write_form-requires : goal.write_form-requires
-write_form-requires c = record { laid = (_, _, c.in_ok-build_strip.ensures.sized.rows) }
+write_form-requires c = record { laid = (_, _, c.in_ok-lay_open.ensures.laid.1) }
+
+pub returns-clause-nodes : goal.returns-clause-nodes
+returns-clause-nodes c = c.in_ok-write_form.ensures.nodes ∙ c.in_ok-lay_open.ensures.laid.1.nodes
 
 pub returns-clause-stands : goal.returns-clause-stands
 returns-clause-stands c = λ m move read starts.
     let a = c.args in
-    let f = labelling a.material.now.form.at.now in
     let known = a.material.now.known.now in
-    let to = length known in
-    let all : length known ≤ to = omega arith in
-    let form = form_in c.build_strip.new.form in
-    let P : (ℕ → Choice) → Type 0 = λ choice. StandsFor m move f choice form (open_rank (strip_view known 0 to)) in
-    let Q : (ℕ → ℕ) → Type 0 = λ variable. StandsFor m move f (choice_at known) form variable in
-    stands_on m move f (choice_at known) (open_rank known) form c.write_form.new.written
-    c.in_ok-write_form.ensures.nodes c.in_ok-write_form.ensures.value
-    (subst Q (whole_rank known to all) (subst P (whole_is known to all) (c.in_ok-build_strip.ensures.built m move read starts).stands))
-
-pub returns-clause-numbering : goal.returns-clause-numbering
-returns-clause-numbering c =
-    let a = c.args in
-    let known = a.material.now.known.now in
-    let built = c.in_ok-build_strip.ensures in
-    let long : length c.resize.new.self.items ≡ length known = omega (arith, c.in_ok-resize.ensures.len, c.resize.new.self.ok.0) in
-    numbers_whole known (length known) c.build_strip.new.numbers.items (omega arith) (built.kept (omega (arith, long)) ∙ long) built.numbering.each
+    stands_on m move (labelling a.material.now.form.at.now) (choice_at known) (open_rank known) (form_in c.lay_open.new.room.form) c.write_form.new.written
+    c.in_ok-write_form.ensures.nodes c.in_ok-write_form.ensures.value (c.in_ok-lay_open.ensures.stands m move read starts)

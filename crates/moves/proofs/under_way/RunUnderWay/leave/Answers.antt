@@ -1,4 +1,4 @@
-use Rattle.std.proofs.Common.{◌<◌, ℕ, List, length, Option, None, inr, sym, subst}
+use Rattle.std.proofs.Common.{◌<◌, ℕ, length, Option, None, inr, sym, subst}
 use Rattle.label_energies.specs.Chains.{moves_of}
 use Rattle.moves.specs.declared.runs.Ended.{Ended}
 use Rattle.moves.specs.Courses.{IsBetweenMoves, StandsOnCourse}

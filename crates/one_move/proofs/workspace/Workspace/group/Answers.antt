@@ -1,4 +1,4 @@
-use Rattle.std.proofs.Common.{◌≡◌, ◌∙◌, List, ℕ, length, vec_len, ap, sym, arith}
+use Rattle.std.proofs.Common.{◌∙◌, List, ℕ, length, vec_len, ap, sym, arith}
 use Rattle.move_energy.proofs.SiteSums.{test_true}
 use Rattle.one_move.proofs.workspace.Workspace.group.Goals as goal
 

@@ -11,10 +11,10 @@ use Rattle.strips.proofs.closing.Strips.close_in.Given as goal
 abbrev pub invariant-strips : goal.invariant-strips
 invariant-strips l = record {
   inside : l.to ≤ l.all;
-  can : CanClose l.form l.basis l.built.variables.choices.items;
-  opened : AreOpenSites (strip_view l.built.variables.choices.items 0 l.to) l.self.opened.items;
+  can : CanClose l.form l.basis l.variables.choices.items;
+  opened : AreOpenSites (strip_view l.variables.choices.items 0 l.to) l.self.opened.items;
   agree : WhereRead l.form (λ m move f. AreWeights m move f (choice_at l.basis.start.now) l.basis.weights.now → Agree m.sites (move_value m move f) (choice_at l.basis.start.now)
-      → Agree m.sites (move_value m move f) (choice_at l.built.variables.choices.items));
+      → Agree m.sites (move_value m move f) (choice_at l.variables.choices.items));
 }
 
 abbrev pub decreases-strips : goal.decreases-strips

@@ -1,15 +1,16 @@
 use Rattle.std.proofs.Common.{◌≤◌, ◌∙◌, List, ℕ, ℤ, length, ap, sym, subst}
+use Rattle.std.specs.Global.{Vec}
 use Rattle.compile_cut.specs.Weights.{weights_size}
 use Rattle.label_energies.specs.Energies.{labelling}
 use Rattle.move_energy.specs.declared.choice.Choice.{Choice}
-use Rattle.move_energy.specs.Choices.{choice_at}
+use Rattle.move_energy.specs.Choices.{choice_at, AreOpenSites}
 use Rattle.move_energy.specs.Limits.{weights_limit}
-use Rattle.move_energy.specs.Problems.{Stands}
 use Rattle.move_energy.specs.Weights.{AreWeights}
 use Rattle.move_energy.specs.MoveValues.{move_value}
 use Rattle.persistency.specs.Agreeing.{Agree}
+use Rattle.one_move.specs.Building.{TellsLeft}
 use Rattle.one_move.proofs.Forms.{read_meant}
-use Rattle.one_move.proofs.building.build_strips.Goals as goal
+use Rattle.one_move.proofs.building.leave_strip.Goals as goal
 
 pub close_in-requires-clause-begins : goal.close_in-requires-clause-begins
 close_in-requires-clause-begins g c =
@@ -25,34 +26,53 @@ close_in-requires-clause-begins g c =
       size = subst S (sym weights) c.requires.weighed.sized.1;
     }
 
-pub returns-then-space-clause-form : goal.returns-then-space-clause-form
-returns-then-space-clause-form g c =
+pub leave_weighed-requires-clause-can : goal.leave_weighed-requires-clause-can
+leave_weighed-requires-clause-can g c = rw c.deref-3.ensures.value c.in_ok-close_in.ensures.can
+
+pub leave_weighed-requires-clause-opened : goal.leave_weighed-requires-clause-opened
+leave_weighed-requires-clause-opened g c =
+    let choices = c.close_in.new.variables.choices.items in
+    let O : List ℕ → Type 0 = λ sites. AreOpenSites choices sites in
+    let V : Vec ℕ → Type 0 = λ v. AreOpenSites choices v.items in
+    let K : List Choice → Type 0 = λ ks. AreOpenSites ks c.deref-4.result.now in
+    subst K (sym c.deref-3.ensures.value) (subst O (sym c.deref-4.ensures.value) (subst V (sym c.swap-2.ensures.x_after) c.in_ok-close_in.ensures.opened))
+
+pub returns-then-space-clause-of_problem : goal.returns-then-space-clause-of_problem
+returns-then-space-clause-of_problem g c = c.requires.weighed.read.of_problem
+
+pub returns-then-space-clause-left : goal.returns-then-space-clause-left
+returns-then-space-clause-left g c =
     let a = c.args in
-    let form = c.form-form.ensures in
-    let built = c.in_ok-close_in.ensures in
+    let numbers = c.requires.weighed.read.numbers in
+    let choices = c.close_in.new.variables.choices.items in
+    let from = c.form-form.ensures.at in
     let start = c.deref.ensures.value ∙ ap (λ (v : _). v.items) c.swap.ensures.x_after in
+    let new = c.leave_weighed.new.written in
+    let left = c.in_ok-left.left in
     record {
-      bounded = built.bounded;
-      few = built.few;
-      stands = read_meant _ _ a.problem.now a.at.now a.change a.space.now.deciding.numbers c.form-form.result (λ m f. Stands m a.change f c.close_in.new.built)
-          c.requires.weighed.read.numbers.allowed c.requires.weighed.read.numbers.read form.at form.of
+      sized = c.in_ok-left.ensures.sized;
+      tells = read_meant _ _ a.problem.now a.at.now a.change a.space.now.deciding.numbers c.form-form.result (λ m f. TellsLeft m a.change (labelling f) choices new left)
+          numbers.allowed numbers.read from c.form-form.ensures.of
           (λ m meant is.
           let F : List ℕ → Type 0 = λ f. AreWeights m a.change (labelling f) (choice_at c.deref.result.now) c.deref-2.result.now in
           let C : List Choice → Type 0 = λ cs. AreWeights m a.change (labelling a.at.now) (choice_at cs) c.deref-2.result.now in
           let W : List ℤ → Type 0 = λ ws. AreWeights m a.change (labelling a.at.now) (choice_at a.space.now.built.variables.choices.items) ws in
-          built.stands m a.change is (subst F (sym form.at) (subst C (sym start) (subst W (sym c.deref-2.ensures.value) (c.requires.weighed.weights m meant)))));
+          let T : List Choice → Type 0 = λ cs. TellsLeft m a.change (labelling c.form-form.result.at.now) cs new left in
+          subst T c.deref-3.ensures.value
+          (c.in_ok-left.ensures.tells m a.change is (subst F (sym from) (subst C (sym start) (subst W (sym c.deref-2.ensures.value) (c.requires.weighed.weights m meant))))));
     }
 
 pub returns-then-space-clause-agree : goal.returns-then-space-clause-agree
 returns-then-space-clause-agree g c =
     let a = c.args in
+    let numbers = c.requires.weighed.read.numbers in
     let form = c.form-form.ensures in
     let old = a.space.now.built.variables.choices.items in
-    let new = c.close_in.new.built.variables.choices.items in
+    let new = c.close_in.new.variables.choices.items in
     let start = c.deref.ensures.value ∙ ap (λ (v : _). v.items) c.swap.ensures.x_after in
     read_meant _ _ a.problem.now a.at.now a.change a.space.now.deciding.numbers c.form-form.result
     (λ m f. Agree m.sites (move_value m a.change (labelling f)) (choice_at old) → Agree m.sites (move_value m a.change (labelling f)) (choice_at new))
-    c.requires.weighed.read.numbers.allowed c.requires.weighed.read.numbers.read form.at form.of
+    numbers.allowed numbers.read form.at form.of
     (λ m meant is agree.
     let F : List ℕ → Type 0 = λ f. AreWeights m a.change (labelling f) (choice_at c.deref.result.now) c.deref-2.result.now in
     let C : List Choice → Type 0 = λ cs. AreWeights m a.change (labelling a.at.now) (choice_at cs) c.deref-2.result.now in
@@ -61,34 +81,42 @@ returns-then-space-clause-agree g c =
     c.in_ok-close_in.ensures.agree m a.change is (subst F (sym form.at) (subst C (sym start) (subst W (sym c.deref-2.ensures.value) (c.requires.weighed.weights m meant))))
     (subst A (sym start) agree))
 
-pub returns-else-space-clause-form : goal.returns-else-space-clause-form
-returns-else-space-clause-form g c =
+pub returns-clause-of_problem : goal.returns-clause-of_problem
+returns-clause-of_problem g c = c.requires.weighed.read.of_problem
+
+pub returns-clause-left : goal.returns-clause-left
+returns-clause-left g c =
     let a = c.args in
-    let form = c.form-form.ensures in
-    let built = c.in_ok-close_in.ensures in
+    let numbers = c.requires.weighed.read.numbers in
+    let choices = c.close_in.new.variables.choices.items in
+    let from = c.form-form.ensures.at in
     let start = c.deref.ensures.value ∙ ap (λ (v : _). v.items) c.swap.ensures.x_after in
+    let new = c.leave_weighed.new.written in
+    let left = c.in_ok-left.left in
     record {
-      bounded = built.bounded;
-      few = built.few;
-      stands = read_meant _ _ a.problem.now a.at.now a.change a.space.now.deciding.numbers c.form-form.result (λ m f. Stands m a.change f c.close_in.new.built)
-          c.requires.weighed.read.numbers.allowed c.requires.weighed.read.numbers.read form.at form.of
+      sized = c.in_ok-left.ensures.sized;
+      tells = read_meant _ _ a.problem.now a.at.now a.change a.space.now.deciding.numbers c.form-form.result (λ m f. TellsLeft m a.change (labelling f) choices new left)
+          numbers.allowed numbers.read from c.form-form.ensures.of
           (λ m meant is.
           let F : List ℕ → Type 0 = λ f. AreWeights m a.change (labelling f) (choice_at c.deref.result.now) c.deref-2.result.now in
           let C : List Choice → Type 0 = λ cs. AreWeights m a.change (labelling a.at.now) (choice_at cs) c.deref-2.result.now in
           let W : List ℤ → Type 0 = λ ws. AreWeights m a.change (labelling a.at.now) (choice_at a.space.now.built.variables.choices.items) ws in
-          built.stands m a.change is (subst F (sym form.at) (subst C (sym start) (subst W (sym c.deref-2.ensures.value) (c.requires.weighed.weights m meant)))));
+          let T : List Choice → Type 0 = λ cs. TellsLeft m a.change (labelling c.form-form.result.at.now) cs new left in
+          subst T c.deref-3.ensures.value
+          (c.in_ok-left.ensures.tells m a.change is (subst F (sym from) (subst C (sym start) (subst W (sym c.deref-2.ensures.value) (c.requires.weighed.weights m meant))))));
     }
 
-pub returns-else-space-clause-agree : goal.returns-else-space-clause-agree
-returns-else-space-clause-agree g c =
+pub returns-clause-agree : goal.returns-clause-agree
+returns-clause-agree g c =
     let a = c.args in
+    let numbers = c.requires.weighed.read.numbers in
     let form = c.form-form.ensures in
     let old = a.space.now.built.variables.choices.items in
-    let new = c.close_in.new.built.variables.choices.items in
+    let new = c.close_in.new.variables.choices.items in
     let start = c.deref.ensures.value ∙ ap (λ (v : _). v.items) c.swap.ensures.x_after in
     read_meant _ _ a.problem.now a.at.now a.change a.space.now.deciding.numbers c.form-form.result
     (λ m f. Agree m.sites (move_value m a.change (labelling f)) (choice_at old) → Agree m.sites (move_value m a.change (labelling f)) (choice_at new))
-    c.requires.weighed.read.numbers.allowed c.requires.weighed.read.numbers.read form.at form.of
+    numbers.allowed numbers.read form.at form.of
     (λ m meant is agree.
     let F : List ℕ → Type 0 = λ f. AreWeights m a.change (labelling f) (choice_at c.deref.result.now) c.deref-2.result.now in
     let C : List Choice → Type 0 = λ cs. AreWeights m a.change (labelling a.at.now) (choice_at cs) c.deref-2.result.now in
