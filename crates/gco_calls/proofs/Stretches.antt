@@ -1,8 +1,8 @@
 -- A stretch of the arrays of a call, and what is handed back of it.
-use Rattle.std.proofs.Common.{◌≡◌, ◌⊎◌, ◌<◌, ◌≤◌, ◌∙◌, ℕ, Bool, false, List, All, length, Option, Some, None, Result, Ok, Err, refl, sym, ap, subst, arith, inl, inr}
-use Rattle.std.specs.Prelude.{slice_index, nat_lt}
+use Rattle.std.proofs.Common.{◌≡◌, ◌⊎◌, ◌<◌, ◌≤◌, ◌∙◌, ◌+◌, ℕ, Bool, false, List, All, length, Option, Some, None, Result, Ok, Err, refl, sym, ap, subst, arith, inl, inr}
+use Rattle.std.specs.Prelude.{slice_index, nat_lt, replicate}
 use Rattle.std.proofs.lemmas.Bool.{cases_lt}
-use Rattle.std.proofs.lemmas.List.{get_or_past}
+use Rattle.std.proofs.lemmas.List.{get_or_past, get_or-replicate, length-replicate}
 use Rattle.label_field.specs.LabelFields.{LabelField}
 use Rattle.label_field.specs.PairLists.{PairList, IsPairList}
 use Rattle.cost_store.specs.Promises.{cost_in}
@@ -12,11 +12,11 @@ use Rattle.label_energies.specs.Energies.{Instance, labelling}
 use Rattle.label_energies.specs.declared.cycles.Moves.{Moves}
 use Rattle.label_energies.specs.declared.cycles.Moves.TheVariants.{Expansion, Swap}
 use Rattle.one_move.specs.declared.error.MoveError.{MoveError}
-use Rattle.moves.specs.declared.bookmark.Mark.{Mark}
-use Rattle.moves.specs.declared.bookmark.Bookmark.{Bookmark}
+use Rattle.run_steps.specs.declared.bookmark.Mark.{Mark}
+use Rattle.run_steps.specs.declared.bookmark.Bookmark.{Bookmark}
 use Rattle.moves.specs.declared.stretch.Pause.{Pause}
 use Rattle.moves.specs.declared.stretch.Stretch.{Stretch}
-use Rattle.moves.specs.Bookmarks.{AreStamps, IsPastEnd, WasLeftAt}
+use Rattle.moves.specs.Bookmarks.{AreStamps, IsPastEnd, WasLeftAt, moves_to}
 use Rattle.moves.specs.Courses.{IsBegun}
 use Rattle.moves.specs.Instances.{instance_of}
 use Rattle.moves.specs.Stretches.{AnswersStretch, IsPauseOf}
@@ -24,7 +24,7 @@ use Rattle.gco_arrays.specs.Calls.{AreCounted, ArePartsOf, AreTables, CallArrays
 use Rattle.gco_arrays.specs.declared.ready.Ready.{Ready}
 use Rattle.gco_calls.specs.Calls.{moves_number}
 use Rattle.gco_calls.specs.Outcomes.{energy_told, outcome_of_parts, run_told}
-use Rattle.gco_calls.specs.Stretches.{IsPauseTold, IsRunLeft, LentArrays, arrays_from, lent_arrays, mark_of}
+use Rattle.gco_calls.specs.Stretches.{IsPauseTold, IsRunLeft, LentArrays, arrays_from, first_course, lent_arrays, mark_of}
 use Rattle.gco_calls.specs.declared.course.GcoCourse.{GcoCourse}
 use Rattle.gco_calls.specs.declared.outcome.GcoOutcome.{GcoOutcome}
 
@@ -59,14 +59,14 @@ given_from a start given same below =
     }
 
 -- what is answered of the parts is answered of the arrays
-pub stretch_given : (a : CallArrays) (ready : Ready) (kind : Moves) (number cycles : ℕ) (course : GcoCourse) (stamps made : List ℕ) (bookmark : Bookmark)
+pub stretch_given : (a : CallArrays) (ready : Ready) (kind : Moves) (number cycles most : ℕ) (course : GcoCourse) (stamps made : List ℕ) (bookmark : Bookmark)
     (r : Result (Option Stretch) MoveError) → ArePartsOf a ready → number ≡ moves_number kind
     → bookmark.mark ≡ mark_of course → bookmark.stamps.items ≡ stamps → bookmark.made.items ≡ made
     → ((start : List ℕ) → WasLeftAt (parts_instance a ready) kind start ready.start.at bookmark.mark bookmark.stamps.items bookmark.made.items
-    → AnswersStretch (parts_instance a ready) kind cycles start r)
+    → AnswersStretch (parts_instance a ready) kind cycles start bookmark.mark most r)
     → (start : List ℕ) → IsRunLeft (arrays_from a start) number (lent_arrays a.start course stamps made)
-    → AnswersStretch (instance_given (arrays_from a start)) kind cycles start r
-stretch_given a ready kind number cycles course stamps made bookmark r is named marks stamped noted answers start left =
+    → AnswersStretch (instance_given (arrays_from a start)) kind cycles start (mark_of course) most r
+stretch_given a ready kind number cycles most course stamps made bookmark r is named marks stamped noted answers start left =
     let path : instance_given (arrays_from a start) ≡ parts_instance a ready = from_same a start left.sites ∙ sym (parts_same a ready is) in
     let at : ready.start.at ≡ a.start = ap (λ (s : LabelField). s.at) is.start_is in
     let K : Moves → Type 0 = λ k. WasLeftAt (instance_given (arrays_from a start)) k start a.start (mark_of course) stamps made in
@@ -76,8 +76,9 @@ stretch_given a ready kind number cycles course stamps made bookmark r is named 
     let D : List ℕ → Type 0 = λ xs. WasLeftAt (parts_instance a ready) kind start a.start bookmark.mark bookmark.stamps.items xs in
     let L : List ℕ → Type 0 = λ xs. WasLeftAt (parts_instance a ready) kind start xs bookmark.mark bookmark.stamps.items bookmark.made.items in
     let was = subst L (sym at) (subst D (sym noted) (subst S (sym stamped) (subst M (sym marks) (subst I path (subst K (kind_same number left.moves kind left.numbered named) left.left))))) in
-    let A : Instance → Type 0 = λ m. AnswersStretch m kind cycles start r in
-    subst A (sym path) (answers start was)
+    let A : Instance → Type 0 = λ m. AnswersStretch m kind cycles start (mark_of course) most r in
+    let N : Mark → Type 0 = λ mark. AnswersStretch (parts_instance a ready) kind cycles start mark most r in
+    subst A (sym path) (subst N marks (answers start was))
 
 pub past_given : (a : CallArrays) (ready : Ready) (kind : Moves) (cycles : ℕ) (course : GcoCourse) (mark : Mark) → ArePartsOf a ready → mark ≡ mark_of course
     → IsPastEnd (moves_of kind ready.start.labels) cycles mark → IsPastEnd (moves_of kind a.label_count) cycles (mark_of course)
@@ -123,14 +124,38 @@ left_back m kind start labels mark stamps made to_stamps to_made left same_stamp
   stamped = stamps_back m (labelling labels) stamps made to_stamps to_made mark.noted left.stamped same_stamps same_made size;
 }
 
+zero_anywhere : (n i : ℕ) → slice_index (replicate n 0) i ≡ 0
+zero_anywhere n i = elim (cases_lt i n) [
+  | inl inside ↦ get_or-replicate n i 0 0 inside
+  | inr beyond ↦ get_or_past (replicate n 0) i 0 (omega (arith, beyond, length-replicate {A = ℕ} n 0))
+]
+
+-- what is lent of a run that begins
+pub zeros_left : (a : CallArrays) (moves : Moves) → All (λ label. label < a.label_count) a.start
+    → IsRunLeft a (moves_number moves) (lent_arrays a.start first_course (replicate (length a.start) 0) (replicate a.label_count 0))
+zeros_left a moves below = record {
+  below = below;
+  sites = refl;
+  moves = moves;
+  numbered = refl;
+  left = record {
+    stands = inl (refl, refl, refl);
+    stamped = record {
+      sites = λ some. length-replicate (length a.start) 0;
+      most = λ label. omega (arith, zero_anywhere a.label_count label);
+      known = λ label some. absurd (omega (arith, zero_anywhere a.label_count label, some));
+    };
+  };
+}
+
 -- what is told of a pause
-pub pause_is_told : (a : CallArrays) (number cycles : ℕ) (labels stamps made : List ℕ) (course : GcoCourse) (told : GcoOutcome) (kind : Moves) (pause : Pause)
-    → IsGiven a → number ≡ moves_number kind → IsPauseOf (instance_given a) kind cycles a.start pause → length a.start ≡ length labels
+pub pause_is_told : (a : CallArrays) (number cycles most : ℕ) (labels stamps made : List ℕ) (old course : GcoCourse) (told : GcoOutcome) (kind : Moves) (pause : Pause)
+    → IsGiven a → number ≡ moves_number kind → IsPauseOf (instance_given a) kind cycles a.start (mark_of old) most pause → length a.start ≡ length labels
     → labels ≡ pause.labelling.at → mark_of course ≡ pause.bookmark.mark → course.cycles ≡ pause.bookmark.mark.cycles
     → AreHandedBack pause.bookmark.stamps.items stamps → AreHandedBack pause.bookmark.made.items made → length stamps ≡ length a.start
     → told ≡ run_told (outcome_of_parts pause.«data» pause.smooth pause.label) pause.bookmark.mark.cycles false None
-    → IsPauseTold a number cycles (lent_arrays labels course stamps made) told
-pause_is_told a number cycles labels stamps made course told kind pause given named is size same marks whole same_stamps same_made counted tells =
+    → IsPauseTold a number cycles old most (lent_arrays labels course stamps made) told
+pause_is_told a number cycles most labels stamps made old course told kind pause given named is size same marks whole same_stamps same_made counted tells =
     let m = instance_given a in
     let back = left_back m kind a.start pause.labelling.at pause.bookmark.mark pause.bookmark.stamps.items pause.bookmark.made.items stamps made is.left
     same_stamps same_made counted in
@@ -150,6 +175,7 @@ pause_is_told a number cycles labels stamps made course told kind pause given na
         left = subst L (sym same) (subst M (sym marks) back);
       };
       begun = subst B (sym same) (subst C (sym whole) is.begun);
+      further = ap (λ mark. moves_to (moves_of kind a.label_count) mark) marks ∙ is.further;
       may = is.may;
       told_is = subst T (sym same) (subst W (sym whole)
           (tells ∙ (λ i. run_told (outcome_of_parts (is.parts.0 i) (is.parts.1 i) (is.parts.2 i)) pause.bookmark.mark.cycles false None)));

@@ -1,12 +1,13 @@
 -- What a call for a stretch of a run is lent, what it tells and what it hands back.
-use Rattle.std.specs.Prelude.{◌≡◌, ◌≢◌, ◌⊎◌, ◌<◌, ◌==◌, ℕ, not, List, length, None, Err, false}
+use Rattle.std.specs.Prelude.{◌≡◌, ◌≢◌, ◌⊎◌, ◌+◌, ◌<◌, ◌==◌, ℕ, not, List, length, None, Err}
+use Rattle.std.specs.Prelude.{false, replicate}
 use Rattle.std.specs.List.{All}
 use Rattle.label_energies.specs.Chains.{moves_of}
 use Rattle.label_energies.specs.declared.cycles.Moves.{Moves}
 use Rattle.cut_ways.specs.declared.solve_error.SolveError.TheVariants.{OutOfMemory as NoMemory}
 use Rattle.one_move.specs.declared.error.MoveError.{MoveError}
-use Rattle.moves.specs.declared.bookmark.Mark.{Mark}
-use Rattle.moves.specs.Bookmarks.{WasLeftAt, IsPastEnd}
+use Rattle.run_steps.specs.declared.bookmark.Mark.{Mark}
+use Rattle.moves.specs.Bookmarks.{WasLeftAt, IsPastEnd, LeadAtMost, moves_to}
 use Rattle.moves.specs.Courses.{IsBegun}
 use Rattle.moves.specs.Problems.{IsRunRefusal}
 use Rattle.moves.specs.Runs.{AnswersRun, MayMake}
@@ -56,18 +57,39 @@ pub record IsRunLeft (a : CallArrays) (number : ℕ) (run : LentArrays) : Type 0
   pub left : WasLeftAt (instance_given a) moves a.start run.labels (mark_of run.course)
       run.stamps run.made
 
+-- where a run stands before its first move
+abbrev pub first_course : GcoCourse
+first_course = record { cycles = 0; place = 0; last = 0; changed = 0; noted = 0 }
+
+-- numbers that are all 0 are those of a run that begins: it was left at its start
+abbrev pub ZerosBegin : Type 0
+ZerosBegin =
+    (a : CallArrays) (moves : Moves) → All (λ label. label < a.label_count) a.start
+    → IsRunLeft a (moves_number moves) (lent_arrays a.start first_course
+    (replicate (length a.start) 0) (replicate a.label_count 0))
+
 -- what was given is in order, the labels are where a beginning of the chain from the start ends,
--- the run can go on from what is handed back, and the outcome tells how many cycles were whole, the
--- three parts of the energy, and nothing else
-pub record IsPauseTold (a : CallArrays) (number cycles : ℕ) (run : LentArrays)
-    (told : GcoOutcome) : Type 0 where
+-- so many moves further than a course, the run can go on from what is handed back, and the outcome
+-- tells how many cycles were whole, the three parts of the energy, and nothing else
+pub record IsPauseTold (a : CallArrays) (number cycles : ℕ) (course : GcoCourse) (most : ℕ)
+    (run : LentArrays) (told : GcoOutcome) : Type 0 where
   pub given : IsGiven a
   pub run_left : IsRunLeft a number run
   pub begun : IsBegun (instance_given a) (moves_of run_left.moves a.label_count) cycles
       run.course.cycles a.start run.labels
+  pub further : moves_to (moves_of run_left.moves a.label_count) (mark_of run.course)
+      ≡ moves_to (moves_of run_left.moves a.label_count) (mark_of course) + most
   pub may : MayMake (instance_given a) run_left.moves
   pub told_is : told
       ≡ run_told (energy_told (instance_given a) run.labels) run.course.cycles false None
+
+-- the labels are where at most so many moves of the chain lead after those before the course
+pub record EndsWithin (a : CallArrays) (number : ℕ) (course : GcoCourse) (most : ℕ)
+    (labels : List ℕ) : Type 0 where
+  pub moves : Moves
+  pub numbered : number ≡ moves_number moves
+  pub lead : LeadAtMost (instance_given a) (moves_of moves a.label_count)
+      (moves_to (moves_of moves a.label_count) (mark_of course)) most a.start labels
 
 -- what is lent is of other sizes, or is past the end of its cycles
 abbrev pub IsCourseRefusal : CallArrays → Moves → ℕ → LentArrays → Type 0

@@ -1,6 +1,6 @@
 //! Where a run stands, as a call is lent it.
 ghost use Rattle.std.specs.Prelude.{◌≡◌, ◌<◌, ℕ, length, slice_index, IfOk};
-ghost use Rattle.gco_calls.specs.Stretches.{mark_of};
+ghost use Rattle.gco_calls.specs.Stretches.{mark_of, ZerosBegin};
 
 use crate::outcome::digit;
 use moves::{Bookmark, Mark};
@@ -22,6 +22,11 @@ pub struct GcoCourse {
     /// The number of the last expansion that was noted.
     pub noted: u32,
 }
+
+/// A run whose course and numbers are all 0 was left at its start: so begins the first stretch.
+pub fn zeros_begin()
+    ensures { ZerosBegin }
+{}
 
 /// What was lent of a run, as a run takes it up.
 pub(crate) fn bookmark_of(

@@ -12,7 +12,7 @@ mod running;
 mod stretch;
 
 pub use bound::{GcoBound, answer_bound};
-pub use course::GcoCourse;
+pub use course::{GcoCourse, zeros_begin};
 pub use label::answer_run;
 pub use minimise::{GcoMinimum, answer_minimum};
 pub use moving::answer_move;

@@ -15,7 +15,7 @@ ghost use Rattle.gco_arrays.specs.Calls.{IsGiven, arrays_with, instance_given};
 ghost use Rattle.gco_arrays.specs.Statuses.{unfinished_status};
 ghost use Rattle.gco_calls.specs.Calls.{IsRunTold, moves_number};
 ghost use Rattle.gco_calls.specs.Outcomes.{outcome_of_parts, run_told};
-ghost use Rattle.gco_calls.specs.Stretches.{IsRunLeft, IsPauseTold, IsStretchRefusal};
+ghost use Rattle.gco_calls.specs.Stretches.{IsRunLeft, IsPauseTold, EndsWithin, IsStretchRefusal};
 ghost use Rattle.gco_calls.specs.Stretches.{IsStretchRefusalTold, lent_arrays, mark_of};
 
 use crate::course::{GcoCourse, bookmark_of, course_of, put_back};
@@ -31,8 +31,9 @@ use std::alloc::Global;
 /// The number of a call that made as many moves as were allowed and is not at the end of its run.
 const UNFINISHED: u32 = 29;
 
-/// Makes at most so many moves of the run that was lent, over the arrays that were given, and tells
-/// where it stands then. It hands back what the next call is to be lent.
+/// Makes so many moves of the run that was lent, over the arrays that were given, and fewer only
+/// where it ends. It tells where the run stands then, and hands back what the next call is to be
+/// lent.
 pub fn answer_stretch<N: Number>(
     alloc: Global,
     given: &Arrays<'_, N>,
@@ -49,10 +50,14 @@ pub fn answer_stretch<N: Number>(
         IsRunLeft (arrays_with N.value given.now start) moves
         (lent_arrays labels.old course.old stamps.old made.old) →
         IsRunTold (arrays_with N.value given.now start) moves cycles labels.new outcome.new }
+    ensures within { result ≡ 0 → (start : List ℕ) →
+        IsRunLeft (arrays_with N.value given.now start) moves
+        (lent_arrays labels.old course.old stamps.old made.old) →
+        EndsWithin (arrays_with N.value given.now start) moves course.old most labels.new }
     ensures paused { result ≡ unfinished_status → (start : List ℕ) →
         IsRunLeft (arrays_with N.value given.now start) moves
         (lent_arrays labels.old course.old stamps.old made.old) →
-        IsPauseTold (arrays_with N.value given.now start) moves cycles
+        IsPauseTold (arrays_with N.value given.now start) moves cycles course.old most
         (lent_arrays labels.new course.new stamps.new made.new) outcome.new }
     ensures in_order { (result ≡ 0) ⊎ (result ≡ unfinished_status) →
         IsGiven (arrays_with N.value given.now labels.old)
@@ -88,7 +93,7 @@ pub fn answer_stretch<N: Number>(
     }
 }
 
-/// Makes at most so many moves of the run that was lent, and answers where it stands then.
+/// Makes so many moves of the run that was lent, fewer where it ends, and answers where it stands.
 fn stretch_call<N: Number>(
     alloc: Global,
     given: &Arrays<'_, N>,
@@ -109,7 +114,7 @@ fn stretch_call<N: Number>(
         IsRunLeft (arrays_with N.value given.now start) number
         (lent_arrays at.now course stamps.now made.now) →
         AnswersStretch (instance_given (arrays_with N.value given.now start)) kind cycles start
-        (Ok (Some stretch))) }
+        (mark_of course) most (Ok (Some stretch))) }
     ensures sized { IfOk result
         (HasSizesOf (record { labels = given.now.label_count; at = at.now })) }
     ensures refused { IfErr result (IsStretchRefusal (arrays_with N.value given.now at.now) kind
@@ -134,7 +139,7 @@ fn stretch_call<N: Number>(
     }
 }
 
-/// Makes at most so many moves of a run over tables of costs.
+/// Makes so many moves of a run over tables of costs, fewer where it ends.
 fn stretch_over<N: Number>(
     alloc: Global,
     ready: Ready,
@@ -156,7 +161,7 @@ fn stretch_over<N: Number>(
         moves start ready.start.at bookmark.mark bookmark.stamps.items bookmark.made.items →
         AnswersStretch (instance_of ready.pairs ready.start.labels
         (cost_in ready.start.labels (map N.value data.now)) smooth.now (costs_of ready.label_costs))
-        moves cycles start result }
+        moves cycles start bookmark.mark most result }
     ensures none { result ≡ Ok None →
         IsPastEnd (cycle_of moves ready.start.labels) cycles bookmark.mark }
     ensures refused { IfErr result (IsRunRefusal (λ e. e ≡ OutOfMemory)) }

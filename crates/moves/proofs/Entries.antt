@@ -9,7 +9,7 @@ use Rattle.label_field.specs.LabelFields.{LabelField}
 use Rattle.label_energies.specs.declared.change.Move.{Move}
 use Rattle.label_energies.specs.Energies.{Instance, IsInstance, IsMetric}
 use Rattle.moves.specs.Instances.{data_entry}
-use Rattle.moves.specs.Problems.{IsRunOfCycles, TellsPairNotRegular}
+use Rattle.run_steps.specs.Problems.{IsRunOfCycles, TellsPairNotRegular}
 use Rattle.one_move.specs.declared.error.MoveError.{MoveError}
 use Rattle.moves.proofs.Refused.{metric_refusal}
 

@@ -13,9 +13,9 @@ use Rattle.cut_ways.specs.declared.solve_error.SolveError.{SolveError}
 use Rattle.cut_ways.specs.declared.solve_error.SolveError.TheVariants.{Workers as NoWorkers, BadOptions as NoOptions}
 use Rattle.one_move.specs.declared.error.MoveError.{MoveError}
 use Rattle.one_move.specs.declared.error.MoveError.TheVariants.{NoSuchLabel, LabelCostInSwap, PairNotRegular, Workers, BadOptions, NoBound, OutOfMemory}
-use Rattle.moves.specs.declared.runs.Ended.{Ended}
+use Rattle.run_steps.specs.declared.course.Ended.{Ended}
 use Rattle.moves.specs.Bounds.{IsWithinBound}
-use Rattle.moves.specs.Problems.{IsRunOfCycles, IsRunRefusal}
+use Rattle.run_steps.specs.Problems.{IsRunOfCycles, IsRunRefusal}
 use Rattle.one_move.specs.Moved.{IsMoved, IsCauseOfRefusal, IsMoveRefusal}
 use Rattle.moves.specs.Refusals.{IsMemoryOrCut, IsRefusalOver}
 use Rattle.moves.specs.Runs.{MayMake}

@@ -11,12 +11,12 @@ use Rattle.label_energies.specs.declared.change.Move.{Move}
 use Rattle.label_energies.proofs.Chains.{settled_is_local}
 use Rattle.label_energies.proofs.Ratio.{expansion_bound}
 use Rattle.moves.specs.Bounds.{IsBoundOf}
-use Rattle.moves.specs.Problems.{IsRunOfCycles}
+use Rattle.run_steps.specs.Problems.{IsRunOfCycles}
 use Rattle.one_move.specs.Moved.{IsCauseOfRefusal}
 use Rattle.moves.specs.declared.bound.Bound.{Bound}
 use Rattle.one_move.specs.declared.error.MoveError.{MoveError}
 use Rattle.one_move.specs.declared.error.MoveError.TheVariants.{LabelCostInSwap}
-use Rattle.moves.specs.declared.runs.Ended.{Ended}
+use Rattle.run_steps.specs.declared.course.Ended.{Ended}
 use Rattle.one_move.proofs.Answers.{costs_costly, costs_free}
 use Rattle.label_energies.specs.declared.cycles.Moves.{Moves}
 use Rattle.label_energies.specs.declared.cycles.Moves.TheVariants.{Expansion, Swap}

@@ -11,9 +11,9 @@ use Rattle.cut_ways.specs.declared.solve_error.SolveError.TheVariants.{OutOfMemo
 use Rattle.moves.specs.declared.bound.Bound.{Bound}
 use Rattle.one_move.specs.declared.error.MoveError.{MoveError}
 use Rattle.one_move.specs.declared.error.MoveError.TheVariants.{OutOfMemory}
-use Rattle.moves.specs.declared.runs.Ended.{Ended}
+use Rattle.run_steps.specs.declared.course.Ended.{Ended}
 use Rattle.moves.specs.Bounds.{IsBoundOf, IsWithinBound}
-use Rattle.moves.specs.Problems.{IsRunOfCycles, IsLabelledBy, TellsPairNotRegular}
+use Rattle.run_steps.specs.Problems.{IsRunOfCycles, IsLabelledBy, TellsPairNotRegular}
 use Rattle.one_move.specs.Moved.{IsMoved}
 use Rattle.moves.specs.Refusals.{IsMemoryOrCut}
 

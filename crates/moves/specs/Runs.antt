@@ -9,7 +9,7 @@ use Rattle.label_energies.specs.Chains.{moves_of}
 use Rattle.label_energies.specs.Energies.{Instance, AreLabelsFree, IsLabelled, IsMetric, IsRatio}
 use Rattle.label_energies.specs.Energies.{labelling, energy, data_energy, smooth_energy}
 use Rattle.label_energies.specs.Energies.{label_energy}
-use Rattle.moves.specs.Problems.{IsRunOfCycles}
+use Rattle.run_steps.specs.Problems.{IsRunOfCycles}
 use Rattle.moves.specs.declared.bound.Bound.{Bound}
 use Rattle.one_move.specs.declared.error.MoveError.{MoveError}
 use Rattle.one_move.specs.declared.error.MoveError.TheVariants.{LabelCostInSwap}

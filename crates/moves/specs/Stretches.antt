@@ -1,5 +1,6 @@
 -- What a stretch of a run answers.
-use Rattle.std.specs.Prelude.{◌≡◌, ◌<◌, ℕ, ℤ, List, length, All, pos, Option, Some, None, Result}
+use Rattle.std.specs.Prelude.{◌≡◌, ◌+◌, ◌<◌, ℕ, ℤ, List, length, All, pos, Option, Some, None}
+use Rattle.std.specs.Prelude.{Result}
 use Rattle.std.specs.Prelude.{Ok, Err}
 use Rattle.label_field.specs.LabelFields.{LabelField}
 use Rattle.label_energies.specs.declared.cycles.Moves.{Moves}
@@ -10,8 +11,9 @@ use Rattle.one_move.specs.declared.error.MoveError.{MoveError}
 use Rattle.moves.specs.declared.stretch.Pause.{Pause}
 use Rattle.moves.specs.declared.stretch.Stretch.{Stretch}
 use Rattle.moves.specs.declared.stretch.Stretch.TheVariants.{Over, Paused}
-use Rattle.moves.specs.Bookmarks.{WasLeftAt}
-use Rattle.moves.specs.Courses.{IsBegun}
+use Rattle.run_steps.specs.declared.bookmark.Mark.{Mark}
+use Rattle.run_steps.specs.Bookmarks.{LeadAtMost, WasLeftAt, moves_to}
+use Rattle.run_steps.specs.Courses.{IsBegun}
 use Rattle.moves.specs.Runs.{AnswersRun, MayMake}
 
 -- these are the three parts of the energy of the labels
@@ -31,23 +33,28 @@ abbrev pub HasSizesOf : LabelField → Stretch → Type 0
 HasSizesOf start (Over run) = IsSizedAs start run.labelling
 HasSizesOf start (Paused pause) = IsSizedAs start pause.labelling
 
--- a run from a start was left at the labels, where a beginning of its chain ends, with the three
--- parts of the energy there
-pub record IsPauseOf (m : Instance) (kind : Moves) (cycles : ℕ) (start : List ℕ)
-    (pause : Pause) : Type 0 where
+-- a run from a start was left at the labels, where a beginning of its chain ends, so many moves
+-- further than the mark, with the three parts of the energy there
+pub record IsPauseOf (m : Instance) (kind : Moves) (cycles : ℕ) (start : List ℕ) (mark : Mark)
+    (most : ℕ) (pause : Pause) : Type 0 where
   pub left : WasLeftAt m kind start pause.labelling.at pause.bookmark.mark
       pause.bookmark.stamps.items pause.bookmark.made.items
   pub begun : IsBegun m (moves_of kind m.labels) cycles pause.bookmark.mark.cycles start
       pause.labelling.at
+  pub further : moves_to (moves_of kind m.labels) pause.bookmark.mark
+      ≡ moves_to (moves_of kind m.labels) mark + most
   pub may : MayMake m kind
   pub parts : TellsParts m pause.labelling.at pause.«data» pause.smooth pause.label
 
--- where the run ended, or was left; nothing, where it cannot go on from the mark; or the refusal of
--- the chain's next move
-abbrev pub AnswersStretch : Instance → Moves → ℕ → List ℕ → Result (Option Stretch) MoveError
-    → Type 0
-AnswersStretch m kind cycles start (Ok None) = Unit {0}
-AnswersStretch m kind cycles start (Ok (Some (Over run))) = AnswersRun m kind cycles start (Ok run)
-AnswersStretch m kind cycles start (Ok (Some (Paused pause))) =
-    IsPauseOf m kind cycles start pause
-AnswersStretch m kind cycles start (Err e) = AnswersRun m kind cycles start (Err e)
+-- where the run ended in at most so many moves more, or was left after so many; nothing, where it
+-- cannot go on from the mark; or the refusal of the chain's next move
+abbrev pub AnswersStretch : Instance → Moves → ℕ → List ℕ → Mark → ℕ
+    → Result (Option Stretch) MoveError → Type 0
+AnswersStretch m kind cycles start mark most (Ok None) = Unit {0}
+AnswersStretch m kind cycles start mark most (Ok (Some (Over run))) =
+    AnswersRun m kind cycles start (Ok run)
+    × LeadAtMost m (moves_of kind m.labels) (moves_to (moves_of kind m.labels) mark) most start
+    run.labelling.at
+AnswersStretch m kind cycles start mark most (Ok (Some (Paused pause))) =
+    IsPauseOf m kind cycles start mark most pause
+AnswersStretch m kind cycles start mark most (Err e) = AnswersRun m kind cycles start (Err e)

@@ -7,11 +7,9 @@ ghost use Rattle.moves.specs.Prelude.{IsInstanceOf, ArePrices, IsRunRefusal, Was
 ghost use Rattle.moves.specs.Prelude.{AnswersStretch, moves_of};
 ghost use Rattle.moves.specs.Stretches.{HasSizesOf, TellsParts};
 
-use crate::bookmark::Bookmark;
 use crate::runs::may_make;
 use crate::tables::end_run;
-use crate::under_way::RunUnderWay;
-use crate::{LabelPrices, MoveError, Request, Run, Sharing};
+use crate::{Bookmark, LabelPrices, MoveError, Request, Run, RunUnderWay, Sharing};
 use cost_store::{DataCost, Problem, SmoothCost};
 use label_field::{Labelling, Pairs};
 use std::alloc::Global;
@@ -40,10 +38,11 @@ pub enum Stretch {
     Paused(Pause),
 }
 
-/// Makes at most so many moves of a run that was left at the labels of a request, at these prices.
-/// `None` where no run of so many cycles goes on from the bookmark's mark. Refused as
-/// `run_with_table` is. Where the bookmark is that of a run from some start (`WasLeftAt`), the
-/// stretch goes on with its chain, and any stretches one after another end where one run does.
+/// Makes so many moves of a run that was left at the labels of a request, at these prices, and
+/// fewer only where the run ends. `None` where no run of so many cycles goes on from the bookmark's
+/// mark. Refused as `run_with_table` is. Where the bookmark is that of a run from some start
+/// (`WasLeftAt`), the stretch goes on with its chain, and any stretches one after another end where
+/// one run does.
 pub fn stretch_with_table<F: Fn(u32, u32) -> i64 + Sync, H: Sharing>(
     alloc: Global,
     pairs: Pairs,
@@ -64,7 +63,8 @@ pub fn stretch_with_table<F: Fn(u32, u32) -> i64 + Sync, H: Sharing>(
         IsInstanceOf (F.post data_cost.f) pairs request.start.labels prices.entry.smooth.now m →
         HasCosts m prices.entry.label_costs → (start : List ℕ) →
         WasLeftAt m request.moves start request.start.at bookmark.mark bookmark.stamps.items
-        bookmark.made.items → AnswersStretch m request.moves request.cycles start result }
+        bookmark.made.items →
+        AnswersStretch m request.moves request.cycles start bookmark.mark most result }
     ensures none { result ≡ Ok None →
         IsPastEnd (moves_of request.moves request.start.labels) request.cycles bookmark.mark }
     ensures refused { IfErr result (IsRunRefusal (H.refuses how.now)) }
@@ -86,7 +86,8 @@ pub fn stretch_with_table<F: Fn(u32, u32) -> i64 + Sync, H: Sharing>(
     stretch_problem(alloc, &problem, request, bookmark, most, how)
 }
 
-/// Makes at most so many moves of a run over a problem, and tells the energy where it stands then.
+/// Makes so many moves of a run over a problem, fewer where it ends, and tells the energy where it
+/// stands then.
 fn stretch_problem<F: Fn(u32, u32) -> i64 + Sync, V: Fn(u32, u32) -> i64 + Sync, H: Sharing>(
     alloc: Global,
     problem: &Problem<F, V>,
@@ -102,7 +103,8 @@ fn stretch_problem<F: Fn(u32, u32) -> i64 + Sync, V: Fn(u32, u32) -> i64 + Sync,
         (λ m. IsMetric m.labels m.smooth_cost → IsTrue problem.now.smooth_cost.by_metric) }
     ensures run { WhereMeant F.Fn V.Fn problem.now (λ m. (start : List ℕ) →
         WasLeftAt m request.moves start request.start.at bookmark.mark bookmark.stamps.items
-        bookmark.made.items → AnswersStretch m request.moves request.cycles start result) }
+        bookmark.made.items →
+        AnswersStretch m request.moves request.cycles start bookmark.mark most result) }
     ensures none { result ≡ Ok None →
         IsPastEnd (moves_of request.moves request.start.labels) request.cycles bookmark.mark }
     ensures refused { IfErr result (IsRunRefusal (H.refuses how.now)) }

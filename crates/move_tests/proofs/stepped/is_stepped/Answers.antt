@@ -3,7 +3,7 @@ use Rattle.move_tests.proofs.stepped.is_stepped.Goals as goal
 
 pub loop-place-init : goal.loop-place-init
 loop-place-init g c = record {
-  run = (_, _, _, c.begin-run.ensures);
+  run = (_, _, _, c.begin-run.ensures.run);
   sizes = record { labels = refl; sites = refl };
 }
 

@@ -1,4 +1,4 @@
-use Rattle.std.proofs.Common.{◌∙◌, ℕ, Option, refl, sym, subst, inr}
+use Rattle.std.proofs.Common.{◌≡◌, ◌∙◌, ◌+◌, ℕ, Option, ap, refl, sym, subst, inr}
 use Rattle.std.proofs.lemmas.Result.{err_from_is_err_and}
 use Rattle.label_field.specs.LabelFields.{LabelField}
 use Rattle.cost_store.specs.LabelCosts.{AreLabelCosts}
@@ -6,9 +6,9 @@ use Rattle.label_energies.specs.declared.cycles.Moves.{Moves}
 use Rattle.label_energies.specs.Energies.{AreLabelsFree}
 use Rattle.one_move.proofs.Answers.{costs_costly}
 use Rattle.label_energies.specs.Chains.{moves_of}
-use Rattle.moves.specs.declared.runs.Ended.{Ended}
-use Rattle.moves.specs.Bookmarks.{IsRunIn, WasLeftAt}
-use Rattle.moves.specs.Courses.{IsBegun, StandsOnCourse}
+use Rattle.run_steps.specs.declared.course.Ended.{Ended}
+use Rattle.run_steps.specs.Bookmarks.{IsRunIn, LeadAtMost, WasLeftAt, moves_to}
+use Rattle.run_steps.specs.Courses.{IsBegun, StandsOnCourse}
 use Rattle.moves.specs.Runs.{MayMake}
 use Rattle.moves.specs.Stretches.{IsSizedAs}
 use Rattle.moves.proofs.Stretches.{pause_told}
@@ -38,10 +38,18 @@ returns-in_err-make_moves-clause-run g c = λ m meant start left.
 pub returns-in-Some-outcome-clause-run : goal.returns-in-Some-outcome-clause-run
 returns-in-Some-outcome-clause-run g c = λ m meant start left.
     let kind = c.args.request.moves in
-    let step = c.in_ok-make_moves.ensures.goes_on m meant kind c.args.request.cycles start (c.in-Some.ensures.goes_on m meant start left) in
-    let E : Option Ended → Type 0 = λ e. StandsOnCourse m (moves_of kind m.labels) c.args.request.cycles c.make_moves.new.self.course start c.make_moves.new.labelling.at e in
-    c.end_run.ensures.run m meant c.args.request.cycles start (subst E (sym c.outcome.ensures ∙ c.in-Some-outcome.is) step.goes_on.stands)
-    (made_free m kind c.args.problem.now.label_costs meant.costs_are (c.may_make.ensures.may c.if-not-may_make.false))
+    let begun = c.in-Some.ensures.goes_on m meant start left in
+    let step = c.in_ok-make_moves.ensures.goes_on m meant kind c.args.request.cycles start begun in
+    let there : moves_of kind c.args.request.start.labels ≡ moves_of kind m.labels = ap (moves_of kind) (c.requires.fits.labels ∙ sym meant.labels_are) in
+    let stood = c.in-Some.ensures.made ∙ ap (λ moves. moves_to moves c.args.bookmark.mark) there in
+    let within = c.in_ok-make_moves.ensures.within m meant kind c.args.request.cycles start begun (c.args.bookmark.mark, left.stands, sym stood) in
+    let N : ℕ → Type 0 = λ n. LeadAtMost m (moves_of kind m.labels) n c.args.most start c.make_moves.new.labelling.at in
+    let R : LabelField → Type 0 = λ field. LeadAtMost m (moves_of kind m.labels) (moves_to (moves_of kind m.labels) c.args.bookmark.mark) c.args.most start field.at in
+    let E : Option Ended → Type 0 = λ e. StandsOnCourse m (moves_of kind m.labels) c.args.request.cycles c.make_moves.new.self.course start c.make_moves.new.labelling.at e in (
+      c.end_run.ensures.run m meant c.args.request.cycles start (subst E (sym c.outcome.ensures ∙ c.in-Some-outcome.is) step.goes_on.stands)
+          (made_free m kind c.args.problem.now.label_costs meant.costs_are (c.may_make.ensures.may c.if-not-may_make.false)),
+      subst R (sym c.end_run.ensures.same) (subst N stood within),
+    )
 
 pub returns-in-None-clause-run : goal.returns-in-None-clause-run
 returns-in-None-clause-run g c = λ m meant start left.
@@ -53,9 +61,14 @@ returns-in-None-clause-run g c = λ m meant start left.
     let L : Moves → Type 0 = λ k. WasLeftAt m k start c.make_moves.new.labelling.at c.leave.result.mark c.leave.result.stamps.items c.leave.result.made.items
     × IsBegun m (moves_of k m.labels) c.args.request.cycles c.leave.result.mark.cycles start c.make_moves.new.labelling.at in
     let was = subst L run.kind_is
-    (c.leave.ensures m c.args.request.cycles start c.make_moves.new.labelling.at same (subst R (sym run.kind_is) run) (sym c.outcome.ensures ∙ c.in-None.is)) in
-    pause_told m kind c.args.request.cycles start c.make_moves.new.labelling c.leave.result c.pause_at.result c.pause_at.ensures.same.0 c.pause_at.ensures.same.1
-    was.0 was.1 (made_free m kind c.args.problem.now.label_costs meant.costs_are (c.may_make.ensures.may c.if-not-may_make.false)) (c.pause_at.ensures.parts m meant)
+    (c.leave.ensures.left m c.args.request.cycles start c.make_moves.new.labelling.at same (subst R (sym run.kind_is) run) (sym c.outcome.ensures ∙ c.in-None.is)) in
+    let here : moves_of c.make_moves.new.self.course.moves c.make_moves.new.self.course.labels ≡ moves_of kind m.labels =
+    (λ i. moves_of (run.kind_is i) (sym same i)) in
+    let there : moves_of kind c.args.request.start.labels ≡ moves_of kind m.labels = ap (moves_of kind) (c.requires.fits.labels ∙ sym meant.labels_are) in
+    let further = ap (λ moves. moves_to moves c.leave.result.mark) (sym here) ∙ c.leave.ensures.made ∙ c.in_ok-make_moves.ensures.made (sym c.outcome.ensures ∙ c.in-None.is)
+    ∙ ap (λ n. n + c.args.most) (c.in-Some.ensures.made ∙ ap (λ moves. moves_to moves c.args.bookmark.mark) there) in
+    pause_told m kind c.args.request.cycles start c.args.bookmark.mark c.args.most c.make_moves.new.labelling c.leave.result c.pause_at.result
+    c.pause_at.ensures.same.0 c.pause_at.ensures.same.1 was.0 was.1 further (made_free m kind c.args.problem.now.label_costs meant.costs_are (c.may_make.ensures.may c.if-not-may_make.false)) (c.pause_at.ensures.parts m meant)
 
 pub returns-in-Some-outcome-clause-sized : goal.returns-in-Some-outcome-clause-sized
 returns-in-Some-outcome-clause-sized g c =

@@ -1,0 +1,20 @@
+use Rattle.std.proofs.Common.{[], sym, subst}
+use Rattle.label_energies.specs.declared.change.Move.TheVariants.{Expand}
+use Rattle.site_bounds.specs.declared.sites.Deciding.{Deciding}
+use Rattle.site_forms.specs.Lists.{AreFormLists, IsReadNear}
+use Rattle.run_steps.proofs.Asked.{read_everywhere}
+use Rattle.run_steps.proofs.opening_apart.open_apart.Goals as goal
+
+pub returns-clause-numbers : goal.returns-clause-numbers
+returns-clause-numbers g c =
+    let a = c.args in
+    let same = sym c.in_ok-open_by_parts.ensures.same.decided in
+    let L : Deciding → Type 0 = λ d. AreFormLists a.at.now d.numbers in
+    record {
+      sites_are = c.requires.numbers.sites_are;
+      allowed = λ m meant. c.requires.numbers.allowed m meant;
+      lists = subst L same c.in_ok-read.ensures.lists;
+      read = λ m meant.
+          let N : Deciding → Type 0 = λ d. IsReadNear m (Expand a.alpha) a.at.now d.numbers [] in
+          subst N same (read_everywhere m (Expand a.alpha) a.at.now _ (c.in_ok-read.ensures.read m meant));
+    }

@@ -1,0 +1,7 @@
+pub mod Problems
+pub mod Cycles
+pub mod Courses
+pub mod UnderWay
+pub mod Bookmarks
+pub mod Stages
+pub mod Prelude

@@ -1,0 +1,166 @@
+//! The moves of a run, which remembers its expansions.
+ghost use Rattle.std.specs.Prelude.{◌≡◌, ℕ, List, length, IfErr, OnErr};
+ghost use Rattle.run_steps.specs.Prelude.{Expand, labelling as labelling_of, IsBest};
+ghost use Rattle.run_steps.specs.Prelude.{costs_of as costs_in, AreFree, WhereMeant, FitsProblem};
+ghost use Rattle.run_steps.specs.Prelude.{AreOfOneSize, AreStamped, is_marked, AreTaking};
+ghost use Rattle.run_steps.specs.Prelude.{site_values, IsMoved, IsMoveRefusal, HasTaken};
+ghost use Rattle.run_steps.specs.Prelude.{IsWorkingOn};
+ghost use Rattle.run_steps.specs.Prelude.{AreStampsOf};
+
+use crate::later_expansion::make_later;
+use crate::under_way::RunUnderWay;
+use crate::{MoveError, Sharing};
+use cost_store::{Problem, costs_of, has_cost};
+use label_energies::{Move, Moves};
+use label_field::Labelling;
+use move_energy::Choice;
+use near_changes::{Changes, Stage};
+use one_move::make_move;
+use std::alloc::Global;
+
+/// What a run remembers at its beginning: its moves from then on where it is one of expansions that
+/// come again, the smooth costs were stored as a metric, and no label costs anything by itself.
+/// Else, and where memory for that is refused, nothing.
+pub(crate) fn begin_changes<F: Fn(u32, u32) -> i64 + Sync, V: Fn(u32, u32) -> i64 + Sync>(
+    alloc: Global,
+    problem: &Problem<F, V>,
+    labelling: &Labelling,
+    moves: Moves,
+    cycles: u32,
+) -> Changes
+    requires fits { FitsProblem problem.now labelling.now }
+    ensures { AreStampsOf F.Fn V.Fn problem.now labelling.now result }
+{
+    let comes_again = moves == Moves::Expansion && cycles > 1;
+    if !comes_again || !problem.smooth_cost.by_metric || has_cost(costs_of(&problem.label_costs)) {
+        return Changes::none(alloc);
+    }
+    match Changes::new(alloc, labelling.sites(), labelling.labels()) {
+        Ok(changes) => changes,
+        Err(_) => Changes::none(alloc),
+    }
+}
+
+/// Notes an expansion that was made whole. Where a label costs something by itself, none is
+/// remembered.
+fn note_whole<F: Fn(u32, u32) -> i64 + Sync, V: Fn(u32, u32) -> i64 + Sync>(
+    problem: &Problem<F, V>,
+    changes: &mut Changes,
+    alpha: u32,
+    choices: &[Choice],
+)
+    ensures { (f g : List ℕ) → HasTaken alpha (site_values choices.now) f g →
+        WhereMeant F.Fn V.Fn problem.now (λ m. length f ≡ m.sites → IsBest m (Expand alpha) f g →
+        AreStamped m (labelling_of f) changes.old → AreStamped m (labelling_of g) changes.new) }
+{
+    if has_cost(costs_of(&problem.label_costs)) {
+        changes.forget();
+    } else {
+        changes.note_values(alpha, choices);
+    }
+}
+
+/// Notes an expansion that looked near the changes alone.
+fn note_later<F: Fn(u32, u32) -> i64 + Sync, V: Fn(u32, u32) -> i64 + Sync>(
+    problem: &Problem<F, V>,
+    changes: &mut Changes,
+    alpha: u32,
+    stage: &Stage,
+)
+    requires free { AreFree (costs_in problem.now.label_costs) }
+    ensures { (f g : List ℕ) → AreTaking (length f) stage.now →
+        HasTaken alpha (is_marked stage.now.taken.items) f g →
+        WhereMeant F.Fn V.Fn problem.now (λ m. length f ≡ m.sites → IsBest m (Expand alpha) f g →
+        AreStamped m (labelling_of f) changes.old → AreStamped m (labelling_of g) changes.new) }
+{
+    let _costs = &problem.label_costs;
+    changes.note_sites(alpha, &stage.taking);
+}
+
+impl RunUnderWay {
+    /// The next move of a run, where its labels are those of the last. Of swaps nothing is
+    /// remembered. It is the chain's where what is remembered is true of the labels before.
+    pub(crate) fn make_next<
+        F: Fn(u32, u32) -> i64 + Sync,
+        V: Fn(u32, u32) -> i64 + Sync,
+        H: Sharing,
+    >(
+        &mut self,
+        problem: &Problem<F, V>,
+        labelling: &mut Labelling,
+        change: Move,
+        how: &H,
+    ) -> Result<bool, MoveError>
+        requires ready { H.ready how.now }
+        requires working { IsWorkingOn F.Fn V.Fn problem.now labelling.old self.old.space }
+        ensures working { IsWorkingOn F.Fn V.Fn problem.now labelling.new self.new.space }
+        ensures stamped { WhereMeant F.Fn V.Fn problem.now
+            (λ m. AreStamped m (labelling_of labelling.old.at) self.old.changes →
+            AreStamped m (labelling_of labelling.new.at) self.new.changes) }
+        ensures same { (self.new.course ≡ self.old.course) × (self.new.before ≡ self.old.before) }
+        ensures sizes { AreOfOneSize labelling.old labelling.new }
+        ensures moved { WhereMeant F.Fn V.Fn problem.now
+            (λ m. AreStamped m (labelling_of labelling.old.at) self.old.changes →
+            IsMoved m change labelling.old.at labelling.new.at result) }
+        ensures unchanged { OnErr result (labelling.new ≡ labelling.old) }
+        ensures refused { IfErr result
+            (IsMoveRefusal (H.refuses how.now) labelling.old.labels change) }
+    {
+        match change {
+            Move::Expand(alpha) => self.make_expansion(problem, labelling, alpha, how),
+            Move::Swap(_, _) => {
+                let alloc = *self.changes.stamps.allocator();
+                self.changes.forget();
+                make_move(alloc, problem, &mut self.space, labelling, change, how)
+            }
+        }
+    }
+
+    /// An expansion of a run, near what changed since its label's last where that is known, and
+    /// else whole.
+    fn make_expansion<F: Fn(u32, u32) -> i64 + Sync, V: Fn(u32, u32) -> i64 + Sync, H: Sharing>(
+        &mut self,
+        problem: &Problem<F, V>,
+        labelling: &mut Labelling,
+        alpha: u32,
+        how: &H,
+    ) -> Result<bool, MoveError>
+        requires ready { H.ready how.now }
+        requires working { IsWorkingOn F.Fn V.Fn problem.now labelling.old self.old.space }
+        ensures working { IsWorkingOn F.Fn V.Fn problem.now labelling.new self.new.space }
+        ensures stamped { WhereMeant F.Fn V.Fn problem.now
+            (λ m. AreStamped m (labelling_of labelling.old.at) self.old.changes →
+            AreStamped m (labelling_of labelling.new.at) self.new.changes) }
+        ensures same { (self.new.course ≡ self.old.course) × (self.new.before ≡ self.old.before) }
+        ensures sizes { AreOfOneSize labelling.old labelling.new }
+        ensures moved { WhereMeant F.Fn V.Fn problem.now
+            (λ m. AreStamped m (labelling_of labelling.old.at) self.old.changes →
+            IsMoved m (Expand alpha) labelling.old.at labelling.new.at result) }
+        ensures unchanged { OnErr result (labelling.new ≡ labelling.old) }
+        ensures refused { IfErr result
+            (IsMoveRefusal (H.refuses how.now) labelling.old.labels (Expand alpha)) }
+    {
+        let later = make_later(
+            problem,
+            &mut self.space,
+            labelling,
+            alpha,
+            &self.changes,
+            how,
+        )?;
+        if let Some(changed) = later {
+            note_later(problem, &mut self.changes, alpha, &self.space.stage);
+            return Ok(changed);
+        }
+        let alloc = *self.changes.stamps.allocator();
+        let change = Move::Expand(alpha);
+        let changed = make_move(alloc, problem, &mut self.space, labelling, change, how)?;
+        note_whole(
+            problem,
+            &mut self.changes,
+            alpha,
+            &self.space.built.variables.choices,
+        );
+        Ok(changed)
+    }
+}
