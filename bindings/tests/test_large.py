@@ -3,6 +3,7 @@ import contextlib
 import io
 import os
 import pathlib
+import re
 import shutil
 import signal
 import subprocess
@@ -58,7 +59,9 @@ def restored(folder):
         assert wrong < 0.02 < 0.14 < (noisy != clean).mean(), wrong
         answers.append(out.read_bytes())
     assert answers[0] == answers[1] != answers[2]
+    bounded(folder / "noisy.pgm", folder / "bounded.png", options, int(text.split()[-5]))
     said(0, of=("restore", folder / "noisy.pgm", folder / "swapped.png", "--levels", 4, "--moves", "swap", "--neighbours", 8, "--bound"))
+    said(1, "--refine takes a picture of at most 1,048,576 pixels", of=("restore", folder / "noisy.pgm", folder / "no.png", "--levels", 4, "--refine"))
     said(1, "label-cost", "no sum over tiles", "--fit", of=("restore", folder / "noisy.pgm", folder / "no.png", "--levels", 4, "--label-cost", 5))
     said(1, "--plot draws moves", "--fit", of=("restore", folder / "noisy.pgm", folder / "no.png", "--levels", 4, "--plot", folder / "no.svg"))
     assert not (folder / "no.png").exists()
@@ -66,6 +69,14 @@ def restored(folder):
     assert Image.open(folder / "fits.png").size[0] * Image.open(folder / "fits.png").size[1] <= 1048576
     said(0, of=("restore", folder / "noisy.pgm", folder / "none.png", "--levels", 4, "--cycles", 0))
     assert not np.asarray(Image.open(folder / "none.png")).any()
+
+
+def bounded(picture, out, options, energy):
+    """The bound that --gap tells is not above an energy that was found."""
+    text = said(0, "least at least", of=("restore", picture, out, *options, "--jobs", 2, "--gap", "--passes", 8, "--progress"))
+    found, low = (int(word) for word in re.search(r"^energy (\d+) .*\nleast at least (\d+): at most [\d.]+ % above", text, re.M).groups())
+    assert 0.9 * found < low <= min(found, energy), text
+    assert "bound" in text and f"{low}" in text.split("energy")[-2], text
 
 
 def matched(folder):
@@ -125,18 +136,23 @@ def segmented(folder):
 
 
 def stopped(folder):
-    """Ctrl-C while tiles are run: what was found is written."""
+    """Ctrl-C while tiles are run, over the picture made smaller before them, and over the bound after them: what was found is written."""
     script = "import sys; from gco_proved.__main__ import main; sys.exit(main(sys.argv[1:]))"
-    words = ["restore", folder / "noisy.pgm", folder / "stopped.png", "--levels", "4", "--weight", "3", "--tile", "40", "--progress", "--jobs", "2"]
-    run = subprocess.Popen([sys.executable, "-c", script, *map(str, words)], stderr=subprocess.PIPE, text=True, env=os.environ)
-    told = ""
-    while "sweep 1" not in told:
-        told += run.stderr.read(1)
-        assert run.poll() is None, told
-    run.send_signal(signal.SIGINT)
-    told += run.communicate(timeout=120)[1]
-    assert run.returncode == 130 and "tiles: " in told and "is what was found till then" in told, (run.returncode, told)
-    assert Image.open(folder / "stopped.png").size == SHAPE[::-1]
+    noisy, texture = (folder / "noisy.pgm", "--levels", "4", "--weight", "3"), (folder / "left.png", "--levels", "64", "--weight", "9")
+    for (name, *options), seen, said_then in ((noisy, "sweep 1", " tiles: "), (texture, "cycle 1", " moves over the picture made smaller: "),
+                                              ((*noisy, "--cycles", "1", "--gap"), "bound", " the sweeps and before the bound: ")):
+        out = folder / "stopped.png"
+        out.unlink(missing_ok=True)
+        words = ["restore", name, out, *options, "--tile", "40", "--progress", "--jobs", "2"]
+        run = subprocess.Popen([sys.executable, "-c", script, *map(str, words)], stderr=subprocess.PIPE, text=True, env=os.environ)
+        told = ""
+        while seen not in told:
+            told += run.stderr.read(1)
+            assert run.poll() is None, told
+        run.send_signal(signal.SIGINT)
+        told += run.communicate(timeout=120)[1]
+        assert run.returncode == 130 and said_then in told and "is what was found till then" in told, (run.returncode, told)
+        assert Image.open(out).size == SHAPE[::-1]
 
 
 made = pathlib.Path(tempfile.mkdtemp())

@@ -12,6 +12,7 @@ import signal
 import sys
 import tempfile
 import threading
+import time
 
 import gco_proved as gco
 from definitions import Problem
@@ -21,7 +22,7 @@ np = gco.arrays.numpy
 if np is None:
     print("gco_proved.tiles: numpy is missing, not tried (Debian: apt-get install python3-numpy)")
     sys.exit(0)
-from gco_proved.tiles import label_tiles  # noqa: E402
+from gco_proved.tiles import label_tiles, lower_bound_tiles  # noqa: E402
 
 STEPS = {(2, 4): [(0, 1), (1, 0)], (2, 8): [(0, 1), (1, 0), (1, 1), (1, -1)], (3, 6): [(0, 0, 1), (0, 1, 0), (1, 0, 0)],
          (3, 26): [step for step in itertools.product((-1, 0, 1), repeat=3) if step > (0, 0, 0)]}
@@ -112,8 +113,11 @@ def random_grids(turns):
                 fixed += 1
         again = label_tiles(data, smooth, weights, tile=tile, overlap=overlap, connect=connect, moves=moves, start=found.labels)
         assert (again.labels == found.labels).all() and set(again.energies) == {found.energy}
+        # what a run over the whole leaves as it is, one by tiles leaves too
+        whole = gco.label(data, smooth, np.array(problem.pairs).reshape(-1, 3), moves=moves, start=start)
+        kept = label_tiles(data, smooth, weights, tile=tile, overlap=overlap, connect=connect, moves=moves, start=whole.labels)
+        assert whole.settled and kept.settled and (kept.labels == whole.labels).all() and set(kept.energies) == {whole.energy}
         if tile == shape:
-            whole = gco.label(data, smooth, np.array(problem.pairs).reshape(-1, 3), moves=moves, start=start)
             assert (whole.labels == found.labels).all() and whole.energy == found.energy
             alone += 1
         pinned += int(data.max(initial=0) >= 10**7 - 1)
@@ -206,12 +210,83 @@ def kinds_of_costs(folder):
     return "costs from " + ", ".join(tried)
 
 
+def volumes(folder):
+    """Three axes, and each argument as an array of each kind, by as many processes: the labels of arrays in memory."""
+    rng = np.random.default_rng(4)
+    shape, tile = (12, 14, 10), (5, 6, 4)
+    data, start, free = rng.integers(0, 9, (*shape, 3)).astype(np.int32), rng.integers(0, 3, shape).astype(np.uint8), rng.random(shape) < 0.6
+    weights = [rng.integers(0, 4, [side - step for side, step in zip(shape, offset)]) for offset in STEPS[3, 6]]
+    found = label_tiles(data, gco.potts(3), weights, tile=tile, start=start, free=free)
+    low = lower_bound_tiles(data, gco.potts(3), weights, tile=tile)
+    assert low <= found.energy < found.energies[0] and (found.labels[~free] == start[~free]).all()
+    tried = []
+    for name, made in kinds_of_arrays(folder):
+        for executor in (None, 2):
+            of = [made(f"{place}", table) for place, table in enumerate([data, *weights, start, free])]
+            out = None if name == "dask.array" else made("out", np.zeros(shape, np.uint8))
+            other = label_tiles(of[0], gco.potts(3), of[1:4], tile=tile, start=of[4], free=of[5], out=out, executor=executor)
+            assert other.energies == found.energies and np.asarray(other.labels).tobytes() == found.labels.tobytes(), (name, executor)
+            assert out is None or other.labels is out
+            assert lower_bound_tiles(of[0], gco.potts(3), of[1:4], tile=tile, executor=executor) == low, (name, executor)
+        if out is not None:  # another run goes on from the same array, which is at rest
+            again = label_tiles(of[0], gco.potts(3), of[1:4], tile=tile, start=out, free=of[5], out=out)
+            assert set(again.energies) == {found.energy} and again.settled
+        tried.append(name)
+    return "volumes from " + ", ".join(tried)
+
+
+def kinds_of_arrays(folder):
+    """The kinds of arrays that are there: a name, and a function that makes one of a name and of an array in memory."""
+    def mapped(name, table):
+        made = np.lib.format.open_memmap(folder / f"{name}.npy", "w+", table.dtype, table.shape)
+        made[:] = table
+        return made
+
+    def chunks(table):
+        return (5, 4, 6, 3)[:table.ndim]
+
+    def by_zarr(name, table):
+        made = zarr.open(str(folder / f"{name}.zarr"), "w", shape=table.shape, chunks=chunks(table), dtype=table.dtype)
+        made[:] = table
+        return made
+
+    yield "memory maps", mapped
+    try:
+        import zarr
+        yield "zarr", by_zarr
+    except ImportError:
+        pass
+    try:
+        import dask.array
+        yield "dask.array", lambda name, table: dask.array.from_array(table, chunks=chunks(table))
+    except ImportError:
+        pass
+
+
 def dies_once(marker, box):
     """The costs of a box; the process that is asked first for the middle of the picture dies of it."""
     if box[0].start <= 30 < box[0].stop and multiprocessing.parent_process() is not None and not os.path.exists(marker):
         pathlib.Path(marker).touch()
         os.kill(os.getpid(), signal.SIGKILL)
     return DATA[box]
+
+
+def wide_and_dies(marker, box):
+    """The costs of a wide grid; the process that is asked first dies of it."""
+    if multiprocessing.parent_process() is not None and not os.path.exists(marker):
+        pathlib.Path(marker).touch()
+        os.kill(os.getpid(), signal.SIGKILL)
+    rows, columns = np.ogrid[box]
+    return abs((rows // 9 + columns // 13 + (rows * 7919 + columns * 104729) % 11 // 10)[..., None] % 2 - np.arange(2))
+
+
+def dead_over_large_tasks(folder):
+    """A worker that dies while tasks of a megabyte are on their way."""
+    weights = [np.full((400, 399), 1), np.full((399, 400), 1)]
+    whole = label_tiles(functools.partial(wide_and_dies, str(folder)), gco.potts(2), weights, shape=(400, 400), tile=200)
+    marker = folder / "died over a large task"
+    found = label_tiles(functools.partial(wide_and_dies, str(marker)), gco.potts(2), weights, shape=(400, 400), tile=200, executor=2)
+    assert marker.exists() and found.energies == whole.energies and (found.labels == whole.labels).all()
 
 
 def always_dies(box):
@@ -237,13 +312,15 @@ def engines(folder):
     alike("a dead worker", 2, functools.partial(dies_once, str(folder / "died")), shape=(60, 60))
     assert (folder / "died").exists()
     refused(RuntimeError, label_tiles, always_dies, SMOOTH, WEIGHTS, tile=60, shape=(60, 60), executor=2, says="a worker died 3 times")
+    dead_over_large_tasks(folder)
     refused(TypeError, label_tiles, DATA, SMOOTH, executor="four", says="executor: None, a number of processes")
     try:
         import distributed
     except ImportError:
         print("distributed is missing, not tried (Debian: apt-get install python3-distributed)")
         return "engines: threads, processes"
-    logging.getLogger("distributed").setLevel(logging.CRITICAL)
+    for name in ("distributed", "distributed.client"):
+        logging.getLogger(name).setLevel(logging.CRITICAL)
     with distributed.LocalCluster(n_workers=2, threads_per_worker=1, dashboard_address=None) as cluster, distributed.Client(cluster) as client:
         alike("Dask", client)
         alike("Dask, a function", client, data_of, shape=(60, 60))
@@ -274,6 +351,10 @@ def stops(folder):
     rest = label_tiles(DATA, SMOOTH, WEIGHTS, tile=TILE, start=out, out=out)
     assert rest.energies[0] == part.energy and rest.settled and rest.energy <= 1.001 * found.energy
 
+    for kind, made in kinds_of_arrays(folder):
+        if kind != "dask.array":
+            killed(made("killed", np.zeros((60, 60), np.uint8)), folder / "killed")
+
     def ctrl_c(sweep, done, tiles, energy):
         if done == 5:
             os.kill(os.getpid(), signal.SIGINT)
@@ -289,6 +370,66 @@ def stops(folder):
             assert kept.energy == check.energy < found.energies[0] and not kept.settled
         else:
             raise AssertionError("no KeyboardInterrupt")
+
+
+def run_and_die(out):
+    """A run whose process is killed after nine tiles."""
+    def step(sweep, done, tiles, energy):
+        if done == 9:
+            os.kill(os.getpid(), signal.SIGKILL)
+
+    label_tiles(DATA, SMOOTH, WEIGHTS, tile=TILE, out=opened(out), progress=step)
+
+
+def opened(path):
+    """An array on the disk, to be written to."""
+    if path.endswith(".npy"):
+        return np.load(path, mmap_mode="r+")
+    import zarr
+    return zarr.open(path, "r+")
+
+
+def killed(out, path):
+    """A run whose process is killed: another one goes on from what is on the disk."""
+    path = f"{path}.npy" if isinstance(out, np.memmap) else f"{path}.zarr"
+    run = multiprocessing.get_context("spawn").Process(target=run_and_die, args=(path,))
+    run.start()
+    run.join(60)
+    assert run.exitcode == -signal.SIGKILL, run.exitcode
+    whole, out = wanted(), opened(path)
+    rest = label_tiles(DATA, SMOOTH, WEIGHTS, tile=TILE, start=out, out=out)
+    assert whole.energy < rest.energies[0] < whole.energies[0] and rest.settled and rest.energy <= 1.001 * whole.energy
+
+
+def slow(box):
+    """Costs of 256 labels over which a tile's run takes long: noise, so that no label settles early."""
+    rows, columns = np.ogrid[box]
+    grey = (rows * 7919 + columns * 104729 + rows * columns * 31) % 256
+    return abs(grey[..., None] - np.arange(256)).astype(np.int32)
+
+
+def stops_soon():
+    """Ctrl-C does not wait for the tiles at work, in turn or by processes."""
+    for executor in (None, 2):
+        sent = []
+
+        def ctrl_c():
+            sent.append(time.monotonic())
+            os.kill(os.getpid(), signal.SIGINT)
+
+        timer = threading.Timer(1.5, ctrl_c)
+        try:
+            timer.start()
+            label_tiles(slow, gco.linear(256, 200), 40, shape=(1024, 1024), tile=512, start=np.zeros((1024, 1024), np.uint8), cycles=None,
+                        executor=executor)
+        except KeyboardInterrupt as stop:
+            spent = time.monotonic() - sent[0]
+            assert stop.partial is None or not stop.partial.settled
+            assert spent < 10, (executor, spent)
+        else:
+            raise AssertionError("no KeyboardInterrupt")
+        finally:
+            timer.cancel()
 
 
 def free_sites():
@@ -411,9 +552,10 @@ def threads_side_by_side():
 if __name__ == "__main__":
     made = pathlib.Path(tempfile.mkdtemp())
     try:
-        said = [random_grids(400), kinds_of_costs(made), engines(made)]
+        said = [random_grids(400), kinds_of_costs(made), volumes(made), engines(made)]
         near_the_whole()
         stops(made)
+        stops_soon()
         free_sites()
         bounds()
         mistakes()

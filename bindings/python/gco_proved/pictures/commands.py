@@ -234,9 +234,9 @@ def run_picture(options: argparse.Namespace) -> int:
 def _ran(options, data, smooth, pairs, label_costs, kept):
     drawn = False if options.quiet else options.progress
     if hasattr(data, "piece"):
-        if options.gap or options.refine:
-            raise Wrong("--gap and --refine take a picture of at most 1,048,576 pixels: make it"
-                        " smaller with --fit")
+        if options.refine:
+            raise Wrong("--refine takes a picture of at most 1,048,576 pixels: make it smaller with"
+                        " --fit")
         return large.ran(data, smooth, pairs, options, drawn)
     with running.in_words():
         return running.ran(data, smooth, pairs, label_costs, options.moves, options.cycles, drawn,

@@ -8,10 +8,10 @@ import os
 import sys
 from typing import Any, Callable, List, NamedTuple, Optional, Tuple
 
-from .. import labelling
-from ..tiles import label_tiles
+from .. import labelling, progress
+from ..tiles import label_tiles, lower_bound_tiles
 from ..tiles.boxes import OFFSETS, ends
-from ..tiles.progress import bar
+from ..tiles.progress import bar, bound_bar
 from . import colours, costs
 from .reading import LIMIT
 from .running import Ran, in_words
@@ -263,9 +263,26 @@ def notes_of(options: Any, picture: Any) -> Tuple[str, ...]:
 
 def ran(data: Any, smooth: Any, weights: Any, options: Any, drawn: Optional[bool]) -> Ran:
     """The shrunken picture first, then tiles from its labels; of segments the pixels in a band
-    along their border (Lombaert, Sun, Grady and Xu 2005)."""
-    numpy, _ = numpy_and_pillow()
-    show = bar() if drawn or drawn is None and sys.stderr.isatty() else None
+    along their border (Lombaert, Sun, Grady and Xu 2005). Ctrl-C leaves what was found."""
+    if drawn is None:
+        drawn = sys.stderr.isatty()
+    with in_words():
+        first = first_labels(data, smooth, weights, options, drawn)
+        ended = _by_tiles(data, smooth, weights, options, drawn, first)
+        if not options.gap or ended.stopped:
+            return ended
+        try:
+            return ended._replace(low=lower_bound_tiles(
+                data, smooth, weights, shape=data.shape, tile=options.tile,
+                connect=weights.connect, passes=options.passes, executor=options.jobs,
+                progress=bound_bar() if drawn else None))
+        except KeyboardInterrupt:
+            return ended._replace(stopped=True, done="the sweeps and before the bound")
+
+
+def _by_tiles(data, smooth, weights, options, drawn, first):
+    """Sweeps from the first labels."""
+    show = bar() if drawn else None
     tiles = 0
 
     def step(sweep: int, done: int, count: int, energy: int) -> None:
@@ -274,20 +291,17 @@ def ran(data: Any, smooth: Any, weights: Any, options: Any, drawn: Optional[bool
         if show:
             show(sweep, done, count, energy)
 
-    with in_words():
-        start, free = numpy.zeros(data.shape, dtype=numpy.uint8), None
-        if options.cycles:
-            start, free = first_labels(data, smooth, weights, options.moves, options.cycles)
-        try:
-            ended = label_tiles(data, smooth, weights, shape=data.shape, connect=weights.connect,
-                                tile=options.tile, start=start, out=start, free=free,
-                                moves=options.moves, sweeps=options.cycles, least_gain=LEAST_GAIN,
-                                executor=options.jobs, progress=step)
-        except KeyboardInterrupt as stop:
-            if getattr(stop, "partial", None) is None:
-                raise
-            return Ran(_found(stop.partial), [], True, f"{tiles} tiles")  # type: ignore
-        return Ran(_found(ended), [], False)
+    sweeps = options.cycles if first.done is None else 0
+    try:
+        ended = label_tiles(data, smooth, weights, shape=data.shape, connect=weights.connect,
+                            tile=options.tile, start=first.labels, out=first.labels,
+                            free=first.free, moves=options.moves, sweeps=sweeps,
+                            least_gain=LEAST_GAIN, executor=options.jobs, progress=step)
+    except KeyboardInterrupt as stop:
+        if getattr(stop, "partial", None) is None:
+            raise
+        return Ran(_found(stop.partial), [], True, f"{tiles} tiles")  # type: ignore
+    return Ran(_found(ended), [], first.done is not None, first.done or "")
 
 
 def _found(ended):
@@ -296,19 +310,29 @@ def _found(ended):
                            max(len(ended.energies) - 1, 0), ended.settled, None)
 
 
-def first_labels(data: Any, smooth: Any, weights: Any, moves: str,
-                 cycles: int) -> Tuple[Any, Any]:
+class First(NamedTuple):
+    """The labels that tiles begin with, and which pixels are free: all where it is None. Where
+    Ctrl-C stopped the run over the shrunken picture, `done` says how far it came."""
+
+    labels: Any
+    free: Any = None
+    done: Optional[str] = None
+
+
+def first_labels(data: Any, smooth: Any, weights: Any, options: Any, drawn: bool) -> First:
     """The labels of the shrunken picture at the picture's size; and of segments which pixels are
-    free: those near their border, and near a seed that the shrunken picture lost."""
+    free: those near their border, and near a seed that the shrunken picture lost. Without any cycle
+    all are 0."""
     numpy, _ = numpy_and_pillow()
+    if not options.cycles:
+        return First(numpy.zeros(data.shape, dtype=numpy.uint8))
     sides = shrunken_sides(data.shape, FIRST if data.seeds is None else LIMIT)
     table, labels = data.smaller(sides)
     few = numpy.asarray(smooth)[labels][:, labels]
-    small = labelling.label(table, few, weights.smaller(sides), moves=moves, cycles=cycles,
-                            start=table.argmin(axis=-1), stoppable=False).labels
+    small, done = _stopped_or_whole(table, few, weights.smaller(sides), options, drawn)
     start = spread_out(numpy.asarray(labels, dtype=numpy.uint8)[small], data.shape)
     if data.seeds is None:
-        return start, None
+        return First(start, None, done)
     near = numpy.zeros(sides, dtype=bool)
     across, along = small[:, 1:] != small[:, :-1], small[1:] != small[:-1]
     near[:, 1:] |= across
@@ -318,7 +342,20 @@ def first_labels(data: Any, smooth: Any, weights: Any, moves: str,
     rows, columns = numpy.nonzero((data.seeds > 0) & (start != data.seeds.astype(int) - 1))
     near[rows * sides[0] // data.shape[0], columns * sides[1] // data.shape[1]] = True
     start[rows, columns] = data.seeds[rows, columns] - 1
-    return start, spread_out(_widened(near, BAND), data.shape)
+    return First(start, spread_out(_widened(near, BAND), data.shape), done)
+
+
+def _stopped_or_whole(data, smooth, pairs, options, drawn):
+    """The labels of one problem; and where Ctrl-C stopped the run, how far it came."""
+    start = data.argmin(axis=-1)
+    show = progress.bar(len(smooth), options.moves) if drawn else None
+    try:
+        return labelling.label(data, smooth, pairs, moves=options.moves, cycles=options.cycles,
+                               start=start, progress=show).labels, None
+    except KeyboardInterrupt as stop:
+        partial = getattr(stop, "partial", None)
+        return (start if partial is None else partial.labels,
+                f"{getattr(stop, 'moves_made', 0)} moves over the picture made smaller")
 
 
 def _widened(places, steps):

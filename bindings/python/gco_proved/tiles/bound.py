@@ -1,6 +1,6 @@
 """lower_bound_tiles: a number that no labelling's energy is below, tile by tile."""
 import itertools
-from typing import Any, Callable, Iterator, List, NamedTuple, Optional, Sequence, Tuple
+from typing import Any, Iterator, List, NamedTuple, Optional, Sequence, Tuple
 
 from .. import arrays
 from ..lower_bound import lower_bound
@@ -8,6 +8,7 @@ from . import costs
 from .boxes import Box, Shape, offsets_of, sides_of, sides_of_box
 from .engines import engine_of
 from .problem import ends, lattice
+from .progress import bound_bar
 from .sweeps import smooth_of
 
 
@@ -26,15 +27,16 @@ class Share(NamedTuple):
 
 def lower_bound_tiles(data: Any, smooth: Any, weights: Any = 1, *, shape: Any = None,
                       tile: Any = None, connect: Optional[int] = None, passes: int = 20,
-                      executor: Any = None,
-                      progress: Optional[Callable[[int, int, int], Any]] = None) -> int:
+                      executor: Any = None, progress: Any = None) -> int:
     """A number that no labelling's energy is below: the sum of the lower bounds of tiles that
     share one line of sites with each tile beside them. The costs of a site or pair that several
     tiles share are parted between them, and their parts add up to them.
 
     The arguments are those of label_tiles, and `passes` those of gco_proved.lower_bound. `progress`
-    is called after each tile with how many are done, how many there are, and the sum so far.
+    is called after each tile with how many are done, how many there are, and the sum so far. True
+    stands for a bar.
     """
+    step = bound_bar() if progress is True else progress
     engine = engine_of(executor)
     try:
         table = smooth_of(smooth)
@@ -47,8 +49,8 @@ def lower_bound_tiles(data: Any, smooth: Any, weights: Any = 1, *, shape: Any = 
         total = 0
         for done, (_, low) in enumerate(engine.answers(bound_of, tasks), 1):
             total += low
-            if progress:
-                progress(done, len(boxes), total)
+            if step:
+                step(done, len(boxes), total)
         return total
     finally:
         engine.close()

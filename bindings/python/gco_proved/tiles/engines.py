@@ -1,7 +1,10 @@
 """Engines: what runs tiles, in turn, by threads, by processes or on a cluster."""
 import concurrent.futures
+import multiprocessing
+import multiprocessing.connection
+import pickle
 import signal
-from concurrent.futures.process import BrokenProcessPool
+import traceback
 from typing import Any, Callable, Dict, Iterator, List, Tuple
 
 from .. import arrays
@@ -94,53 +97,127 @@ def _with_block(function, task, block):
 
 
 class Processes:
-    """So many processes of its own. Where one dies, the tasks at work are given to new ones."""
+    """So many processes of its own. Where one dies, its task is given to a new one.
+
+    An executor of concurrent.futures does not serve: before Python 3.12 it may wait for ever where
+    a process dies while a task of more than 64 KB is on its way to it (gh-94777).
+    """
 
     def __init__(self, count: int) -> None:
         self.count = count
-        self.pool = self._made()
-
-    def _made(self):
-        executor = concurrent.futures.ProcessPoolExecutor(self.count, initializer=_deaf)
-        return Pool(executor)
+        self.idle: List[_Worker] = []
 
     def answers(self, function: Callable[[Any], Any], tasks: Keyed) -> Keyed:
-        given: Dict[Any, Any] = {}
-        tries: Dict[Any, int] = {}
-
-        def told(more):
-            for key, task in more:
-                given[key] = task
-                tries[key] = tries.get(key, 0) + 1
-                if tries[key] > TRIES:
-                    raise RuntimeError(f"a worker died {TRIES} times over the tile of place {key}")
-                yield key, task
-
-        tasks = told(tasks)
-        while True:
-            try:
-                for key, answer in self.pool.answers(function, tasks):
-                    del given[key]
-                    yield key, answer
-                return
-            except BrokenProcessPool:
-                self.pool.executor.shutdown()
-                self.pool = self._made()
-                again = list(given.items())
-                tasks = _chained(told(iter(again)), tasks)
+        """The answers as they come. Where one is an exception, or the caller leaves, the processes
+        at work are ended."""
+        at_work: Dict[Any, Tuple[_Worker, Any, Any, int]] = {}
+        due = ((key, task, 1) for key, task in tasks)
+        again: List[Tuple[Any, Any, int]] = []
+        try:
+            while True:
+                while len(at_work) < self.count:
+                    key, task, turn = again.pop() if again else next(due, (None, None, 0))
+                    if not turn:
+                        break
+                    worker = self.idle.pop() if self.idle else _Worker()
+                    at_work[worker.pipe] = worker, key, task, turn
+                    worker.give(function, task)
+                if not at_work:
+                    return
+                for pipe in multiprocessing.connection.wait(list(at_work)):
+                    worker, key, task, turn = at_work.pop(pipe)
+                    if worker.has_died():
+                        again.append((key, task, _next_turn(key, turn)))
+                        continue
+                    self.idle.append(worker)
+                    yield key, worker.answer()
+        finally:
+            for worker, *_ in at_work.values():
+                worker.end()
 
     def close(self) -> None:
-        self.pool.executor.shutdown()
+        while self.idle:
+            self.idle.pop().leave()
 
 
-def _chained(first, second):
-    yield from first
-    yield from second
+def _next_turn(key, turn):
+    if turn == TRIES:
+        raise RuntimeError(f"a worker died {TRIES} times over the tile of place {key}")
+    return turn + 1
 
 
-def _deaf() -> None:
-    """Ctrl-C is for the process that hands tiles out."""
+class _Worker:
+    """A process that answers tasks, and this end of its pipe."""
+
+    def __init__(self) -> None:
+        self.pipe, there = multiprocessing.Pipe()
+        self.told: Any = None
+        self.process = multiprocessing.Process(target=_serve, args=(there, self.pipe))
+        self.process.start()
+        there.close()
+
+    def give(self, function: Callable[[Any], Any], task: Any) -> None:
+        try:
+            self.pipe.send((function, task))
+        except OSError:
+            pass  # it died, which is seen where it is waited for
+
+    def has_died(self) -> bool:
+        """Whether it died over its task, which else has its answer."""
+        try:
+            self.told = self.pipe.recv()
+        except (EOFError, OSError):
+            self.end()
+            return True
+        return False
+
+    def answer(self) -> Any:
+        answer, failure, words = self.told
+        if failure is not None:
+            raise failure from RuntimeError(words)
+        return answer
+
+    def leave(self) -> None:
+        """Ends it where it is idle."""
+        try:
+            self.pipe.send(None)
+        except OSError:
+            pass
+        self.process.join()
+        self.pipe.close()
+
+    def end(self) -> None:
+        """Ends it in the middle of its task."""
+        self.process.kill()
+        self.process.join()
+        self.pipe.close()
+
+
+def _serve(pipe, other_end):
+    """Answers tasks until there are no more, or the process that hands them out has gone. Ctrl-C is
+    for that one."""
     signal.signal(signal.SIGINT, signal.SIG_IGN)
+    other_end.close()
+    try:
+        for function, task in iter(pipe.recv, None):
+            try:
+                told = function(task), None, ""
+            except Exception as failure:
+                told = _failed(failure)
+            pipe.send(told)
+    except (EOFError, OSError):
+        pass
+
+
+def _failed(failure):
+    """An exception as it is sent, and where it was raised: in words alone if it cannot be pickled.
+    """
+    words = traceback.format_exc()
+    try:
+        pickle.loads(pickle.dumps(failure))
+    except Exception:
+        failure = RuntimeError(words)
+    return None, failure, words
 
 
 def engine_of(executor: Any) -> Any:

@@ -93,7 +93,7 @@ def _found(task, free, problem, start):
     """The library's run. A move that cannot be made is told by the pair's places in the grid."""
     try:
         return labelling.label(problem.data, task.smooth, problem.pairs, moves=task.moves,
-                               cycles=task.cycles, start=start, stoppable=False)
+                               cycles=task.cycles, start=start)
     except Refused as refused:
         if refused.status != 24 or refused.sites is None:
             raise
