@@ -213,7 +213,7 @@ def kinds_of_costs(folder):
 def volumes(folder):
     """Three axes, and each argument as an array of each kind, by as many processes: the labels of arrays in memory."""
     rng = np.random.default_rng(4)
-    shape, tile = (12, 14, 10), (5, 6, 4)
+    shape, tile = (8, 9, 7), (4, 5, 4)
     data, start, free = rng.integers(0, 9, (*shape, 3)).astype(np.int32), rng.integers(0, 3, shape).astype(np.uint8), rng.random(shape) < 0.6
     weights = [rng.integers(0, 4, [side - step for side, step in zip(shape, offset)]) for offset in STEPS[3, 6]]
     found = label_tiles(data, gco.potts(3), weights, tile=tile, start=start, free=free)

@@ -1,7 +1,7 @@
 #!/usr/bin/env python3
 """Measures gco_proved.tiles, as the tables of docs/LARGE.md: make -C bindings measure_tiles, or
 
-    PYTHONPATH=bindings/dist/python tools/pictures/measure_tiles.py [PART ..] [--jobs 4]
+    PYTHONPATH=bindings/dist/python tools/pictures/measure_tiles.py [PART ..] [--jobs 4] [--short]
 
 whole       a photograph with noise of 1,000 x 1,000 pixels, by one call of gco.label, and by tiles
             in turn and by processes: the energy above that of the one call, and the times over its
@@ -12,7 +12,8 @@ volume      10^8 sites of four labels from a memory map, in turn and by processe
 
 Without a PART it does all three. Each line is of one run. Memory is the greatest sum over the
 processes of a run, where a page that some of them share counts once. Files are made in a folder of
-their own, in --folder if that is given; those of the volume are 500 MB.
+their own, in --folder if that is given; those of the volume are 500 MB. With --short all sides are
+an eighth, and the photograph has 1.2 million pixels: so it is seen that all of it runs.
 """
 import argparse
 import os
@@ -32,7 +33,11 @@ from gco_proved.tiles import label_tiles
 EXAMPLES = pathlib.Path(__file__).resolve().parents[2] / "examples"
 CASES = [(4, "potts", 1), (4, "potts", 4), (16, "linear", 1), (32, "linear", 1)]
 GAIN = 0.001  # as python3 -m gco has it
-PICTURE = (3000, 4000)
+PICTURE, SHORT_PICTURE = (3000, 4000), (1000, 1200)
+
+
+def side_of(whole, short):
+    return whole // 8 if short else whole
 
 
 def enlarged(name, sides, kind):
@@ -100,8 +105,8 @@ class Peak:
         self.thread.join()
 
 
-def whole(jobs, _):
-    side = 1000
+def whole(jobs, _, short):
+    side = side_of(1000, short)
     print("| Labels, smooth, weight | One call | Energy | In turn | Processes | Settled |")
     print("|---|---|---|---|---|---|")
     for levels, name, weight in CASES:
@@ -123,11 +128,12 @@ def whole(jobs, _):
               f" {above(settled)} |", flush=True)
 
 
-def large_photograph(jobs, folder):
-    clean = enlarged("camera.jpg", PICTURE, Image.BICUBIC)
+def large_photograph(jobs, folder, short):
+    sides = SHORT_PICTURE if short else PICTURE
+    clean = enlarged("camera.jpg", sides, Image.BICUBIC)
     ImageOps.colorize(clean, "navy", "white", "peru").save(folder / "clean.jpg", quality=95)
-    Image.fromarray(photograph(PICTURE)).save(folder / "noisy.jpg", quality=95)
-    enlarged("painted.png", PICTURE, Image.NEAREST).save(folder / "painted.png")
+    Image.fromarray(photograph(sides)).save(folder / "noisy.jpg", quality=95)
+    enlarged("painted.png", sides, Image.NEAREST).save(folder / "painted.png")
     print("| python3 -m gco | By the clock | Processor | Memory | Energy |")
     print("|---|---|---|---|---|")
     for words in ("segment clean.jpg painted.png out.png",
@@ -150,8 +156,8 @@ def watched(command, folder):
     return said, peak.bytes
 
 
-def volume(jobs, folder):
-    side = 10_000
+def volume(jobs, folder, short):
+    side = side_of(10_000, short)
     made_volume(folder / "costs.npy", side)
     for executor in (None, jobs):
         costs = np.load(folder / "costs.npy", mmap_mode="r")
@@ -184,13 +190,14 @@ def main():
     parser.add_argument("parts", nargs="*", metavar="PART", help="whole, photograph, volume")
     parser.add_argument("--jobs", type=int, default=4)
     parser.add_argument("--folder", type=pathlib.Path)
+    parser.add_argument("--short", action="store_true")
     options = parser.parse_args()
     unknown = set(options.parts) - set(PARTS)
     if unknown:
         parser.error(f"no such part: {', '.join(sorted(unknown))}")
     with tempfile.TemporaryDirectory(dir=options.folder) as made:
         for name in options.parts or PARTS:
-            PARTS[name](options.jobs, pathlib.Path(made))
+            PARTS[name](options.jobs, pathlib.Path(made), options.short)
 
 
 if __name__ == "__main__":

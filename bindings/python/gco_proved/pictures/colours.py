@@ -9,7 +9,7 @@ UNIT = 20           # the costs of one nat: at --strong 1000 two like pixels cos
 PARTS = 5           # Gaussians for the colours of one kind (Rother, Kolmogorov and Blake 2004)
 SPREAD = 25.0       # the least variance of a colour in a Gaussian: five of 255
 ELSEWHERE = 0.01    # how much of a kind's colours may be any colour
-ROWS = 256          # rows whose colours are moved at a time
+ROWS = 256          # rows that are worked on at a time
 
 
 def with_luminance(colours: Any, luminance: Any, restored: Any, blue: Any = 0,
@@ -89,26 +89,35 @@ def model_costs(colours: Any, labels: Any) -> Any:
 def costs_by_models(colours: Any, models: List[Mixture]) -> Any:
     """What each model costs each pixel; the least is 0."""
     numpy, _ = numpy_and_pillow()
-    flat = colours.reshape(-1, 3)
-    each = [model.costs(flat) for model in models]
+    flat = colours.reshape(-1, 3).astype(numpy.int32)
+    # each colour once, since a photograph has most of its colours many times
+    packed, place = numpy.unique(flat @ numpy.array([1 << 16, 1 << 8, 1], dtype=numpy.int32),
+                                 return_inverse=True)
+    few = numpy.stack([packed >> 16, packed >> 8 & 255, packed & 255], axis=-1)
+    each = [model.costs(few) for model in models]
     least = numpy.minimum.reduce(each)
-    costs = numpy.stack([cost - least for cost in each], axis=-1)
+    costs = numpy.stack([cost - least for cost in each], axis=-1)[place]
     return costs.reshape(*colours.shape[:2], len(models))
 
 
 def squares_apart(first: Any, second: Any) -> Any:
     """How far colours are apart, squared."""
-    squares = (first.astype(int) - second) ** 2
+    numpy, _ = numpy_and_pillow()
+    squares = (first.astype(numpy.int32) - second) ** 2
     return squares[..., 0] + squares[..., 1] + squares[..., 2]
 
 
 def usual_edge(colours: Any) -> int:
     """The root of the mean square difference of the colours of neighbours, at least 1."""
-    numpy, _ = numpy_and_pillow()
-    squares = [squares_apart(colours[:, 1:], colours[:, :-1]).ravel(),
-               squares_apart(colours[1:], colours[:-1]).ravel()]
-    together = numpy.concatenate(squares)
-    return max(1, int(round(math.sqrt(together.mean())))) if together.size else 1
+    height, width = colours.shape[:2]
+    total = 0
+    for at in range(0, height, ROWS):
+        strip = colours[at:at + ROWS + 1]
+        inside = strip[:ROWS]
+        total += int(squares_apart(inside[:, 1:], inside[:, :-1]).sum(dtype="int64"))
+        total += int(squares_apart(strip[1:], strip[:-1]).sum(dtype="int64"))
+    count = height * (width - 1) + (height - 1) * width
+    return max(1, int(round(math.sqrt(total / count)))) if count else 1
 
 
 def contrast_pairs(colours: Any, strong: int, weak: int, edge: int, neighbours: int) -> Any:

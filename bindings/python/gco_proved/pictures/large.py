@@ -73,6 +73,26 @@ class Piece(NamedTuple):
         return self.function(*self.words)
 
 
+class Pixels(NamedTuple):
+    """Costs of a tile by a function that looks at each pixel alone, so of some pixels too."""
+
+    function: Callable[..., Any]
+    planes: List[Any]
+    more: Tuple[Any, ...]
+
+    def read(self) -> Any:
+        return self.function(*self.planes, *self.more)
+
+    def rows(self, inside: Any) -> Any:
+        return self.function(*(plane[inside][None] for plane in self.planes), *self.more)[0]
+
+
+def _parts(planes, box):
+    """What planes have in a box, without gaps: so it is pickled quickly."""
+    numpy, _ = numpy_and_pillow()
+    return [numpy.ascontiguousarray(plane[box]) for plane in planes]
+
+
 class Costs:
     """Data costs of a large picture: a function of parts of its planes, pixel by pixel."""
 
@@ -82,8 +102,8 @@ class Costs:
         self.function, self.planes, self.more = function, planes, more
         self.shape = planes[0].shape[:2]
 
-    def piece(self, box: Any) -> Piece:
-        return Piece(self.function, (*(plane[box] for plane in self.planes), *self.more))
+    def piece(self, box: Any) -> Any:
+        return Pixels(self.function, _parts(self.planes, box), self.more)
 
     def smaller(self, sides: Tuple[int, int]) -> Tuple[Any, Any]:
         """The costs of the shrunken picture, and which label each of theirs is."""
@@ -111,7 +131,7 @@ class Disparities(Costs):
         rows, columns = box
         count, cap = self.more
         wide = slice(max(columns.start - count + 1, 0), columns.stop)
-        left, right = (plane[rows, wide] for plane in self.planes)
+        left, right = _parts(self.planes, (rows, wide))
         return Piece(_disparities, (left, right, columns.start - wide.start, count, cap))
 
     def smaller(self, sides: Tuple[int, int]) -> Tuple[Any, Any]:
@@ -135,7 +155,8 @@ class Weights:
         self.plane, self.connect, self.function, self.more = plane, neighbours, function, more
 
     def piece(self, box: Any) -> Piece:
-        return Piece(_weights, (self.plane[box], self.connect, self.function, self.more))
+        return Piece(_weights, (*_parts([self.plane], box), self.connect, self.function,
+                                self.more))
 
     def smaller(self, sides: Tuple[int, int]) -> Any:
         """The pairs of the shrunken picture."""

@@ -2,7 +2,8 @@
 
 A source answers `piece(box)`, in the process that hands tiles out. The worker that has a tile calls
 the piece's `read()`. So a source may be any object with these two calls, which need a piece that
-can be pickled where workers are processes.
+can be pickled where workers are processes. A piece of data costs may have `rows(inside)` too, which
+makes those of some sites alone, of an array of yes and no.
 """
 import mmap
 from typing import Any, Callable, List, NamedTuple, Sequence
@@ -14,7 +15,7 @@ from .boxes import Box, Shape
 
 
 class Held(NamedTuple):
-    """Costs that lie in memory."""
+    """Costs that lie in memory, without gaps: so they are pickled quickly."""
 
     costs: Any
 
@@ -92,7 +93,7 @@ class Table:
             return Lazy(dask.optimize(table[box])[0])
         if isinstance(getattr(getattr(table, "store", None), "path", None), str):
             return Sliced(table, box)
-        return Held(arrays.numpy.asarray(table[box]))
+        return Held(arrays.numpy.ascontiguousarray(table[box]))
 
 
 class Even:
@@ -189,12 +190,26 @@ def costs_read(piece: Any, box: Box, sides: Shape, labels: int) -> Any:
         raise ValueError(f"data: the costs of a tile are to have the shape {(*sides, labels)}, and"
                          f" there is {costs.shape}")
     _look(costs, "data")
+    _look_at_range(costs, lambda wrong: [part.start + at for part, at in zip(box, wrong)])
+    return costs
+
+
+def rows_read(piece: Any, inside: Any, box: Box, sides: Shape, labels: int) -> Any:
+    """The data costs of some sites of a box, a row each."""
+    if not hasattr(piece, "rows"):
+        return costs_read(piece, box, sides, labels)[inside]
+    rows = arrays.numpy.asarray(piece.rows(inside))
+    _look(rows, "data")
+    _look_at_range(rows, lambda wrong: [part.start + int(at[wrong[0]])
+                                        for part, at in zip(box, inside.nonzero())])
+    return rows
+
+
+def _look_at_range(costs, site_of):
     if costs.size and not 0 <= costs.min() <= costs.max() <= DATA_LIMIT:
         wrong = arrays.numpy.argwhere((costs < 0) | (costs > DATA_LIMIT))[0].tolist()
-        site = tuple(part.start + at for part, at in zip(box, wrong))
-        raise Refused(15, words=f"data: label {wrong[-1]} at {site} costs"
+        raise Refused(15, words=f"data: label {wrong[-1]} at {tuple(site_of(wrong))} costs"
                       f" {int(costs[tuple(wrong)]):,}: a data cost is from 0 to {DATA_LIMIT:,}")
-    return costs
 
 
 def weights_read(piece: Any, box: Box, sides: Shape, offsets: Sequence[Shape]) -> List[Any]:

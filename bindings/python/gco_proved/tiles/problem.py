@@ -86,10 +86,6 @@ class Full:
         """Writes labels of the free sites into those of the window."""
         labels[self._in_window(self.box)] = after.reshape(self.sides)
 
-    def rows_of(self, data: Any) -> Any:
-        """The data costs of the free sites, of those of the box."""
-        return data.reshape(-1, data.shape[-1])
-
     def _in_window(self, box: Box) -> Box:
         return moved(box, back(tuple(part.start for part in self.window)))
 
@@ -143,7 +139,7 @@ class Masked:
         numpy = arrays.numpy
         free = numpy.zeros(sides_of_box(window), dtype=bool)
         free[within(box, window)] = inside
-        self.inside, self.window, self.shape = inside, window, free.shape
+        self.window, self.shape = window, free.shape
         self.at = numpy.nonzero(free)
         self.flat = numpy.flatnonzero(free)
         self.count = len(self.flat)
@@ -155,9 +151,6 @@ class Masked:
 
     def write(self, labels: Any, after: Any) -> None:
         labels.reshape(-1)[self.flat] = after
-
-    def rows_of(self, data: Any) -> Any:
-        return data[self.inside]
 
     def site(self, number: int) -> Tuple[int, ...]:
         return tuple(part.start + int(at[number]) for part, at in zip(self.window, self.at))

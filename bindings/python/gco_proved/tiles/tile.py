@@ -42,6 +42,14 @@ def data_of(task: Task) -> Any:
     return costs.costs_read(task.data, task.box, sides_of_box(task.box), len(task.smooth))
 
 
+def _rows_of(task: Task) -> Any:
+    """The data costs of the free sites, a row each."""
+    if task.free is None:
+        return data_of(task).reshape(-1, len(task.smooth))
+    return costs.rows_read(task.data, task.free, task.box, sides_of_box(task.box),
+                           len(task.smooth))
+
+
 def cheapest(task: Task) -> Any:
     """The cheapest label of each site of the tile, the first of several."""
     return data_of(task).argmin(axis=-1).astype(arrays.numpy.uint8)
@@ -59,9 +67,12 @@ def _look_at_labels(task: Task) -> None:
 def energy(task: Task) -> Tuple[int, int]:
     """The data costs of the tile's sites, and those of pairs whose lower corner is one of them."""
     _look_at_labels(task)
+    data, inside = data_of(task), within(task.box, task.window)
+    least, most = task.labels.min(), task.labels.max()
+    if least == most and task.smooth[least, least] == 0:  # no pair costs anything
+        return int(data[..., least].sum(dtype=arrays.numpy.int64)), 0
     weights = costs.weights_read(task.weights, task.window, task.labels.shape, task.offsets)
-    return energy_of_box(data_of(task), weights, task.offsets, task.smooth, task.labels,
-                         within(task.box, task.window))
+    return energy_of_box(data, weights, task.offsets, task.smooth, task.labels, inside)
 
 
 def run(task: Task) -> Answer:
@@ -70,7 +81,7 @@ def run(task: Task) -> Answer:
     _look_at_labels(task)
     free: Any = Full(task.box, task.window) if task.free is None else \
         Masked(task.free, task.box, task.window)
-    rows = free.rows_of(data_of(task))
+    rows = _rows_of(task)
     weights = costs.weights_read(task.weights, task.window, task.labels.shape, task.offsets)
     problem = problem_of(rows, free, task.labels, weights, task.offsets, task.smooth)
     start = free.labels_of(task.labels).astype(numpy.uint32)
