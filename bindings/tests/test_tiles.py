@@ -9,6 +9,7 @@ import pathlib
 import random
 import shutil
 import signal
+import subprocess
 import sys
 import tempfile
 import threading
@@ -392,10 +393,8 @@ def opened(path):
 def killed(out, path):
     """A run whose process is killed: another one goes on from what is on the disk."""
     path = f"{path}.npy" if isinstance(out, np.memmap) else f"{path}.zarr"
-    run = multiprocessing.get_context("spawn").Process(target=run_and_die, args=(path,))
-    run.start()
-    run.join(60)
-    assert run.exitcode == -signal.SIGKILL, run.exitcode
+    run = subprocess.run([sys.executable, __file__, "--run-and-die", path], stderr=subprocess.DEVNULL, timeout=120)
+    assert run.returncode == -signal.SIGKILL, run.returncode
     whole, out = wanted(), opened(path)
     rest = label_tiles(DATA, SMOOTH, WEIGHTS, tile=TILE, start=out, out=out)
     assert whole.energy < rest.energies[0] < whole.energies[0] and rest.settled and rest.energy <= 1.001 * whole.energy
@@ -549,6 +548,8 @@ def threads_side_by_side():
     assert len(told) == 2 and all((one.labels == found.labels).all() for one in told)
 
 
+if "--run-and-die" in sys.argv:
+    run_and_die(sys.argv[2])
 if __name__ == "__main__":
     made = pathlib.Path(tempfile.mkdtemp())
     try:

@@ -254,27 +254,28 @@ def _pinned(whole, pairs, borders, wide):
     return Problem(numpy.concatenate([whole, table]), numpy.concatenate(rows), len(whole), pinned)
 
 
+def data_energy(data: Any, labels: Any) -> int:
+    """What the labels cost by themselves, by data costs (.., labels)."""
+    numpy = arrays.numpy
+    paid = numpy.take_along_axis(data, labels[..., None].astype(numpy.int64), axis=-1)
+    return int(paid.sum(dtype=numpy.int64))
+
+
 def energy_of(problem: Problem, smooth: Any, labels: Any) -> int:
     """The energy of labels of the free sites and of those that stand for fixed ones."""
-    numpy = arrays.numpy
-    paid = numpy.take_along_axis(problem.data, labels[:, None].astype(numpy.int64), axis=1)
     pairs = problem.pairs
     ends = labels[pairs[:, 0]], labels[pairs[:, 1]]
-    return int(paid.sum(dtype=numpy.int64)) + int((smooth[ends] * pairs[:, 2]).sum())
+    return data_energy(problem.data, labels) + int((smooth[ends] * pairs[:, 2]).sum())
 
 
-def energy_of_box(data: Any, weights: Sequence[Any], offsets: Sequence[Shape], smooth: Any,
-                  labels: Any, inside: Box) -> Tuple[int, int]:
-    """The data costs of a box inside a window, and what those of the window's pairs cost that have
-    their lower corner in the box."""
-    numpy = arrays.numpy
-    here = labels[inside].astype(numpy.int64)
-    paid = numpy.take_along_axis(data, here[..., None], axis=-1)
-    by_site, by_pair = int(paid.sum(dtype=numpy.int64)), 0
+def pair_energy(weights: Sequence[Any], offsets: Sequence[Shape], smooth: Any, labels: Any,
+                inside: Box) -> int:
+    """What those pairs of a window cost that have their lower corner in a box inside it."""
+    total = 0
     for offset, weight in zip(offsets, weights):
         corner = tuple(slice(part.start, max(min(part.stop, side - abs(move)), part.start))
                        for part, side, move in zip(inside, labels.shape, offset))
         first = moved(corner, tuple(max(-move, 0) for move in offset))
         paid = smooth[labels[first], labels[moved(first, offset)]]
-        by_pair += int((paid * (weight[corner] if weight.ndim else weight)).sum())
-    return by_site, by_pair
+        total += int((paid * (weight[corner] if weight.ndim else weight)).sum())
+    return total

@@ -45,18 +45,18 @@ class Whole:
         self.engine, self.numpy = engine, numpy
         self.labels: Any = None
 
-    def task(self, box: Box, free: Any = None) -> work.Task:
+    def task(self, box: Box, free: Any = None, with_data: bool = True) -> work.Task:
         """All that a worker has to know of a tile."""
         numpy, window = self.numpy, grown(box, self.shape)
-        return work.Task(box, window, numpy.array(self.labels[window]), free, self.data.piece(box),
-                         self.weights.piece(window), self.smooth, self.offsets, self.moves,
-                         self.cycles)
+        return work.Task(box, window, numpy.array(self.labels[window]), free,
+                         self.data.piece(box) if with_data else None, self.weights.piece(window),
+                         self.smooth, self.offsets, self.moves, self.cycles)
 
-    def each(self, function: Callable[[work.Task], Any],
-             sweep: Sweep) -> Iterator[Tuple[Box, Any]]:
+    def each(self, function: Callable[[work.Task], Any], sweep: Sweep,
+             with_data: bool = True) -> Iterator[Tuple[Box, Any]]:
         """The answers of a function for each tile, in any order."""
         boxes = {place: sweep.box(place) for place in sweep.places()}
-        tasks = ((place, self.task(box)) for place, box in boxes.items())
+        tasks = ((place, self.task(box, None, with_data)) for place, box in boxes.items())
         for place, answer in self.engine.answers(function, tasks):
             yield boxes[place], answer
 
@@ -170,11 +170,12 @@ class Run:
             raise ValueError(f"out: one label for each site is wanted, of shape {whole.shape}, and"
                              f" the shape is {tuple(whole.labels.shape)}")
         if start is None:
-            for box, labels in whole.each(work.cheapest, self.plain):
+            for box, (labels, data) in whole.each(work.cheapest, self.plain):
                 whole.labels[box] = labels
+                self.data += data
         elif start is not out:
             self._copy(start)
-        for _, (data, smooth) in whole.each(work.energy, self.plain):
+        for _, (data, smooth) in whole.each(work.energy, self.plain, start is not None):
             self.data += data
             self.smooth += smooth
         self.energies = [self.energy]

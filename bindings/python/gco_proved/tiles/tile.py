@@ -5,7 +5,7 @@ from .. import arrays, labelling
 from ..refusals import Refused
 from . import costs
 from .boxes import Box, Shape, sides_of_box, within
-from .problem import Full, Masked, energy_of, energy_of_box, problem_of
+from .problem import Full, Masked, data_energy, energy_of, pair_energy, problem_of
 
 
 class Task(NamedTuple):
@@ -50,9 +50,10 @@ def _rows_of(task: Task) -> Any:
                            len(task.smooth))
 
 
-def cheapest(task: Task) -> Any:
-    """The cheapest label of each site of the tile, the first of several."""
-    return data_of(task).argmin(axis=-1).astype(arrays.numpy.uint8)
+def cheapest(task: Task) -> Tuple[Any, int]:
+    """The cheapest label of each site of the tile, the first of several, and what they cost."""
+    numpy, data = arrays.numpy, data_of(task)
+    return data.argmin(axis=-1).astype(numpy.uint8), int(data.min(axis=-1).sum(dtype=numpy.int64))
 
 
 def _look_at_labels(task: Task) -> None:
@@ -65,14 +66,16 @@ def _look_at_labels(task: Task) -> None:
 
 
 def energy(task: Task) -> Tuple[int, int]:
-    """The data costs of the tile's sites, and those of pairs whose lower corner is one of them."""
+    """The data costs of the tile's sites, 0 where the task has none; and those of pairs whose lower
+    corner is one of the sites."""
     _look_at_labels(task)
-    data, inside = data_of(task), within(task.box, task.window)
+    inside = within(task.box, task.window)
+    data = 0 if task.data is None else data_energy(data_of(task), task.labels[inside])
     least, most = task.labels.min(), task.labels.max()
     if least == most and task.smooth[least, least] == 0:  # no pair costs anything
-        return int(data[..., least].sum(dtype=arrays.numpy.int64)), 0
+        return data, 0
     weights = costs.weights_read(task.weights, task.window, task.labels.shape, task.offsets)
-    return energy_of_box(data, weights, task.offsets, task.smooth, task.labels, inside)
+    return data, pair_energy(weights, task.offsets, task.smooth, task.labels, inside)
 
 
 def run(task: Task) -> Answer:
@@ -90,10 +93,8 @@ def run(task: Task) -> Answer:
     after = found.labels[:problem.sites]
     if numpy.array_equal(after, start):
         return Answer(None, 0, 0, found.settled)
-    ended = numpy.concatenate([after, problem.pinned])
-    rise = energy_of(problem, task.smooth, ended) - energy_of(problem, task.smooth, begun)
-    data = sum(sign * int(numpy.take_along_axis(rows, labels[:, None].astype(numpy.int64), axis=1)
-                          .sum(dtype=numpy.int64)) for labels, sign in ((after, 1), (start, -1)))
+    rise = found.energy - energy_of(problem, task.smooth, begun)
+    data = data_energy(rows, after) - data_energy(rows, start)
     labels = task.labels.copy()
     free.write(labels, after)
     labels = labels[within(task.box, task.window)].astype(numpy.uint8)
