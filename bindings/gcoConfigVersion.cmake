@@ -1,4 +1,4 @@
-# find_package(gco 0.2): a version serves where it has the same first number and is not older
+# find_package(gco 1.0): a version serves where it has the same first number and is not older
 set(PACKAGE_VERSION "@VERSION@")
 string(REGEX MATCH "^[0-9]+" _gco_first "${PACKAGE_VERSION}")
 if(PACKAGE_FIND_VERSION VERSION_EQUAL PACKAGE_VERSION)

@@ -1,6 +1,6 @@
 #!/bin/sh
 # Makes the Debian package of the tree of a release:
-#   VERSION=0.2.0 PYTHON=python3 sh release/make_deb.sh TREE gco_0.2.0_amd64.deb
+#   VERSION=1.0.0 PYTHON=python3 sh release/make_deb.sh TREE gco_1.0.0_amd64.deb
 set -eu
 
 stage=$1

@@ -1,6 +1,6 @@
 #!/bin/sh
 # Lays out the tree of the release in a folder that has the library already (include, lib):
-#   VERSION=0.2.0 GCO=crates/gco/out/gco RUN=crates/gco/out/gco DEB=gco_0.2.0_amd64.deb OBJDUMP=objdump \
+#   VERSION=1.0.0 GCO=crates/gco/out/gco RUN=crates/gco/out/gco DEB=gco_1.0.0_amd64.deb OBJDUMP=objdump \
 #       MACHINE=x86-64 TRIED='`make check`' GATE_LOG= PYTHON=python3 sh release/stage.sh FOLDER
 # RUN runs the program here.
 set -eu

@@ -2,7 +2,7 @@
 """Writes the manual pages gco.1, gco-restore.1 .. from what the program's help and docs/REFUSED.md
 say:
 
-    make_manuals.py --gco crates/gco/out/gco --version 0.2.0 --date 2026-11-26 FOLDER
+    make_manuals.py --gco crates/gco/out/gco --version 1.0.0 --date 2026-11-26 FOLDER
 
 Options and their defaults are help's own; the problem files of gco-label.1 and gco-energy.1 are the
 first table of docs/LABEL.md and docs/ENERGY.md.

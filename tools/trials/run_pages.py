@@ -2,7 +2,7 @@
 """Runs the commands of pages as they are written, and compares what they print with what the page
 says:
 
-    python3 tools/trials/run_pages.py --release dist/gco-0.2.0-linux-x86_64 README.md docs/IMAGES.md
+    python3 tools/trials/run_pages.py --release dist/gco-1.0.0-linux-x86_64 README.md docs/IMAGES.md
 
 A block that is fenced as
 

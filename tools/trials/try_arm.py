@@ -1,7 +1,7 @@
 #!/usr/bin/env python3
 """Tries the release for 64-bit ARM on x86-64, by an emulator:
 
-    python3 tools/trials/try_arm.py dist/gco-0.2.0-linux-aarch64.tar.gz dist/gco_0.2.0_arm64.deb --gco PROGRAM
+    python3 tools/trials/try_arm.py dist/gco-1.0.0-linux-aarch64.tar.gz dist/gco_1.0.0_arm64.deb --gco PROGRAM
 
 PROGRAM is the one of this machine: the program of ARM has to write its bytes, on one thread and by
 two. The archive is unpacked and installed, and the tests of the bindings in C and C++ are compiled

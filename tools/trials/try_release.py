@@ -1,7 +1,7 @@
 #!/usr/bin/env python3
 """Tries a release as a user does who has nothing but the archive: no toolchain, an empty folder.
 
-    python3 tools/trials/try_release.py dist/gco-0.2.0-linux-x86_64.tar.gz dist/gco_0.2.0_amd64.deb
+    python3 tools/trials/try_release.py dist/gco-1.0.0-linux-x86_64.tar.gz dist/gco_1.0.0_amd64.deb
 
 Unpacks it, tests its sums, runs the first commands of its README.md as they are written, installs it,
 runs the program on the examples, compiles the programs of docs/BINDINGS.md by pkg-config and by CMake,
