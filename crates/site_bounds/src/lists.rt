@@ -205,8 +205,8 @@ impl Lists {
         Ok(())
     }
 
-    /// The same. If the move is a swap, each site that it could change is among these: then no other
-    /// is looked at for a list.
+    /// The same. Of a swap, each site that it could change is among these: then no other is looked
+    /// at for a list.
     pub(crate) fn fill_rest(
         &mut self,
         at: &[u8],
