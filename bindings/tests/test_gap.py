@@ -231,9 +231,8 @@ def refused_pictures(folder):
         status, told, wrong = run("restore", EXAMPLES / "noisy.pgm", out, *words)
         assert status == 2 and told == "" and not out.exists(), (words, status, wrong)
     large = pgm(folder / "large.pgm", (2048, 1, [0] * (2048 * 513)))
-    for word in ("--gap", "--refine"):
-        status, _, wrong = run("restore", large, out, "--weight", 1, word)
-        assert status == 1 and "at most 1,048,576 pixels" in wrong and "--fit" in wrong and not out.exists(), wrong
+    status, _, wrong = run("restore", large, out, "--weight", 1, "--refine")
+    assert status == 1 and "at most 1,048,576 pixels" in wrong and "--fit" in wrong and not out.exists(), wrong
     status, _, wrong = run("restore", EXAMPLES / "noisy.pgm", out, "--smooth", "quadratic", "--trunc", 9, "--weight", 1, "--gap")
     assert status == 1 and "refused 24" in wrong and "least at least" not in wrong and not out.exists(), wrong
     status, told, wrong = run("restore", EXAMPLES / "noisy.pgm", out, "--gap", "--quiet")
