@@ -153,7 +153,7 @@ def watched(count):
 
 def paces():
     """How many moves each stretch has, of 512 by 512 sites and of moves that take so long."""
-    for each, wanted in ((0.0011, [10, 20, 40, 80, 160, 320, 636, 636, 636]), (0.09, [10, 7, 7]), (0.2, [10, 3, 3]), (2, [10, 1, 1])):
+    for each, wanted in ((0.0011, [12, 24, 48, 96, 192, 384, 727, 727, 727]), (0.09, [12, 8, 8]), (0.2, [12, 3, 3]), (2, [12, 1, 1])):
         sizes = [gco.stretches._moves_of(gco.stretches.SECONDS_A_SITE * 512 * 512)]
         while len(sizes) < len(wanted):
             sizes.append(gco.stretches._moves_next(sizes[-1], each * sizes[-1]))

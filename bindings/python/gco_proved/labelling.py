@@ -227,12 +227,12 @@ def label(data: Any, smooth: Any, pairs: Any, *, label_costs: Any = None,
     to 10,000,000, or none. Raises Refused, ValueError for a wrong shape, TypeError for numbers with
     a fraction, and OverflowError for numbers beyond their bits.
 
-    `progress` is called about every 0.7 s and at the end: with the cycle (from 1) and the label
+    `progress` is called about every 0.8 s and at the end: with the cycle (from 1) and the label
     of the last move (of a swap both), how many sites changed since the call before, and the energy.
     Where it answers False the run stops there, not settled. True stands for a bar of tqdm where
     that is there, else for lines on standard error.
 
-    Ctrl-C stops a run that is `stoppable` within about 0.7 s, or after the move that is being
+    Ctrl-C stops a run that is `stoppable` within about 0.8 s, or after the move that is being
     made: the KeyboardInterrupt has what was found till then as `partial`, which is None before the
     first move. A run is stoppable if it has 65,536 data costs or more, where nothing else is said.
 

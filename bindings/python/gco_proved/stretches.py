@@ -11,7 +11,7 @@ if TYPE_CHECKING:
     from .labelling import Found, Problem
 
 # a stretch is of as many moves as take so many seconds: the first one by the time of a slow move
-SECONDS = 0.7
+SECONDS = 0.8
 SECONDS_A_SITE = 2.5e-7
 # and the later ones by the time of the stretch before, of at most so many times as many moves
 GROWTH = 2
@@ -62,7 +62,7 @@ class _Stretches:
 
 def run(problem: "Problem", moves: str, allowed: int, progress: Optional[Callable[..., Any]],
         each: bool = False) -> "Found":
-    """The cycles of a run, by stretches of some 0.7 s, or move by move where `each` is
+    """The cycles of a run, by stretches of some 0.8 s, or move by move where `each` is
     asked for. The labels are those of one call.
 
     A KeyboardInterrupt has what was found till then as `partial`, None before the first move, and
