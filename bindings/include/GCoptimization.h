@@ -530,26 +530,24 @@ private:
         gco_course course = gco_course();
     };
 
-    // single moves, over a copy of the costs in 64 bits
+    // single moves over costs of 32 bits, and the bound over a copy of them in 64 bits
     struct Moves : Arrays {
-        typedef std::vector<std::int64_t> Wide;
         explicit Moves(GCoptimization &given)
-            : Arrays(given), costs(data().begin(), data().end()),
-              smooth(laid.table.begin(), laid.table.end()),
-              own(given.label_costs_.begin(), given.label_costs_.end()) {}
+            : Arrays(given), costs(data()), own(given.label_costs_) {}
         bool expand(LabelID alpha) {
-            check(gco_expand(std::uint32_t(of.label_count_), costs.data(), costs.size(),
-                             smooth.data(), smooth.size(), own.data(), own.size(),
-                             laid.pairs->data(), laid.pairs->size(), std::uint32_t(alpha),
-                             of.labels_.data(), of.labels_.size(), &of.outcome_));
+            check(gco_expand_int32(std::uint32_t(of.label_count_), costs.data(), costs.size(),
+                                   laid.table.data(), laid.table.size(), own.data(), own.size(),
+                                   laid.pairs->data(), laid.pairs->size(), std::uint32_t(alpha),
+                                   of.labels_.data(), of.labels_.size(), &of.outcome_));
             if (of.verbosity_ >= 2) of.print("  " + move_name(alpha, alpha), energy());
             return of.outcome_.changed != 0;
         }
         bool swap(LabelID alpha, LabelID beta) {
-            check(gco_swap(std::uint32_t(of.label_count_), costs.data(), costs.size(),
-                           smooth.data(), smooth.size(), own.data(), own.size(), laid.pairs->data(),
-                           laid.pairs->size(), std::uint32_t(alpha), std::uint32_t(beta),
-                           of.labels_.data(), of.labels_.size(), &of.outcome_));
+            check(gco_swap_int32(std::uint32_t(of.label_count_), costs.data(), costs.size(),
+                                 laid.table.data(), laid.table.size(), own.data(), own.size(),
+                                 laid.pairs->data(), laid.pairs->size(), std::uint32_t(alpha),
+                                 std::uint32_t(beta), of.labels_.data(), of.labels_.size(),
+                                 &of.outcome_));
             if (of.verbosity_ >= 2)
                 of.print("  swap of labels " + std::to_string(alpha) + " and " +
                              std::to_string(beta),
@@ -558,9 +556,11 @@ private:
         }
         EnergyType bound(int passes, std::vector<std::uint32_t> &labels) {
             gco_bound told;
+            const std::vector<std::int64_t> wide(costs.begin(), costs.end()),
+                paid(own.begin(), own.end()), smooth(laid.table.begin(), laid.table.end());
             const std::uint32_t status = gco_lower_bound(
-                std::uint32_t(of.label_count_), costs.data(), costs.size(), smooth.data(),
-                smooth.size(), own.data(), own.size(), laid.pairs->data(), laid.pairs->size(),
+                std::uint32_t(of.label_count_), wide.data(), wide.size(), smooth.data(),
+                smooth.size(), paid.data(), paid.size(), laid.pairs->data(), laid.pairs->size(),
                 passes < 0 ? GCO_ALL_PASSES : std::uint32_t(passes), GCO_ANY_SIZE, labels.data(),
                 labels.size(), &told);
             of.outcome_ = gco_outcome();
@@ -584,7 +584,7 @@ private:
                 }
             return is_changed;
         }
-        Wide costs, smooth, own;
+        const std::vector<std::int32_t> &costs, &own;
         int moves_left = 0;
         bool is_stopped = false;
     };

@@ -198,6 +198,16 @@ uint32_t gco_expand(uint32_t label_count,
                     uint32_t *labels, size_t site_count,
                     gco_outcome *told);
 
+/* What gco_expand does, over costs of 32 bits. */
+uint32_t gco_expand_int32(uint32_t label_count,
+                          const int32_t *data, size_t data_count,
+                          const int32_t *smooth, size_t smooth_count,
+                          const int32_t *label_costs, size_t label_cost_count,
+                          const gco_pair *pairs, size_t pair_count,
+                          uint32_t alpha,
+                          uint32_t *labels, size_t site_count,
+                          gco_outcome *told);
+
 /* One move: every site that has `alpha` or `beta` takes either, to the best of these labellings. Refused as
  * GCO_LABEL_COST_IN_SWAP where some label costs more than 0 by itself.
  *
@@ -210,6 +220,16 @@ uint32_t gco_swap(uint32_t label_count,
                   uint32_t alpha, uint32_t beta,
                   uint32_t *labels, size_t site_count,
                   gco_outcome *told);
+
+/* What gco_swap does, over costs of 32 bits. */
+uint32_t gco_swap_int32(uint32_t label_count,
+                        const int32_t *data, size_t data_count,
+                        const int32_t *smooth, size_t smooth_count,
+                        const int32_t *label_costs, size_t label_cost_count,
+                        const gco_pair *pairs, size_t pair_count,
+                        uint32_t alpha, uint32_t beta,
+                        uint32_t *labels, size_t site_count,
+                        gco_outcome *told);
 
 /* What gco_lower_bound tells beside its status and its labels; all of it is written by each call. */
 typedef struct gco_bound {

@@ -164,6 +164,20 @@ static int narrow(void) {
     WANT(FRESH(gco_label_int32(3, data32, 15, smooth32, 9, NULL, 0, pairs, 6, GCO_SWAP, 0, ends, 5, &told)) == GCO_OK);
     WANT(tells((gco_outcome){.data = 23, .smooth = 4}));
     REFUSED(gco_label_int32(3, data32, 15, smooth32, 9, NULL, 0, pairs, 6, 2, 0, ends, 5, &told), GCO_NO_SUCH_MOVES, 0);
+    /* single moves, as those of 64 bits above */
+    memset(ends, 0, sizeof ends);
+    memset(labels, 0, sizeof labels);
+    WANT(FRESH(gco_expand(3, data, 15, smooth, 9, NULL, 0, pairs, 6, 2, labels, 5, &told)) == GCO_OK);
+    wide = told;
+    WANT(FRESH(gco_expand_int32(3, data32, 15, smooth32, 9, NULL, 0, pairs, 6, 2, ends, 5, &told)) == GCO_OK);
+    WANT(!memcmp(ends, labels, sizeof ends) && tells(wide) && told.changed);
+    WANT(FRESH(gco_swap(3, data, 15, smooth, 9, NULL, 0, pairs, 6, 2, 1, labels, 5, &told)) == GCO_OK);
+    wide = told;
+    WANT(FRESH(gco_swap_int32(3, data32, 15, smooth32, 9, NULL, 0, pairs, 6, 2, 1, ends, 5, &told)) == GCO_OK);
+    WANT(!memcmp(ends, labels, sizeof ends) && tells(wide) && told.changed);
+    REFUSED(gco_expand_int32(3, data32, 15, smooth32, 8, NULL, 0, pairs, 6, 2, ends, 5, &told), GCO_SMOOTH_COUNT, 0);
+    REFUSED(gco_expand_int32(3, data32, 15, smooth32, 9, NULL, 0, pairs, 6, 3, ends, 5, &told), GCO_NO_SUCH_MOVE, 0);
+    REFUSED(gco_swap_int32(3, data32, 15, smooth32, 9, costs32, 3, pairs, 6, 2, 1, ends, 5, &told), GCO_LABEL_COST_IN_SWAP, 0);
     REFUSED(RUN32(14, 0), GCO_DATA_COUNT, 0);
     REFUSED(RUN32(15, 2), GCO_LABEL_COST_COUNT, 0);
     data32[14] = INT32_MIN;

@@ -45,7 +45,7 @@ static gco_three threes[] = {{0, 1, 2, 0, 3, 3, 3, 3, 3, 3, 3, 0}};
 static uint32_t labels[5];
 static uint8_t bits[3];
 
-enum { CALLS = 8, WROTE = 99 };
+enum { CALLS = 10, WROTE = 99 };
 
 /* The rest of a run after two moves, whose memory is not refused. What a refusal writes is told by a
  * status of its own. */
@@ -98,6 +98,11 @@ static uint32_t call(int which) {
         return gco_lower_bound(3, data, 15, smooth, 9, costs, 3, pairs, 6, 9, GCO_ANY_SIZE, labels,
                                5, &bound);
     case 6: return stretched();
+    case 7:
+        return gco_expand_int32(3, data32, 15, smooth32, 9, costs32, 3, pairs, 6, 2, labels, 5,
+                                &told);
+    case 8:
+        return gco_swap_int32(3, data32, 15, smooth32, 9, NULL, 0, pairs, 6, 0, 2, labels, 5, &told);
     default: return gco_minimise(10, ones, 1, twos, 1, threes, 1, bits, 3, &found);
     }
 }

@@ -66,7 +66,9 @@ for _call, _types in [
     (calls.gco_label_stretch_int32,
      [*_TABLES, _U32, _U32, _U32, _OUT, *_SLICE, *_SLICE, *_SLICE, _OUT]),
     (calls.gco_expand, [*_TABLES, _U32, *_SLICE, _OUT]),
+    (calls.gco_expand_int32, [*_TABLES, _U32, *_SLICE, _OUT]),
     (calls.gco_swap, [*_TABLES, _U32, _U32, *_SLICE, _OUT]),
+    (calls.gco_swap_int32, [*_TABLES, _U32, _U32, *_SLICE, _OUT]),
     (calls.gco_lower_bound, [*_TABLES, _U32, ctypes.c_uint64, *_SLICE, _OUT]),
     (calls.gco_minimise, [ctypes.c_int64, *_SLICE, *_SLICE, *_SLICE, *_SLICE, _OUT]),
 ]:

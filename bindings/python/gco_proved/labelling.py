@@ -277,16 +277,17 @@ def _stops(problem):
 def expand(data: Any, smooth: Any, pairs: Any, alpha: int, *, label_costs: Any = None,
            start: Any = None) -> Found:
     """One move: every site keeps its label or takes `alpha`. `settled`: nothing changed."""
-    problem = Problem(data, smooth, pairs, label_costs, start)
-    told = problem.make(calls.gco_expand, whole(alpha, 0, 2**32 - 1, "alpha"))
+    problem = Problem(data, smooth, pairs, label_costs, start, narrow=True)
+    call = calls.gco_expand_int32 if problem.narrow else calls.gco_expand
+    told = problem.make(call, whole(alpha, 0, 2**32 - 1, "alpha"))
     return problem.found(0, not told.changed)
 
 
 def swap(data: Any, smooth: Any, pairs: Any, alpha: int, beta: int, *, start: Any = None) -> Found:
     """One move: every site that has `alpha` or `beta` takes either. `settled`: nothing changed."""
-    problem = Problem(data, smooth, pairs, None, start)
-    told = problem.make(calls.gco_swap, whole(alpha, 0, 2**32 - 1, "alpha"),
-                        whole(beta, 0, 2**32 - 1, "beta"))
+    problem = Problem(data, smooth, pairs, None, start, narrow=True)
+    call = calls.gco_swap_int32 if problem.narrow else calls.gco_swap
+    told = problem.make(call, whole(alpha, 0, 2**32 - 1, "alpha"), whole(beta, 0, 2**32 - 1, "beta"))
     return problem.found(0, not told.changed)
 
 

@@ -86,6 +86,41 @@ pub type Stretch<Cost> = unsafe extern "C" fn(
     *mut Outcome,
 ) -> u32;
 
+/// `gco_expand` and `gco_expand_int32`, by the type of the costs.
+pub type Expand<Cost> = unsafe extern "C" fn(
+    u32,
+    *const Cost,
+    usize,
+    *const Cost,
+    usize,
+    *const Cost,
+    usize,
+    *const Pair,
+    usize,
+    u32,
+    *mut u32,
+    usize,
+    *mut Outcome,
+) -> u32;
+
+/// `gco_swap` and `gco_swap_int32`, by the type of the costs.
+pub type Swap<Cost> = unsafe extern "C" fn(
+    u32,
+    *const Cost,
+    usize,
+    *const Cost,
+    usize,
+    *const Cost,
+    usize,
+    *const Pair,
+    usize,
+    u32,
+    u32,
+    *mut u32,
+    usize,
+    *mut Outcome,
+) -> u32;
+
 extern "C" {
     pub fn gco_label(
         label_count: u32,
@@ -178,6 +213,21 @@ extern "C" {
         site_count: usize,
         told: *mut Outcome,
     ) -> u32;
+    pub fn gco_expand_int32(
+        label_count: u32,
+        data: *const i32,
+        data_count: usize,
+        smooth: *const i32,
+        smooth_count: usize,
+        label_costs: *const i32,
+        label_cost_count: usize,
+        pairs: *const Pair,
+        pair_count: usize,
+        alpha: u32,
+        labels: *mut u32,
+        site_count: usize,
+        told: *mut Outcome,
+    ) -> u32;
     pub fn gco_swap(
         label_count: u32,
         data: *const i64,
@@ -185,6 +235,22 @@ extern "C" {
         smooth: *const i64,
         smooth_count: usize,
         label_costs: *const i64,
+        label_cost_count: usize,
+        pairs: *const Pair,
+        pair_count: usize,
+        alpha: u32,
+        beta: u32,
+        labels: *mut u32,
+        site_count: usize,
+        told: *mut Outcome,
+    ) -> u32;
+    pub fn gco_swap_int32(
+        label_count: u32,
+        data: *const i32,
+        data_count: usize,
+        smooth: *const i32,
+        smooth_count: usize,
+        label_costs: *const i32,
         label_cost_count: usize,
         pairs: *const Pair,
         pair_count: usize,

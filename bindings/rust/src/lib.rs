@@ -115,6 +115,8 @@ mod sealed {
     pub trait Sealed: Sized {
         fn call() -> super::calls::Label<Self>;
         fn stretch() -> super::calls::Stretch<Self>;
+        fn expand() -> super::calls::Expand<Self>;
+        fn swap() -> super::calls::Swap<Self>;
     }
 }
 
@@ -127,6 +129,12 @@ impl sealed::Sealed for i64 {
     fn stretch() -> calls::Stretch<i64> {
         calls::gco_label_stretch
     }
+    fn expand() -> calls::Expand<i64> {
+        calls::gco_expand
+    }
+    fn swap() -> calls::Swap<i64> {
+        calls::gco_swap
+    }
 }
 impl sealed::Sealed for i32 {
     fn call() -> calls::Label<i32> {
@@ -134,6 +142,12 @@ impl sealed::Sealed for i32 {
     }
     fn stretch() -> calls::Stretch<i32> {
         calls::gco_label_stretch_int32
+    }
+    fn expand() -> calls::Expand<i32> {
+        calls::gco_expand_int32
+    }
+    fn swap() -> calls::Swap<i32> {
+        calls::gco_swap_int32
     }
 }
 impl Cost for i64 {}
@@ -182,6 +196,18 @@ impl<C: Cost> Problem<'_, C> {
         }
         Ok(Run::of(&told))
     }
+
+    /// One move: every site keeps its label or takes `alpha`.
+    pub fn expand(&self, alpha: u32, labels: &mut [u32]) -> Result<Move, Refusal> {
+        let (status, told) = call_over!(calls::Outcome, C::expand(), self, labels, alpha);
+        moved(status, &told)
+    }
+
+    /// One move: every site that has `alpha` or `beta` takes either.
+    pub fn swap(&self, alpha: u32, beta: u32, labels: &mut [u32]) -> Result<Move, Refusal> {
+        let (status, told) = call_over!(calls::Outcome, C::swap(), self, labels, alpha, beta);
+        moved(status, &told)
+    }
 }
 
 fn moved(status: u32, told: &calls::Outcome) -> Result<Move, Refusal> {
@@ -221,18 +247,6 @@ impl Problem<'_, i64> {
             return Err(Refusal::of_place(status, told.place as usize));
         }
         Ok(told.low)
-    }
-
-    /// One move: every site keeps its label or takes `alpha`.
-    pub fn expand(&self, alpha: u32, labels: &mut [u32]) -> Result<Move, Refusal> {
-        let (status, told) = call_over!(calls::Outcome, calls::gco_expand, self, labels, alpha);
-        moved(status, &told)
-    }
-
-    /// One move: every site that has `alpha` or `beta` takes either.
-    pub fn swap(&self, alpha: u32, beta: u32, labels: &mut [u32]) -> Result<Move, Refusal> {
-        let (status, told) = call_over!(calls::Outcome, calls::gco_swap, self, labels, alpha, beta);
-        moved(status, &told)
     }
 }
 
