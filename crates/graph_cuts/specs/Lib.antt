@@ -24,6 +24,7 @@ pub use Rattle.cost_store.specs.Posed
 pub use Rattle.cost_store.specs.Promises
 pub use Rattle.one_move.specs.Moved
 pub use Rattle.one_move.specs.Refusals as MoveRefusals
+pub use Rattle.moves.specs.Bookmarks
 pub use Rattle.moves.specs.Bounds
 pub use Rattle.moves.specs.Courses
 pub use Rattle.moves.specs.Instances

@@ -13,8 +13,8 @@ pub use label_energies::{Move, Moves};
 pub use label_field::{LabelFieldError, Labelling, Pair, Pairs};
 pub use minimum::{Minimum, minimise, minimise_by};
 pub use moves::{
-    Bound, Columns, Ended, LabelPrices, MoveError, Request, Run, RunUnderWay, Step, expand,
-    expansion_bound, laws, potts_run_is_near, run, run_expansion, run_swap, run_tables,
+    Bookmark, Bound, Columns, Ended, LabelPrices, Mark, MoveError, Request, Run, RunUnderWay, Step,
+    expand, expansion_bound, laws, potts_run_is_near, run, run_expansion, run_swap, run_tables,
     run_with_table, settled_run_is_near, swap,
 };
 pub use pgm_image::{
