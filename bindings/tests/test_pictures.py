@@ -346,9 +346,9 @@ def strokes(folder):
     said(2, "as (255, 255, 255)", of=("segment", folder / "things.png", folder / "white.png", folder / "no.png"))
     for kind, word in ((1, "second"), (2, "first")):
         Image.fromarray((drawn * (drawn == kind)).astype(np.uint8)).save(folder / "one.png")
-        said(2, f"there is no seed of the {word} segment, and --low and --high are one grey", "red is the first",
+        said(2, f"the {word} segment has no seed, and --low and --high are one grey", "red is the first",
              of=("segment", folder / "in.png", folder / "one.png", folder / "no.png"))
-        said(2, f"no seed of the {word} segment, and --like colours", of=("segment", folder / "in.png", folder / "one.png", folder / "no.png", "--like", "colours"))
+        said(2, f"the {word} segment has no seed, and --like colours", of=("segment", folder / "in.png", folder / "one.png", folder / "no.png", "--like", "colours"))
         said(0, of=("segment", folder / "in.png", folder / "one.png", folder / "l.png", *words))
     layer(40).save(folder / "gone.png")
     said(2, "there are no seeds", of=("segment", folder / "in.png", folder / "gone.png", folder / "no.png"))

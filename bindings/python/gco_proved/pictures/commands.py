@@ -147,7 +147,7 @@ def _greys(options, samples, drawn):
         if not drawn.any():
             raise Undecided("there are no seeds, and --low and --high are one grey, so nothing"
                             " tells the two segments apart: give seeds, or --low and --high")
-        raise Undecided(f"there is no seed of the {missing} segment, and --low and --high are one"
+        raise Undecided(f"the {missing} segment has no seed, and --low and --high are one"
                         " grey, so nothing tells the two segments apart: paint both (red is the"
                         " first segment, blue the second), or give --low and --high")
     for name, seed in (("low", 1), ("high", 2)):
@@ -163,7 +163,7 @@ def _by_colours(options, picture, drawn):
     numpy, _ = numpy_and_pillow()
     missing = seeds.missing_kinds(drawn)
     if missing:
-        raise Undecided(f"there is no seed of the {missing} segment, and --like colours decides by"
+        raise Undecided(f"the {missing} segment has no seed, and --like colours decides by"
                         " the colours of both: paint both (red is the first segment, blue the"
                         " second)")
     if options.low is not None or options.high is not None:
