@@ -11,12 +11,10 @@ use distance_search::LabelSearch;
 use flow_network::Net;
 use rounds::ByThreads;
 use std::alloc::{AllocError, Global};
+use std::fs;
 use std::process::Abort;
 use std::rt::Files;
-use std::sync::Wait;
-use std::sync::atomic::{AtomicBool, Ordering};
 use std::thread::Threads;
-use std::{fs, thread};
 
 /// Whether a part of work meets the other of two: it waits until that has begun.
 fn meets(calls: &Calls, part: usize) -> bool {
@@ -45,34 +43,26 @@ fn parts_meet(rt: HostRuntime) {
     }
 }
 
-/// How many threads the process has, as the system tells it: 0 where it does not.
-fn threads_now<R: Files + AllocGlobal>(rt: &R) -> u32 {
-    let Ok(status) = fs::read_to_string(rt, "/proc/self/status") else {
+/// How many hundredths of a second of the processors a thread or a process took, as the system's
+/// file of it tells: 0 if there is none.
+fn hundredths_of<R: Files + AllocGlobal>(rt: &R, file: &str) -> u32 {
+    let Ok(words) = fs::read_to_string(rt, file) else {
         return 0;
     };
-    for line in status.lines() {
-        if let Some(number) = line.strip_prefix("Threads:") {
-            return number.trim().parse::<u32>().unwrap_or(0);
+    let mut sum = 0u32;
+    for (place, word) in words.split(' ').enumerate() {
+        if place == 13 || place == 14 {
+            sum = sum.wrapping_add(word.parse::<u32>().unwrap_or(0));
         }
     }
-    0
+    sum
 }
 
-/// How often the number of threads is looked at.
-const LOOKS: u32 = 100_000_000;
-
-/// Looks until there is a thread beside the one that works and the one that looks, or the work is
-/// done.
-fn watch<R: Files + AllocGlobal>(rt: &R, done: &AtomicBool, seen: &AtomicBool) {
-    for _ in 0..LOOKS {
-        if threads_now(rt) > 2 {
-            seen.store(true, Ordering::SeqCst);
-            return;
-        }
-        if done.load(Ordering::SeqCst) {
-            return;
-        }
-    }
+/// How many hundredths of a second the other threads of the process took so far, those that ended
+/// among them.
+fn others_took<R: Files + AllocGlobal>(rt: &R) -> u32 {
+    let all = hundredths_of(rt, "/proc/self/stat");
+    all.saturating_sub(hundredths_of(rt, "/proc/thread-self/stat"))
 }
 
 /// Whether the labels are those of the chain: each node is a step further from the sink than the
@@ -151,50 +141,36 @@ fn does_work<R: Threads + Sync + Abort + AllocGlobal>(rt: &R, work: Work, thread
     }
 }
 
-/// Does the work until a further thread was seen, at most so many times. Whether it was right each
-/// time.
-fn work_until<R: Threads + Sync + Abort + AllocGlobal>(
+/// How many hundredths of a second the other threads take while so many threads do the work so many
+/// times, or until the others took as many as asked: and how often it was done, if it was right.
+fn watch_work<R: Threads + Sync + Files + Abort + AllocGlobal>(
     rt: &R,
     work: Work,
     threads: usize,
     tries: u32,
-    seen: &AtomicBool,
-) -> bool {
-    for _ in 0..tries {
-        if !does_work(rt, work, threads) {
-            return false;
-        }
-        if seen.load(Ordering::SeqCst) {
-            return true;
+    asked: u32,
+) -> (u32, u32) {
+    let before = others_took(rt);
+    for done in 0..tries {
+        hold(rt, does_work(rt, work, threads));
+        let took = others_took(rt).saturating_sub(before);
+        if took >= asked {
+            return (took, done.wrapping_add(1));
         }
     }
-    true
+    (others_took(rt).saturating_sub(before), tries)
 }
 
-/// Whether so many threads do the work right, and whether a further one was seen.
-fn watch_work<R: Threads + Wait + Sync + Files + Abort + AllocGlobal>(
-    rt: &R,
-    work: Work,
-    threads: usize,
-    tries: u32,
-) -> (bool, bool) {
-    let done = AtomicBool::new(false);
-    let seen = AtomicBool::new(false);
-    let (is_right, _) = thread::join(
-        rt,
-        || {
-            let is_right = work_until(rt, work, threads, tries, &seen);
-            done.store(true, Ordering::SeqCst);
-            is_right
-        },
-        || watch(rt, &done, &seen),
-    );
-    (is_right, seen.load(Ordering::SeqCst))
-}
+/// The most that the two sums of a file may be off together, in hundredths of a second.
+const OFF: u32 = 2;
 
-/// Whether two threads do the work side by side, at most 1,000 times, and one thread does it alone.
-fn is_shared<R: Threads + Wait + Sync + Files + Abort + AllocGlobal>(rt: &R, work: Work) -> bool {
-    watch_work(rt, work, 2, 1_000) == (true, true) && watch_work(rt, work, 1, 20) == (true, false)
+/// Whether of two threads one that is not this one does a part of the work, and this thread does it
+/// alone if only one is given. What tells is the time of the others, in any schedule.
+fn is_shared<R: Threads + Sync + Files + Abort + AllocGlobal>(rt: &R, work: Work) -> bool {
+    let asked = 4 * OFF;
+    let (shared, times) = watch_work(rt, work, 2, 20_000, asked);
+    let (alone, _) = watch_work(rt, work, 1, times, asked);
+    shared >= asked && alone <= OFF
 }
 
 /// Of 65,536 nodes two threads search the labels by blocks, and one thread searches them alone.
