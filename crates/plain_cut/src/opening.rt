@@ -1,5 +1,5 @@
 //! First pushes, before there are labels.
-ghost use Rattle.std.specs.Prelude.{◌≡◌, ◌≢◌, ◌<◌, IfOk, IsTrue};
+ghost use Rattle.std.specs.Prelude.{◌≡◌, ◌≢◌, ◌<◌, IfOk, IsTrue, slice_index};
 ghost use Rattle.flow_network.specs.Cut.{nodes, IsNet};
 ghost use Rattle.sink_distances.specs.Rows.{head_at, residual_at, IsPlace, IsRows, CarryNothing};
 ghost use Rattle.plain_cut.specs.State.{IsWork, IsUnlabelled};
@@ -10,46 +10,54 @@ use sink_distances::{Outline, Rows};
 use std::alloc::AllocError;
 use std::collections::VecDeque;
 
-/// Sends along the direction what the node has and it can still carry.
-fn send(net: &Outline, work: &mut Work, v: usize, p: usize)
+/// Sends along the direction what the node has and it can still carry. Answers what it has left.
+fn send(net: &Outline, work: &mut Work, v: usize, p: usize, left: u64) -> u64
     requires work { IsUnlabelled net.now work.old }
     requires node { v < nodes net.now }
     requires place { IsPlace work.old.rows v p }
     requires other { head_at work.old.rows p ≢ v }
     requires residual { 0 < residual_at work.old.rows p }
+    requires left { left ≡ slice_index work.old.excess.items v }
     ensures work { IsUnlabelled net.now work.new }
     ensures starts { work.new.rows.starts.items ≡ work.old.rows.starts.items }
+    ensures left { result ≡ slice_index work.new.excess.items v }
 {
     let _nodes = net.nodes();
     let cell = work.rows.cell(p);
-    let amount = u64::min(work.excess[v], cell.residual);
-    carry(work.excess.as_mut_slice(), v, cell.head, amount);
+    let amount = u64::min(left, cell.residual);
+    carry(work.excess.as_mut_slice(), v, cell.head, left, amount);
     work.rows.send(p, amount);
+    left - amount
 }
 
-/// Whether a direction to this node leads from the node to a higher one, or to a lower one.
-fn leads(head: u32, v: usize, up: bool) -> bool
-    ensures { IsTrue result → head ≢ v }
+/// Whether the direction leads from the node to a higher one, or to a lower one.
+fn leads(net: &Outline, work: &Work, v: usize, p: usize, up: bool) -> bool
+    requires work { IsUnlabelled net.now work.now }
+    requires node { v < nodes net.now }
+    requires place { IsPlace work.now.rows v p }
+    ensures { IsTrue result → head_at work.now.rows p ≢ v }
 {
-    if up {
-        head as usize > v
-    } else {
-        (head as usize) < v
-    }
+    let _nodes = net.nodes();
+    let head = work.rows.cell(p).head as usize;
+    if up { head > v } else { head < v }
 }
 
-/// Sends along the direction, where it leads up, or down, and can carry more.
-fn try_send(net: &Outline, work: &mut Work, v: usize, p: usize, up: bool)
+/// Sends along the direction, where it leads up, or down, and can carry more. Answers what the node
+/// has left.
+fn try_send(net: &Outline, work: &mut Work, v: usize, p: usize, up: bool, left: u64) -> u64
     requires work { IsUnlabelled net.now work.old }
     requires node { v < nodes net.now }
     requires place { IsPlace work.old.rows v p }
+    requires left { left ≡ slice_index work.old.excess.items v }
     ensures work { IsUnlabelled net.now work.new }
     ensures starts { work.new.rows.starts.items ≡ work.old.rows.starts.items }
+    ensures left { result ≡ slice_index work.new.excess.items v }
 {
     let _nodes = net.nodes();
-    let cell = work.rows.cell(p);
-    if leads(cell.head, v, up) && cell.residual > 0 {
-        send(net, work, v, p);
+    if leads(net, work, v, p, up) && work.rows.cell(p).residual > 0 {
+        send(net, work, v, p, left)
+    } else {
+        left
     }
 }
 
@@ -60,12 +68,16 @@ fn send_first(net: &Outline, work: &mut Work, v: usize)
     requires node { v < nodes net.now }
     ensures { IsUnlabelled net.now work.new }
 {
+    if work.excess[v] == 0 {
+        return;
+    }
     try_push_sink(net, work, v);
+    let mut left = work.excess[v];
     'row: for p in work.rows.starts[v]..work.rows.starts[v + 1] {
-        if work.excess[v] == 0 {
+        if left == 0 {
             return;
         }
-        try_send(net, work, v, p as usize, true);
+        left = try_send(net, work, v, p as usize, true, left);
     }
 }
 
@@ -76,12 +88,16 @@ fn send_last(net: &Outline, work: &mut Work, v: usize, up: bool)
     requires node { v < nodes net.now }
     ensures { IsUnlabelled net.now work.new }
 {
+    if work.excess[v] == 0 {
+        return;
+    }
     try_push_sink(net, work, v);
+    let mut left = work.excess[v];
     'row: for p in (work.rows.starts[v]..work.rows.starts[v + 1]).rev() {
-        if work.excess[v] == 0 {
+        if left == 0 {
             return;
         }
-        try_send(net, work, v, p as usize, up);
+        left = try_send(net, work, v, p as usize, up, left);
     }
 }
 

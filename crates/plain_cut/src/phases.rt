@@ -1,6 +1,6 @@
 //! The beginning of a phase: one push at each node that the search found.
-ghost use Rattle.std.specs.Prelude.{◌≡◌, OnOk};
-ghost use Rattle.flow_network.specs.Cut.{IsNet};
+ghost use Rattle.std.specs.Prelude.{◌≡◌, ◌<◌, ℕ, OnOk, length, slice_index};
+ghost use Rattle.flow_network.specs.Cut.{nodes, IsNet};
 ghost use Rattle.plain_cut.specs.State.{IsWork, IsWave, IsPhaseStart};
 
 use crate::pushes::push_all;
@@ -8,15 +8,15 @@ use crate::work::{Work, queue_again};
 use sink_distances::Outline;
 use std::alloc::AllocError;
 
-/// Pushes at each node of the order once, the last first. What is no node is passed over.
+/// Pushes at each node of the order once, the last first.
 fn push_wave(net: &Outline, work: &mut Work, order: &[u32]) -> Result<(), AllocError>
     requires work { IsWork net.now work.old }
+    requires order { (i : ℕ) → i < length order.now → slice_index order.now i < nodes net.now }
     ensures wave { OnOk result (IsWave net.now work.old work.new) }
 {
-    let nodes = net.nodes();
     'wave: for place in (0..order.len()).rev() {
         let v = order[place] as usize;
-        if v < nodes && work.excess[v] > 0 {
+        if work.excess[v] > 0 {
             push_all(net, work, v)?;
         }
     }
@@ -35,6 +35,7 @@ pub fn begin_phase(
     requires limits { IsNet net.now }
     requires work { IsWork net.now work.old }
     requires counted { work.old.relabels ≡ 0 }
+    requires found { (i : ℕ) → i < length found.now → slice_index found.now i < nodes net.now }
     ensures phase { OnOk result (IsPhaseStart net.now limit work.old work.new) }
 {
     work.queue.clear();

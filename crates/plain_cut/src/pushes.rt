@@ -1,6 +1,6 @@
 //! Pushes of a node's excess to the sink and along its directions.
 ghost use Rattle.std.specs.Prelude.{◌≡◌, ◌≢◌, ◌+◌, ◌-◌, ◌<◌, ◌≤◌, ◌^◌, ◌==◌, ◌++◌, ◌∷◌, [], ℕ};
-ghost use Rattle.std.specs.Prelude.{OnOk};
+ghost use Rattle.std.specs.Prelude.{IfOk, OnOk};
 ghost use Rattle.std.specs.Prelude.{length, slice_index, slice_set, if◌then◌else◌};
 ghost use Rattle.flow_network.specs.Cut.{nodes};
 ghost use Rattle.sink_distances.specs.Rows.{head_at, residual_at, IsPlace};
@@ -12,33 +12,36 @@ use sink_distances::Outline;
 use std::alloc::{AllocError, Global};
 use std::collections::VecDeque;
 
-/// Takes an amount from the one node's excess and gives it to the other's.
-pub fn carry(excess: &mut [u64], from: usize, to: u32, amount: u64)
+/// Takes an amount from the one node's excess, which is this one, and gives it to the other's.
+pub fn carry(excess: &mut [u64], from: usize, to: u32, left: u64, amount: u64)
     requires from { from < length excess.old }
     requires to { to < length excess.old }
     requires other { from ≢ to }
+    requires left { left ≡ slice_index excess.old from }
     requires enough { amount ≤ slice_index excess.old from }
     requires small { slice_index excess.old to + amount < 2 ^ 64 }
     ensures { excess.new ≡
         slice_set (slice_set excess.old from (slice_index excess.old from - amount))
         to (slice_index excess.old to + amount) }
 {
-    excess[from] -= amount;
+    excess[from] = left - amount;
     excess[to as usize] += amount;
 }
 
-/// Takes an amount from the one node's excess and gives it to the other's, which is queued if it
-/// had none.
+/// Takes an amount from the one node's excess, which is this one, and gives it to the other's,
+/// which is queued if it had none.
 fn shift(
     excess: &mut [u64],
     queue: &mut VecDeque<u32>,
     from: usize,
     to: u32,
+    left: u64,
     amount: u64,
 ) -> Result<(), AllocError>
     requires from { from < length excess.old }
     requires to { to < length excess.old }
     requires other { from ≢ to }
+    requires left { left ≡ slice_index excess.old from }
     requires enough { amount ≤ slice_index excess.old from }
     requires small { slice_index excess.old to + amount < 2 ^ 64 }
     ensures excess { OnOk result (excess.new ≡
@@ -50,15 +53,22 @@ fn shift(
     if excess[to as usize] == 0 {
         queue.push_back(to)?;
     }
-    carry(excess, from, to, amount);
+    carry(excess, from, to, left, amount);
     Ok(())
 }
 
-/// Pushes along the direction what the node has and it can still carry.
-fn push_along(net: &Outline, work: &mut Work, v: usize, p: usize) -> Result<(), AllocError>
+/// Pushes along the direction what the node has and it can still carry. Answers what it has left.
+fn push_along(
+    net: &Outline,
+    work: &mut Work,
+    v: usize,
+    p: usize,
+    left: u64,
+) -> Result<u64, AllocError>
     requires work { IsWork net.now work.old }
     requires node { v < nodes net.now }
     requires place { IsPlace work.old.rows v p }
+    requires left { left ≡ slice_index work.old.excess.items v }
     requires residual { 0 < residual_at work.old.rows p }
     requires down { slice_index work.old.labels.items v ≡
         slice_index work.old.labels.items (head_at work.old.rows p) + 1 }
@@ -67,19 +77,21 @@ fn push_along(net: &Outline, work: &mut Work, v: usize, p: usize) -> Result<(), 
     ensures push { OnOk result (IsPush v work.old work.new) }
     ensures others { OnOk result (ChangesOnly v p work.old work.new) }
     ensures spent { OnOk result (IsSpent work.new v p) }
+    ensures left { IfOk result (λ rest. rest ≡ slice_index work.new.excess.items v) }
 {
     let _nodes = net.nodes();
     let cell = work.rows.cell(p);
-    let amount = u64::min(work.excess[v], cell.residual);
+    let amount = u64::min(left, cell.residual);
     shift(
         work.excess.as_mut_slice(),
         &mut work.queue,
         v,
         cell.head,
+        left,
         amount,
     )?;
     work.rows.send(p, amount);
-    Ok(())
+    Ok(left - amount)
 }
 
 /// Gives the sink what the node has and its sink arc can still carry.
@@ -116,24 +128,30 @@ pub fn try_push_sink(net: &Outline, work: &mut Work, v: usize)
 }
 
 /// Pushes along the direction, where the node has excess, it can carry more, and it leads down.
-fn try_push(net: &Outline, work: &mut Work, v: usize, p: usize) -> Result<(), AllocError>
+/// Answers what the node has left.
+fn try_push(
+    net: &Outline,
+    work: &mut Work,
+    v: usize,
+    p: usize,
+    left: u64,
+) -> Result<u64, AllocError>
     requires work { IsWork net.now work.old }
     requires node { v < nodes net.now }
     requires place { IsPlace work.old.rows v p }
+    requires left { left ≡ slice_index work.old.excess.items v }
     ensures steps { OnOk result (IsSteps net.now v work.old work.new) }
     ensures push { OnOk result (IsPush v work.old work.new) }
     ensures others { OnOk result (ChangesOnly v p work.old work.new) }
     ensures spent { OnOk result (IsSpent work.new v p) }
+    ensures left { IfOk result (λ rest. rest ≡ slice_index work.new.excess.items v) }
 {
     let _nodes = net.nodes();
     let cell = work.rows.cell(p);
-    if work.excess[v] == 0
-        || cell.residual == 0
-        || work.labels[v] <= work.labels[cell.head as usize]
-    {
-        return Ok(());
+    if left == 0 || cell.residual == 0 || work.labels[v] <= work.labels[cell.head as usize] {
+        return Ok(left);
     }
-    push_along(net, work, v, p)
+    push_along(net, work, v, p, left)
 }
 
 /// Pushes along the node's directions, while it has excess.
@@ -144,11 +162,12 @@ fn push_row(net: &Outline, work: &mut Work, v: usize) -> Result<(), AllocError>
     ensures push { OnOk result (IsPush v work.old work.new) }
     ensures spent { OnOk result ((p : ℕ) → IsPlace work.old.rows v p → IsSpent work.new v p) }
 {
+    let mut left = work.excess[v];
     'row: for p in work.rows.starts[v]..work.rows.starts[v + 1] {
-        if work.excess[v] == 0 {
+        if left == 0 {
             return Ok(());
         }
-        try_push(net, work, v, p as usize)?;
+        left = try_push(net, work, v, p as usize, left)?;
     }
     Ok(())
 }

@@ -102,6 +102,7 @@ fn search_again(
     ensures raised { IsRaised net.now work.old work.new }
     ensures fits { result.limit ≤ top net.now }
     ensures count { result.count ≤ nodes net.now }
+    ensures places { (i : ℕ) → i < result.count → slice_index order.new i < nodes net.now }
     ensures exact { result.limit ≡ top net.now →
         AreDistancesButZeros net.now (work_flow net.now work.new) work.new.labels.items }
     ensures counted { work.new.relabels ≡ 0 }

@@ -113,6 +113,7 @@ pub fn raise_near(
     ensures raised { IsRaised net.now work.old work.new }
     ensures fits { result.limit ≤ top net.now }
     ensures count { result.count ≤ nodes net.now }
+    ensures places { (i : ℕ) → i < result.count → slice_index order.new i < nodes net.now }
     ensures exact { result.limit ≡ top net.now →
         AreDistancesButZeros net.now (work_flow net.now work.new) work.new.labels.items }
     ensures whole { times + 1 ≡ 2 ^ 64 → result.limit ≡ top net.now }

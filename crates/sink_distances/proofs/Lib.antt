@@ -8,3 +8,5 @@ pub mod Making
 pub mod Putting
 pub mod Seeing
 pub mod Nearing
+pub mod Listing
+pub mod Levels

@@ -115,7 +115,7 @@ searched_begins net carried rooms s net_is r h = record {
 }
 
 -- a node in the order has a path as long as its label
-searched_leads : (net : Network) (flow : Flow) (IsZero : ℕ → Type 0) (next : ℕ) (s : Search) → IsSearchedBut net flow IsZero next s
+pub searched_leads : (net : Network) (flow : Flow) (IsZero : ℕ → Type 0) (next : ℕ) (s : Search) → IsSearchedBut net flow IsZero next s
     → (i : ℕ) → i < s.count → (IsZero (node_at s i) → ⊥) → ReachesIn net flow (search_label s (node_at s i)) (node_at s i)
 searched_leads net flow IsZero next s h i l off = elim (h.leads (node_at s i) (omega (arith, h.order.places i l, h.len)) off) [
   | inl none ↦ absurd (listed_labelled s h.order i l (omega (arith, none, h.len)))

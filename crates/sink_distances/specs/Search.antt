@@ -51,6 +51,11 @@ pub record IsNextLabel (label : ℕ) (found : Search) : Type 0 where
   pub below : IsAtMost label found
   pub next : label ≤ found.count + 1
 
+-- each label in the order is this one from a place on
+abbrev pub IsLevelFrom : ℕ → ℕ → Search → Type 0
+IsLevelFrom label first found =
+    (i : ℕ) → first ≤ i → i < found.count → search_label found (node_at found i) ≡ label
+
 -- some nodes that had no label have got this one, each for a reason, and stand last in the order
 pub record Grows (label : ℕ) (IsNext : ℕ → Type 0) (old new : Search) : Type 0 where
   pub order : IsOrder new
@@ -66,6 +71,20 @@ pub record Grows (label : ℕ) (IsNext : ℕ → Type 0) (old new : Search) : Ty
 -- the nodes that have a residual direction to w, where the arcs carry these amounts
 abbrev pub IsBefore : Network → List ℕ → ℕ → ℕ → Type 0
 IsBefore net carried w v = IsResidual net (record { arcs = carried; sinks = [] }) v w
+
+-- those that have one to a node in the order from a place on
+abbrev pub IsBeforeFrom : Network → List ℕ → ℕ → Search → ℕ → Type 0
+IsBeforeFrom net carried first found v =
+    (i : ℕ) × (first ≤ i) × (i < found.count) × IsBefore net carried (node_at found i) v
+
+-- the first places of a list are the nodes below v that can give the sink more, in their order
+pub record AreRoomy (rooms : List ℕ) (v count : ℕ) (listed : List ℕ) : Type 0 where
+  pub few : count ≤ v
+  pub each : (i : ℕ) → i < count
+      → (slice_index listed i < v) × (0 < slice_index rooms (slice_index listed i))
+  pub rising : (i j : ℕ) → i < j → j < count → slice_index listed i < slice_index listed j
+  pub all : (u : ℕ) → u < v → 0 < slice_index rooms u
+      → (i : ℕ) × (i < count) × (slice_index listed i ≡ u)
 
 -- of the nodes that can give the sink more those below v have label 1, and some of the others
 pub record AreStarts (net : Network) (rooms : List ℕ) (v : ℕ) (found : Search) : Type 0 where

@@ -11,7 +11,7 @@ ghost use Rattle.sink_distances.specs.Laws.{AreLow};
 ghost use Rattle.sink_distances.specs.Rows.{carried_flow, IsRows};
 ghost use Rattle.sink_distances.specs.Search.{AreDistancesUpTo};
 
-use crate::search::{mark_behind, tally_starts};
+use crate::search::{mark_level, tally_starts};
 use crate::{Outline, Rows};
 
 /// How far a search went.
@@ -72,6 +72,7 @@ fn search_near(
         (flow_by (carried_flow rows.now) (sink_flows net.now rooms.now))
         result.limit labels.now found.new }
     ensures count { result.count ≤ length order.new }
+    ensures places { (i : ℕ) → i < result.count → slice_index order.new i < nodes net.now }
     ensures whole { aim.now.times + 1 ≡ 2 ^ 64 → result.limit ≡ top net.now }
 {
     clear(labels, found, net.top_label());
@@ -80,17 +81,16 @@ fn search_near(
     let mut level = 1;
     let mut next = 0;
     'levels: while next < tally.count {
-        let w = order[next] as usize;
-        let label = found[w];
-        if label > level && tally.excess > enough && aim.times < u64::MAX {
+        if level > 1 && tally.excess > enough && aim.times < u64::MAX {
             return Extent {
-                limit: label + 1,
+                limit: level + 1,
                 count: tally.count,
             };
         }
-        level = label;
-        tally = mark_behind(net, rows, aim.excess, found, order, tally, w);
-        next += 1;
+        let first = next;
+        next = tally.count;
+        tally = mark_level(net, rows, aim.excess, found, order, tally, first, level);
+        level += 1;
     }
     Extent {
         limit: net.top_label(),
@@ -117,7 +117,8 @@ fn raise_to(labels: &mut [u32], found: &[u32], limit: u32)
 /// Nodes of label 0 count as the sink itself: they keep that label, are passed over by the search,
 /// and their room is not counted. No residual direction may lead to them from other nodes.
 ///
-/// `found` and `order` are room for the search, one place for each node. Takes no memory.
+/// `found` and `order` are room for the search, one place for each node. The nodes that were found
+/// then stand first in `order`. Takes no memory.
 pub fn raise_labels(
     net: &Outline,
     rows: &Rows,
@@ -146,6 +147,7 @@ pub fn raise_labels(
         slice_index labels.new v ≡ 0 }
     ensures fits { result.limit ≤ top net.now }
     ensures count { result.count ≤ length order.new }
+    ensures places { (i : ℕ) → i < result.count → slice_index order.new i < nodes net.now }
     ensures near { AreExactBelow net.now
         (flow_by (carried_flow rows.now) (sink_flows net.now rooms.now)) result.limit labels.new }
     ensures full { result.limit ≡ top net.now →

@@ -1,5 +1,5 @@
 //! Breadth-first searches from the sink backwards.
-ghost use Rattle.std.specs.Prelude.{◌≡◌, ◌+◌, ◌<◌, ◌≤◌, ◌^◌, ℕ, length, slice_index};
+ghost use Rattle.std.specs.Prelude.{◌≡◌, ◌+◌, ◌<◌, ◌≤◌, ◌^◌, ℕ, length, slice_index, slice_set};
 ghost use Rattle.flow_network.specs.Cut.{nodes, IsNet};
 ghost use Rattle.flow_network.specs.Preflow.{arc_at, flow_by, sink_flows, AreRooms};
 ghost use Rattle.flow_network.specs.Progress.{top_label};
@@ -8,7 +8,8 @@ ghost use Rattle.sink_distances.specs.Distances.{AreDistances};
 ghost use Rattle.sink_distances.specs.Laid.{opposite_in, standing_at, standing_opposite};
 ghost use Rattle.sink_distances.specs.Rows.{carried_flow, IsRows};
 ghost use Rattle.sink_distances.specs.Search.{found_of, AreStartsButZeros, AreUnlabelledOrZero};
-ghost use Rattle.sink_distances.specs.Search.{IsBefore, IsNextLabel, Grows};
+ghost use Rattle.sink_distances.specs.Search.{AreRoomy, IsBefore, IsBeforeFrom, IsLevelFrom};
+ghost use Rattle.sink_distances.specs.Search.{IsNextLabel, Grows};
 
 use crate::{Adjacency, Cell, Outline, Rows};
 use flow_network::Graph;
@@ -42,6 +43,8 @@ fn put(labels: &mut [u32], order: &mut [u32], count: usize, v: u32, label: u32) 
     ensures grows { Grows label (λ u. u ≡ v)
         (found_of labels.old order.old count) (found_of labels.new order.new result) }
     ensures marked { slice_index labels.new v ≤ label }
+    ensures last { order.new ≡ slice_set order.old count v }
+    ensures more { result ≡ count + 1 }
 {
     labels[v as usize] = label;
     order[count] = v;
@@ -277,7 +280,26 @@ pub fn write_distances(
     }
 }
 
-/// Labels the node, where it can give the sink more and has no label.
+/// Lists the nodes that can give the sink more, in their order. Answers how many these are.
+///
+/// Each node is written behind those that were listed, and counted only where it can: no branch
+/// hangs on its room.
+fn list_rooms(rooms: &[u64], order: &mut [u32]) -> usize
+    requires len { length order.old ≡ length rooms.now }
+    requires small { length rooms.now ≤ 2 ^ 32 }
+    ensures { AreRoomy rooms.now (length rooms.now) result order.new }
+{
+    let mut count = 0;
+    'nodes: for v in 0..rooms.len() {
+        order[count] = v as u32;
+        if rooms[v] > 0 {
+            count += 1;
+        }
+    }
+    count
+}
+
+/// Labels the node, which can give the sink more, where it has no label.
 #[inline]
 fn mark_start(
     rooms: &[u64],
@@ -285,24 +307,28 @@ fn mark_start(
     labels: &mut [u32],
     order: &mut [u32],
     tally: Tally,
-    v: usize,
+    v: u32,
 ) -> Tally
     requires node { v < length labels.old }
-    requires small { v < 2 ^ 32 }
     requires rooms_len { length rooms.now ≡ length labels.old }
     requires excess_len { length excess.now ≡ length labels.old }
     requires ready { IsNextLabel 1 (found_of labels.old order.old tally.count) }
-    ensures grows { Grows 1 (λ u. (u ≡ v) × (0 < slice_index rooms.now v))
+    requires ones { IsLevelFrom 1 0 (found_of labels.old order.old tally.count) }
+    ensures grows { Grows 1 (λ u. u ≡ v)
         (found_of labels.old order.old tally.count) (found_of labels.new order.new result.count) }
-    ensures marked { 0 < slice_index rooms.now v → slice_index labels.new v ≤ 1 }
+    ensures ones { IsLevelFrom 1 0 (found_of labels.new order.new result.count) }
+    ensures marked { slice_index labels.new v ≤ 1 }
+    ensures few { result.count ≤ tally.count + 1 }
+    ensures rest { (i : ℕ) → tally.count < i →
+        slice_index order.new i ≡ slice_index order.old i }
 {
-    if rooms[v] == 0 || labels[v] as usize != labels.len() + 2 {
+    if labels[v as usize] as usize != labels.len() + 2 {
         return tally;
     }
     Tally {
-        count: put(labels, order, tally.count, v as u32, 1),
-        excess: tally.excess.wrapping_add(excess[v]),
-        room: tally.room.wrapping_add(rooms[v]),
+        count: put(labels, order, tally.count, v, 1),
+        excess: tally.excess.wrapping_add(excess[v as usize]),
+        room: tally.room.wrapping_add(rooms[v as usize]),
     }
 }
 
@@ -322,13 +348,17 @@ pub(crate) fn tally_starts(
     ensures limits { IsNet net.now }
     ensures starts { AreStartsButZeros net.now rooms.now labels.old (nodes net.now)
         (found_of labels.new order.new result.count) }
+    ensures ones { IsLevelFrom 1 0 (found_of labels.new order.new result.count) }
 {
+    let _nodes = net.nodes();
+    let many = list_rooms(rooms, order);
     let mut tally = Tally {
         count: 0,
         excess: 0,
         room: 0,
     };
-    'nodes: for v in 0..net.nodes() {
+    'starts: for place in 0..many {
+        let v = order[place];
         tally = mark_start(rooms, excess, labels, order, tally, v);
     }
     tally
@@ -400,29 +430,39 @@ fn mark_row(
     tally
 }
 
-/// Labels the nodes that have a residual direction to the node, one above its label.
-pub(crate) fn mark_behind(
+/// Expands the nodes of a level, which stand in the order from the first on: labels those that have
+/// a residual direction to one of them, one above their label.
+pub(crate) fn mark_level(
     net: &Outline,
     rows: &Rows,
     excess: &[u64],
     labels: &mut [u32],
     order: &mut [u32],
-    tally: Tally,
-    w: usize,
+    mut tally: Tally,
+    first: usize,
+    level: u32,
 ) -> Tally
     requires limits { IsNet net.now }
     requires rows { IsRows net.now rows.now }
     requires len { length labels.old ≡ nodes net.now }
     requires excess_len { length excess.now ≡ nodes net.now }
-    requires node { w < nodes net.now }
-    requires ready { IsNextLabel (slice_index labels.old w + 1)
-        (found_of labels.old order.old tally.count) }
-    ensures grows { Grows (slice_index labels.old w + 1)
-        (IsBefore net.now (carried_flow rows.now) w)
+    requires ready { IsNextLabel (level + 1) (found_of labels.old order.old tally.count) }
+    requires some { first < tally.count }
+    requires high { 0 < level }
+    requires level { IsLevelFrom level first (found_of labels.old order.old tally.count) }
+    ensures grows { Grows (level + 1) (IsBeforeFrom net.now (carried_flow rows.now) first
+        (found_of labels.old order.old tally.count))
         (found_of labels.old order.old tally.count) (found_of labels.new order.new result.count) }
-    ensures marked { (v : ℕ) → IsBefore net.now (carried_flow rows.now) w v →
-        slice_index labels.new v ≤ slice_index labels.old w + 1 }
+    ensures marked { (v : ℕ) → IsBeforeFrom net.now (carried_flow rows.now) first
+        (found_of labels.old order.old tally.count) v → slice_index labels.new v ≤ level + 1 }
+    ensures next { IsLevelFrom (level + 1) tally.count
+        (found_of labels.new order.new result.count) }
 {
-    let label = labels[w] + 1;
-    mark_row(net, rows, excess, labels, order, tally, w, label)
+    let label = level + 1;
+    let end = tally.count;
+    'nodes: for place in first..end {
+        let w = order[place] as usize;
+        tally = mark_row(net, rows, excess, labels, order, tally, w, label);
+    }
+    tally
 }

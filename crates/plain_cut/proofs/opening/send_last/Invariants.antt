@@ -1,9 +1,10 @@
-use Rattle.std.proofs.Common.{◌≡◌}
+use Rattle.std.proofs.Common.{◌≡◌, slice_index}
 use Rattle.plain_cut.specs.State.{IsUnlabelled}
 use Rattle.plain_cut.proofs.opening.send_last.Given as goal
 
 abbrev pub invariant-row : goal.invariant-row
 invariant-row l = record {
   work : IsUnlabelled l.net l.work;
+  left : l.left ≡ slice_index l.work.excess.items l.v;
   starts : l.work.rows.starts.items ≡ l.initial.work.rows.starts.items;
 }

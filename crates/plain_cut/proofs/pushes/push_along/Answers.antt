@@ -1,5 +1,5 @@
 use Rattle.std.proofs.Common.{arith, refl, ◌≢◌, ◌∙◌, ap, set, length, ◌≡◌, ◌<◌, ◌+◌, ◌-◌, ℕ, slice_index}
-use Rattle.std.proofs.lemmas.List.{with_items_is, get_or_read, length-set}
+use Rattle.std.proofs.lemmas.List.{with_items_is, length-set}
 use Rattle.sink_distances.specs.Rows.{head_at}
 use Rattle.sink_distances.proofs.Showing.{directed}
 use Rattle.plain_cut.specs.State.{work_flow}
@@ -26,7 +26,7 @@ shift-requires-clause-small c =
     let w = head_at old.rows p in
     let s = c.requires.work.sound in
     let in_kept : v < length old.excess.items = omega (arith, s.kept_len, c.requires.node) in
-    let kept : c.index.result.now ≡ slice_index old.excess.items v = get_or_read old.excess.items v c.index.result.now in_kept c.index.ensures 0 in
+    let kept = c.requires.left in
     let amount = c.min-amount.ensures in
     let head = c.cell-cell.ensures.head in
     let room = c.cell-cell.ensures.residual in
@@ -59,7 +59,7 @@ returns c =
     let w = head_at old.rows p in
     let s = c.requires.work.sound in
     let in_kept : v < length old.excess.items = omega (arith, s.kept_len, c.requires.node) in
-    let kept : c.index.result.now ≡ slice_index old.excess.items v = get_or_read old.excess.items v c.index.result.now in_kept c.index.ensures 0 in
+    let kept = c.requires.left in
     let amount = c.min-amount.ensures in
     let head = c.cell-cell.ensures.head in
     let room = c.cell-cell.ensures.residual in
@@ -76,5 +76,6 @@ returns c =
           c.send.ensures refl excess refl queue refl;
       push = along_push old _ v w p z ne in_kept c.send.ensures refl refl excess;
       others = along_others net old.rows c.send.new.self v p z h c.requires.work.shown c.requires.node c.requires.place ne c.send.ensures;
+      left = omega (arith, now, c.requires.left);
       spent = λ some more. absurd (omega (arith, now, c.send.ensures.here, some, more, amount, kept, room));
     }

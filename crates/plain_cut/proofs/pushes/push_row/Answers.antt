@@ -22,11 +22,12 @@ row-preserved c =
     let old = c.args.work.now in
     let now = c.row.work in
     let new = c.try_push.new.work in
-    let made = c.in_ok-try_push.ensures in
+    let made = c.in_ok-left.ensures in
     let last : c.index-p-end.result.now ≡ slice_index c.args.work.now.rows.starts.items (c.args.v + 1) =
     get_or_read c.args.work.now.rows.starts.items (c.args.v + 1) c.index-p-end.result.now (omega (arith, c.requires.work.shown.starts_len, c.requires.node)) c.index-p-end.ensures 0 in
     record {
       steps = steps_more net v old now new c.row.invariant.steps made.steps;
+      left = made.left;
       push = push_more v old now new c.row.invariant.push made.push;
       spent = λ q from below. elim (cases_lt q p) [
         | inl before ↦
@@ -49,16 +50,16 @@ returns-clause-spent c = λ p place.
 pub try_push-requires-clause-work : goal.try_push-requires-clause-work
 try_push-requires-clause-work c = c.row.invariant.steps.work
 
-pub returns-in_err-try_push : goal.returns-in_err-try_push
-returns-in_err-try_push c =
+pub returns-in_err-left : goal.returns-in_err-left
+returns-in_err-left c =
     let e = c.from_residual.ensures.0 in
     record { steps = IfOk-from_err _ _ e; push = IfOk-from_err _ _ e; spent = IfOk-from_err _ _ e }
 
-pub returns-then-index-eq0-clause-steps : goal.returns-then-index-eq0-clause-steps
-returns-then-index-eq0-clause-steps c = c.row.invariant.steps
+pub returns-then-left-eq0-clause-steps : goal.returns-then-left-eq0-clause-steps
+returns-then-left-eq0-clause-steps c = c.row.invariant.steps
 
-pub returns-then-index-eq0-clause-push : goal.returns-then-index-eq0-clause-push
-returns-then-index-eq0-clause-push c = c.row.invariant.push
+pub returns-then-left-eq0-clause-push : goal.returns-then-left-eq0-clause-push
+returns-then-left-eq0-clause-push c = c.row.invariant.push
 
 pub returns-clause-steps : goal.returns-clause-steps
 returns-clause-steps c = c.row.invariant.steps

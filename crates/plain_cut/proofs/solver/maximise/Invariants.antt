@@ -1,4 +1,4 @@
-use Rattle.std.proofs.Common.{◌≡◌, ◌+◌, ◌*◌, ◌≤◌, cond, ltb}
+use Rattle.std.proofs.Common.{◌≡◌, ℕ, ◌+◌, ◌*◌, ◌<◌, ◌≤◌, cond, ltb, slice_index}
 use Rattle.flow_network.specs.Cut.{nodes}
 use Rattle.flow_network.specs.Progress.{top}
 use Rattle.sink_distances.specs.Distances.{AreDistancesButZeros}
@@ -10,6 +10,7 @@ invariant-phases l = record {
   work : IsWork l.net l.work;
   fits : l.extent.limit ≤ top l.net;
   count : l.extent.count ≤ nodes l.net;
+  places : (i : ℕ) → i < l.extent.count → slice_index l.order i < nodes l.net;
   exact : l.extent.limit ≡ top l.net → AreDistancesButZeros l.net (work_flow l.net l.work) l.work.labels.items;
   counted : l.work.relabels ≡ 0;
 }

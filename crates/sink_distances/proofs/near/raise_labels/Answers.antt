@@ -24,6 +24,7 @@ returns c =
       low = raised_low net flow limit found old new c.requires.low near told;
       fits = near.fits;
       count = c.search_near-extent.ensures.count;
+      places = c.search_near-extent.ensures.places;
       near = raised_near net flow limit found old new c.requires.labels near made told;
       full = raised_exact net flow limit found old new c.requires.labels c.requires.low near len told;
       whole = c.search_near-extent.ensures.whole;

@@ -1,6 +1,8 @@
-use Rattle.sink_distances.proofs.Searching.{starts_begin}
+use Rattle.std.proofs.Common.{◌∙◌}
+use Rattle.sink_distances.proofs.Listing.{begun_none}
 use Rattle.sink_distances.proofs.search.tally_starts.Goals as goal
 
-pub nodes-init : goal.nodes-init
-nodes-init c =
-    starts_begin c.args.net.now c.args.rooms.now c.args.labels.now c.args.order.now c.requires.len c.requires.order_len c.requires.labels
+pub starts-init : goal.starts-init
+starts-init c =
+    begun_none c.args.net.now c.args.rooms.now c.args.labels.now c.list_rooms-many.new.order c.list_rooms-many.result
+    c.requires.len (c.list_rooms-many.auto.order ∙ c.requires.order_len) c.requires.labels
