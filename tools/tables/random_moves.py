@@ -44,8 +44,11 @@ class Problem:
     def data_energy(self, labels):
         return sum(self.data[site][label] for site, label in enumerate(labels))
 
+    def pair_cost(self, pair, first, second):
+        return pair[2] * self.smooth[first][second]
+
     def smooth_energy(self, labels):
-        return sum(weight * self.smooth[labels[p]][labels[q]] for p, q, weight in self.pairs)
+        return sum(self.pair_cost(pair, labels[pair[0]], labels[pair[1]]) for pair in self.pairs)
 
     def energy(self, labels):
         return self.data_energy(labels) + self.smooth_energy(labels)
@@ -60,9 +63,8 @@ def choices(move, old):
 
 
 def is_regular(problem, move, labels, pair):
-    p, q, weight = pair
-    first, second = choices(move, labels[p]), choices(move, labels[q])
-    entry = lambda x, y: weight * problem.smooth[first[x]][second[y]]
+    first, second = choices(move, labels[pair[0]]), choices(move, labels[pair[1]])
+    entry = lambda x, y: problem.pair_cost(pair, first[x], second[y])
     return entry(0, 0) + entry(1, 1) <= entry(0, 1) + entry(1, 0)
 
 

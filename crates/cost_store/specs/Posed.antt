@@ -1,13 +1,14 @@
 -- What is asked of a problem of closures, and what it means.
-use Rattle.std.specs.Prelude.{◌≡◌, ℕ, ◌<◌, List, length, ℤ, pos}
+use Rattle.std.specs.Prelude.{◌≡◌, ℕ, ◌+◌, ◌*◌, ◌<◌, ◌≤◌, Bool, true, false, List, length, ℤ, pos}
 use Rattle.std.specs.Fn.{Shared}
 use Rattle.std.specs.List.{All}
 use Rattle.label_field.specs.LabelFields.{LabelField}
-use Rattle.label_field.specs.PairLists.{PairList, IsPairList}
+use Rattle.label_field.specs.Limits.{label_limit}
+use Rattle.label_field.specs.PairLists.{PairList, IsPairList, number_pairs}
 use Rattle.label_energies.specs.declared.change.Move.{Move}
-use Rattle.label_energies.specs.Energies.{Instance, labelling}
+use Rattle.label_energies.specs.Energies.{Instance, labelling, IsWeighted, times_weight}
 use Rattle.label_energies.specs.Moves.{IsMoveOf}
-use Rattle.cost_store.specs.Limits.{data_limit}
+use Rattle.cost_store.specs.Limits.{data_limit, pair_cost_limit}
 use Rattle.cost_store.specs.Promises.{AnswersTable, Keeps, KeepsSmooth, IsCost, IsTable, IsColumn}
 use Rattle.cost_store.specs.LabelCosts.{AreLabelCosts, HasCosts}
 use Rattle.cost_store.specs.declared.data.DataCost.{DataCost}
@@ -34,6 +35,14 @@ KeepsCosts {F} f d = Keeps (takes f d.f) (gives f d.f) d.sites d.labels data_lim
 abbrev pub KeepsSmoothCosts : {V : Type 0} → Closure V → SmoothCost V → Type 0
 KeepsSmoothCosts {V} v s = KeepsSmooth (takes v s.v) (gives v s.v) s.labels s.by_metric
 
+-- the closure of the costs of so many pairs keeps its promise: it answers a row for each label of
+-- each pair, those of a pair one after another
+pub record KeepsPairCosts {V : Type 0} (v : Closure V) (pairs : ℕ) (s : SmoothCost V)
+    : Type 0 where
+  pub few : s.labels ≤ label_limit
+  pub entries : Keeps (takes v s.v) (gives v s.v) (pairs * s.labels) s.labels (pos pair_cost_limit)
+  pub plain : s.by_metric ≡ false
+
 -- the list is the table that the closure of data costs answers
 abbrev pub IsTableFor : {F : Type 0} → Closure F → DataCost F → List ℤ → Type 0
 IsTableFor {F} f d table = (cost : ℕ → ℕ → ℕ) → AnswersTable (gives f d.f) cost d.sites d.labels
@@ -44,15 +53,30 @@ abbrev pub IsColumnFor : {F : Type 0} → Closure F → DataCost F → ℕ → L
 IsColumnFor {F} f d label column = (cost : ℕ → ℕ → ℕ)
     → AnswersTable (gives f d.f) cost d.sites d.labels → IsColumn d.sites label cost column
 
--- the problem is posed: both closures keep their promises, the pairs are a list of pairs, and its
--- parts have the same sites and labels
+-- the problem is posed: both closures keep their promises, that of smooth costs for labels, or for
+-- labels of each pair where the pairs are numbered; the pairs are a list of pairs, and its parts
+-- have the same sites and labels
 pub record IsPosed {F V : Type 0} (f : Closure F) (v : Closure V) (p : Problem F V) : Type 0 where
   pub costs : KeepsCosts f p.data_cost
-  pub smooth : KeepsSmoothCosts v p.smooth_cost
+  pub smooth : p.pairs.numbered ≡ false → KeepsSmoothCosts v p.smooth_cost
+  pub by_pair : p.pairs.numbered ≡ true → KeepsPairCosts v (length p.pairs.list) p.smooth_cost
   pub pairs : IsPairList p.pairs
   pub data_sites : p.data_cost.sites ≡ p.pairs.sites
   pub smooth_labels : p.smooth_cost.labels ≡ p.data_cost.labels
   pub label_costs : AreLabelCosts p.data_cost.labels p.label_costs
+
+-- two labels cost each pair of the instance its weight times what the closure answers
+pub record MeansWeighted {V : Type 0} (v : Closure V) (closure : V) (labels : ℕ) (m : Instance)
+    : Type 0 where
+  pub table : ℕ → ℕ → ℕ
+  pub answers : AnswersTable (gives v closure) table labels labels
+  pub weighted : IsWeighted table m
+
+-- two labels cost each pair of the instance what the closure answers of its number
+abbrev pub MeansByPair : {V : Type 0} → Closure V → V → ℕ → ℕ → Instance → Type 0
+MeansByPair {V} v closure pairs labels m =
+    (number a b : ℕ) (z : ℤ) → number < pairs → a < labels → b < labels
+    → gives v closure (number * labels + a) b z → z ≡ pos (m.smooth_cost number a b)
 
 -- the instance is what the problem says: its pairs, what the closures answer, and what was set of
 -- the labels
@@ -62,8 +86,9 @@ pub record IsMeant {F V : Type 0} (f : Closure F) (v : Closure V) (p : Problem F
   pub labels_are : m.labels ≡ p.data_cost.labels
   pub pairs_are : m.pairs ≡ p.pairs.list
   pub data_are : AnswersTable (gives f p.data_cost.f) m.data_cost p.pairs.sites p.data_cost.labels
-  pub smooth_are : AnswersTable (gives v p.smooth_cost.v)
-      m.smooth_cost p.data_cost.labels p.data_cost.labels
+  pub smooth_are : p.pairs.numbered ≡ false → MeansWeighted v p.smooth_cost.v p.data_cost.labels m
+  pub by_pair : p.pairs.numbered ≡ true
+      → MeansByPair v p.smooth_cost.v (length p.pairs.list) p.data_cost.labels m
   pub costs_are : HasCosts m p.label_costs
 
 -- the instance of these pairs and tables, in which no label costs anything by itself
@@ -72,8 +97,19 @@ instance_of_costs pairs labels at_sites between = record {
   sites = pairs.sites;
   labels = labels;
   data_cost = at_sites;
-  smooth_cost = between;
+  smooth_cost = times_weight between;
   pairs = pairs.list;
+  label_cost = λ label. 0;
+}
+
+-- the instance of these pairs, each with costs of its own by its number
+abbrev pub instance_by_pair : PairList → ℕ → (ℕ → ℕ → ℕ) → (ℕ → ℕ → ℕ → ℕ) → Instance
+instance_by_pair pairs labels at_sites between = record {
+  sites = pairs.sites;
+  labels = labels;
+  data_cost = at_sites;
+  smooth_cost = between;
+  pairs = number_pairs 0 pairs.list;
   label_cost = λ label. 0;
 }
 

@@ -1,9 +1,9 @@
 //! A problem: sites, labels, pairs, and what they cost.
 ghost use Rattle.std.specs.Prelude.{◌≡◌, ◌*◌, ℕ, pos, ◌<◌, ◌≤◌, ◌≤ℤ◌, All, length, IsTrue, OnOk};
-ghost use Rattle.std.specs.Prelude.{OnErr, IfErr};
+ghost use Rattle.std.specs.Prelude.{OnErr, IfErr, true, false};
 ghost use Rattle.label_field.specs.Limits.{weight_limit};
-ghost use Rattle.label_field.specs.PairLists.{IsPair};
-ghost use Rattle.label_energies.specs.Energies.{IsInstance, IsMetric, labelling as labels_of};
+ghost use Rattle.label_field.specs.PairLists.{IsPair, IsWeightIn, number_pairs};
+ghost use Rattle.label_energies.specs.Energies.{IsInstance, HasMetric, labelling as labels_of};
 ghost use Rattle.label_energies.specs.Energies.{energy as energy_of, data_energy as data_of};
 ghost use Rattle.label_energies.specs.Energies.{smooth_energy as smooth_of};
 ghost use Rattle.label_energies.specs.Energies.{label_energy as label_of};
@@ -12,8 +12,8 @@ ghost use Rattle.cost_store.specs.Limits.{data_energy_limit, smooth_energy_limit
 ghost use Rattle.cost_store.specs.Limits.{label_energy_limit, site_cost_limit, pair_cost_limit};
 ghost use Rattle.cost_store.specs.LabelCosts.{costs_of as costs_in, AreLabelCosts, IsSetRefusal};
 ghost use Rattle.cost_store.specs.Posed.{IsPosed, IsMeant, WhereMeant, HasEnergy, IsOfEnergy};
-ghost use Rattle.cost_store.specs.Posed.{KeepsCosts, KeepsSmoothCosts};
-ghost use Rattle.cost_store.specs.Posed.{instance_of_costs};
+ghost use Rattle.cost_store.specs.Posed.{KeepsCosts, KeepsSmoothCosts, KeepsPairCosts};
+ghost use Rattle.cost_store.specs.Posed.{instance_of_costs, instance_by_pair, MeansByPair};
 ghost use Rattle.cost_store.specs.Promises.{AnswersTable};
 
 use crate::by_label::total_paid;
@@ -40,6 +40,7 @@ impl<F: Fn(u32, u32) -> i64 + Sync, V: Fn(u32, u32) -> i64 + Sync> Problem<F, V>
     /// means is the instance of the tables that the closures answer: who calls it names them.
     pub fn new(pairs: Pairs, data_cost: DataCost<F>, smooth_cost: SmoothCost<V>) -> Problem<F, V>
         requires costs { KeepsCosts F.Fn data_cost }
+        requires weighted { pairs.numbered ≡ false }
         requires smooth { KeepsSmoothCosts V.Fn smooth_cost }
         requires sites { data_cost.sites ≡ pairs.sites }
         requires labels { smooth_cost.labels ≡ data_cost.labels }
@@ -60,13 +61,45 @@ impl<F: Fn(u32, u32) -> i64 + Sync, V: Fn(u32, u32) -> i64 + Sync> Problem<F, V>
         }
     }
 
+    /// The problem of these pairs, each of which has costs of its own, in which no label costs
+    /// anything by itself. The weights of the pairs go: each pair gets its place in the list as its
+    /// number. `pair_costs` was stored by `SmoothCost::by_pair`, for as many pairs.
+    pub fn by_pair(pairs: Pairs, data_cost: DataCost<F>, pair_costs: SmoothCost<V>) -> Problem<F, V>
+        requires costs { KeepsCosts F.Fn data_cost }
+        requires smooth { KeepsPairCosts V.Fn (length pairs.list) pair_costs }
+        requires sites { data_cost.sites ≡ pairs.sites }
+        requires labels { pair_costs.labels ≡ data_cost.labels }
+        ensures posed { IsPosed F.Fn V.Fn result }
+        ensures pairs { result.pairs ≡ record {
+          sites = pairs.sites;
+          list = number_pairs 0 pairs.list;
+          numbered = true;
+        } }
+        ensures parts { (result.data_cost ≡ data_cost) × (result.smooth_cost ≡ pair_costs) }
+        ensures means { (at_sites : ℕ → ℕ → ℕ) (between : ℕ → ℕ → ℕ → ℕ) →
+            AnswersTable (F.post data_cost.f) at_sites pairs.sites data_cost.labels →
+            MeansByPair V.Fn pair_costs.v (length pairs.list) data_cost.labels
+            (instance_by_pair pairs data_cost.labels at_sites between) →
+            IsMeant F.Fn V.Fn result (instance_by_pair pairs data_cost.labels at_sites between) }
+    {
+        let mut numbered = pairs;
+        numbered.number();
+        numbered.keeps();
+        Problem {
+            pairs: numbered,
+            data_cost,
+            smooth_cost: pair_costs,
+            label_costs: None,
+        }
+    }
+
     /// What it means, told to a proof: an instance, whose smooth costs are a metric where they were
     /// stored as one. It does nothing.
     pub fn means(&self)
         requires posed { IsPosed F.Fn V.Fn self.now }
         ensures instance { WhereMeant F.Fn V.Fn self.now IsInstance }
         ensures metric { IsTrue self.now.smooth_cost.by_metric →
-            WhereMeant F.Fn V.Fn self.now (λ m. IsMetric m.labels m.smooth_cost) }
+            WhereMeant F.Fn V.Fn self.now HasMetric }
     {}
 
     /// What a label costs a site. It takes no memory.
@@ -80,14 +113,34 @@ impl<F: Fn(u32, u32) -> i64 + Sync, V: Fn(u32, u32) -> i64 + Sync> Problem<F, V>
     }
 
     /// What a pair of this weight costs at two labels: the weight times what the labels cost a pair
-    /// of weight 1. It takes no memory.
+    /// of weight 1; or, where the pairs are numbered, what they cost the pair of this number. It
+    /// takes no memory.
     pub fn pair_cost(&self, weight: u32, first: u32, second: u32) -> i64
         requires posed { IsPosed F.Fn V.Fn self.now }
+        requires weight { IsWeightIn self.now.pairs weight }
+        requires inside { (first < self.now.data_cost.labels)
+            × (second < self.now.data_cost.labels) }
+        ensures cost { WhereMeant F.Fn V.Fn self.now
+            (λ m. result ≡ pos (m.smooth_cost weight first second)) }
+        ensures range { (pos 0 ≤ℤ result) × (result ≤ℤ pos pair_cost_limit) }
+    {
+        if self.pairs.are_numbered() {
+            return self
+                .smooth_cost
+                .cost_of_pair(weight, first, second, self.pairs.len());
+        }
+        self.weighted_cost(weight, first, second)
+    }
+
+    /// The weight of a pair times what two labels cost a pair of weight 1.
+    fn weighted_cost(&self, weight: u32, first: u32, second: u32) -> i64
+        requires posed { IsPosed F.Fn V.Fn self.now }
+        requires weighted { self.now.pairs.numbered ≡ false }
         requires weight { weight ≤ weight_limit }
         requires inside { (first < self.now.data_cost.labels)
             × (second < self.now.data_cost.labels) }
         ensures cost { WhereMeant F.Fn V.Fn self.now
-            (λ m. result ≡ pos (weight * m.smooth_cost first second)) }
+            (λ m. result ≡ pos (m.smooth_cost weight first second)) }
         ensures range { (pos 0 ≤ℤ result) × (result ≤ℤ pos pair_cost_limit) }
     {
         (u64::from(weight) * self.smooth_cost.cost(first, second).unsigned_abs()) as i64
@@ -136,6 +189,7 @@ impl<F: Fn(u32, u32) -> i64 + Sync, V: Fn(u32, u32) -> i64 + Sync> Problem<F, V>
     fn pair_energy(&self, at: &[u8], pair: Pair) -> u64
         requires posed { IsPosed F.Fn V.Fn self.now }
         requires pair { IsPair (length at.now) pair }
+        requires weight { IsWeightIn self.now.pairs pair.weight }
         requires labels { All (λ label. label < self.now.data_cost.labels) at.now }
         ensures cost { WhereMeant F.Fn V.Fn self.now
             (λ m. result ≡ cost_of_pair m (labels_of at.now) pair) }

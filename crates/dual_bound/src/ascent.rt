@@ -6,6 +6,7 @@
 //! reaches its other site. Nothing of this is promised: whatever the messages are, the bound that
 //! they prove is one.
 ghost use Rattle.std.specs.Prelude.{◌≡◌, ℕ, ◌+◌, ◌*◌, ◌^◌, ◌<◌, ◌≤◌, All, IfOk, IfSome, length};
+ghost use Rattle.std.specs.Prelude.{false};
 ghost use Rattle.cost_store.specs.Posed.{IsPosed, FitsProblem};
 ghost use Rattle.label_field.specs.Limits.{label_limit};
 ghost use Rattle.label_field.specs.PairLists.{IsPair};
@@ -543,6 +544,7 @@ pub(crate) fn messages_after<F: Fn(u32, u32) -> i64 + Sync, V: Fn(u32, u32) -> i
     passes: u32,
 ) -> Result<Vec<u32>, AllocError>
     requires posed { IsPosed F.Fn V.Fn problem.now }
+    requires weighted { problem.now.pairs.numbered ≡ false }
     requires fits { FitsProblem problem.now labelling.old }
     ensures size { IfOk result (λ messages. length messages.items
         ≡ length problem.now.pairs.list * problem.now.data_cost.labels) }

@@ -1,7 +1,7 @@
 -- The problem of a small picture.
 use Rattle.std.specs.Prelude.{ℕ, List, slice_index}
 use Rattle.graph_cuts.specs.Grids.{grid, steps4, distance}
-use Rattle.graph_cuts.specs.Labellings.{Instance}
+use Rattle.graph_cuts.specs.Labellings.{Instance, times_weight}
 use Rattle.graph_cuts.specs.Metrics.{potts}
 
 -- three columns, two rows and three grey levels: a level costs a pixel as much as it is away from
@@ -11,7 +11,7 @@ problem_of samples = record {
   sites = 6;
   labels = 3;
   data_cost = λ site level. distance (slice_index samples site) level;
-  smooth_cost = potts;
+  smooth_cost = times_weight potts;
   pairs = grid 3 2 1 steps4;
   label_cost = λ label. 0;
 }

@@ -1,7 +1,7 @@
 -- What a call was given, and why it is refused.
 use Rattle.std.proofs.Common.{◌≡◌, ◌<◌, ◌≤◌, ℕ, zero, suc, List, [], ◌∷◌, Some, All, length, take, get_or, slice_get, refl, subst, arith}
 use Rattle.label_field.specs.Limits.{pair_limit, site_limit}
-use Rattle.label_field.specs.PairLists.{PairList, IsPair}
+use Rattle.label_field.specs.PairLists.{PairList, IsPairList}
 use Rattle.gco_arrays.specs.Calls.{list_given}
 use Rattle.gco_arrays.specs.Refusals.{IsListRefusal, IsPairTold}
 use Rattle.gco_arrays.specs.declared.pairs.GcoPair.{GcoPair}
@@ -15,10 +15,8 @@ got (x ∷ xs) (suc i) d h = got xs i d (omega (arith, h))
 -- in the loop over the pairs that were given
 pub list_refused : (sites : ℕ) (given : List GcoPair) (reached : PairList) (i : ℕ) (d : GcoPair) (refusal : Refusal) → sites ≤ site_limit
     → i < length given → reached ≡ list_given sites (take i given)
-    → All (IsPair reached.sites) reached.list × (length reached.list ≤ pair_limit)
+    → IsPairList reached
     → IsPairTold reached (get_or given i d) i refusal → IsListRefusal sites given refusal
 list_refused sites given reached i d refusal few inside is known told =
     let P : PairList → Type 0 = λ x. IsPairTold x (get_or given i d) i refusal in
-    let Q : PairList → Type 0 = λ x. All (IsPair x.sites) x.list × (length x.list ≤ pair_limit) in
-    let own = subst Q is known in
-    (i, get_or given i d, got given i d inside, record { sites = few; count = own.1; each = own.0 }, subst P is told)
+    (i, get_or given i d, got given i d inside, subst IsPairList is known, subst P is told)

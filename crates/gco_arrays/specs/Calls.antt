@@ -1,12 +1,12 @@
 -- What the arrays of a call mean.
-use Rattle.std.specs.Prelude.{◌≡◌, ◌⊎◌, ℕ, ◌*◌, ◌<◌, List, length, map, All, ℤ, pos}
+use Rattle.std.specs.Prelude.{◌≡◌, ◌⊎◌, ℕ, ◌*◌, ◌<◌, false, List, length, map, All, ℤ, pos}
 use Rattle.label_field.specs.LabelFields.{AreSizes}
 use Rattle.label_field.specs.PairLists.{PairList, IsPairList}
 use Rattle.label_field.specs.declared.pair.Pair.{Pair}
 use Rattle.cost_store.specs.Limits.{data_limit, smooth_limit, label_cost_limit}
 use Rattle.cost_store.specs.Promises.{IsCost, cost_in}
 use Rattle.cost_store.specs.LabelCosts.{AreLabelCosts, cost_at, costs_of}
-use Rattle.label_energies.specs.Energies.{Instance}
+use Rattle.label_energies.specs.Energies.{Instance, times_weight}
 use Rattle.gco_arrays.specs.declared.pairs.GcoPair.{GcoPair}
 use Rattle.gco_arrays.specs.declared.ready.Arrays.{Arrays}
 use Rattle.gco_arrays.specs.declared.ready.Ready.{Ready}
@@ -42,7 +42,11 @@ pair_from_c given = record { first = given.first; second = given.second; weight 
 
 -- the list of the pairs, in their order
 abbrev pub list_given : ℕ → List GcoPair → PairList
-list_given sites pairs = record { sites = sites; list = map pair_from_c pairs }
+list_given sites pairs = record {
+  sites = sites;
+  list = map pair_from_c pairs;
+  numbered = false;
+}
 
 -- the problem that the arrays of a call are: site by site the cost of each label, label by label
 -- the cost of each beside it, the pairs in their order, and label by label what it costs by itself,
@@ -52,7 +56,7 @@ instance_given a = record {
   sites = length a.start;
   labels = a.label_count;
   data_cost = cost_in a.label_count a.data_costs;
-  smooth_cost = cost_in a.label_count a.smooth_costs;
+  smooth_cost = times_weight (cost_in a.label_count a.smooth_costs);
   pairs = map pair_from_c a.pairs;
   label_cost = cost_at a.label_costs;
 }

@@ -1,7 +1,8 @@
 //! The pairs of a call.
-ghost use Rattle.std.specs.Prelude.{◌≡◌, ◌≤◌, ◌++◌, [], ◌∷◌, All, length, IfOk, IfErr, OnOk};
-ghost use Rattle.label_field.specs.Limits.{pair_limit, site_limit};
-ghost use Rattle.label_field.specs.PairLists.{IsPair, IsPairList};
+ghost use Rattle.std.specs.Prelude.{◌≡◌, ◌≤◌, ◌++◌, [], ◌∷◌, IfOk, IfErr, OnOk};
+ghost use Rattle.std.specs.Prelude.{false};
+ghost use Rattle.label_field.specs.Limits.{site_limit};
+ghost use Rattle.label_field.specs.PairLists.{IsPairList};
 ghost use Rattle.gco_arrays.specs.Calls.{list_given, pair_from_c};
 ghost use Rattle.gco_arrays.specs.Refusals.{IsListRefusal, IsPairTold, pair_refusal};
 
@@ -29,19 +30,19 @@ pub(crate) fn pairs_of(alloc: Global, sites: u32, given: &[GcoPair]) -> Result<P
     for (place, pair) in given.iter().enumerate() {
         add_pair(&mut pairs, place, *pair)?;
     }
-    let _list = pairs.as_slice();
+    pairs.keeps();
     Ok(pairs)
 }
 
 /// Adds the pair that was given at a place.
 fn add_pair(pairs: &mut Pairs, place: usize, given: GcoPair) -> Result<(), Refusal>
+    requires { pairs.old.numbered ≡ false }
     ensures added { OnOk result (pairs.new
         ≡ record pairs.old { list = pairs.old.list ++ pair_from_c given ∷ [] }) }
-    ensures known { IfErr result (λ refusal. All (IsPair pairs.old.sites) pairs.old.list
-        × (length pairs.old.list ≤ pair_limit)) }
+    ensures known { IfErr result (λ refusal. IsPairList pairs.old) }
     ensures refused { IfErr result (IsPairTold pairs.old given place) }
 {
-    let _list = pairs.as_slice();
+    pairs.keeps();
     match pairs.add(given.first, given.second, i64::from(given.weight)) {
         Ok(()) => Ok(()),
         Err(error) => Err(refusal_of(place, error)),

@@ -1,6 +1,6 @@
 //! Bounds from below.
 ghost use Rattle.std.specs.Prelude.{◌≡◌, ◌≢◌, ◌+◌, ◌*◌, ◌<◌, ◌≤◌, All, Ok, IfOk, IfErr, length};
-ghost use Rattle.std.specs.Prelude.{map};
+ghost use Rattle.std.specs.Prelude.{map, false};
 ghost use Rattle.cost_store.specs.Limits.{data_limit, smooth_limit};
 ghost use Rattle.cost_store.specs.Promises.{IsCost, cost_in, entry_at};
 ghost use Rattle.label_field.specs.Limits.{label_limit};
@@ -83,6 +83,7 @@ fn bound_over<N: Number>(
     passes: u32,
     allowed: u64,
 ) -> Result<LowerBound, BoundError>
+    requires weighted { ready.pairs.numbered ≡ false }
     requires sites { length ready.start.at ≡ ready.pairs.sites }
     requires data { (length data.now ≡ ready.pairs.sites * ready.start.labels)
         × All (IsCost data_limit) (map N.value data.now) }

@@ -1,6 +1,6 @@
 //! Runs and moves over tables of costs where they lie, in the caller's memory.
 ghost use Rattle.std.specs.Prelude.{◌≡◌, ◌+◌, ◌*◌, ◌<◌, ◌≤◌, All, IfOk, IfErr, length};
-ghost use Rattle.std.specs.Prelude.{map};
+ghost use Rattle.std.specs.Prelude.{map, false};
 ghost use Rattle.cost_store.specs.Limits.{data_limit, smooth_limit};
 ghost use Rattle.cost_store.specs.Promises.{IsCost, cost_in, entry_at};
 ghost use Rattle.label_field.specs.Limits.{label_limit};
@@ -26,6 +26,7 @@ pub(crate) fn run_over<N: Number>(
     moves: Moves,
     cycles: u32,
 ) -> Result<Run, MoveError>
+    requires weighted { ready.pairs.numbered ≡ false }
     requires sites { length ready.start.at ≡ ready.pairs.sites }
     requires data { (length data.now ≡ ready.pairs.sites * ready.start.labels)
         × All (IsCost data_limit) (map N.value data.now) }

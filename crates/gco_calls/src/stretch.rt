@@ -150,6 +150,7 @@ fn stretch_over<N: Number>(
     bookmark: Bookmark,
     most: u32,
 ) -> Result<Option<Stretch>, MoveError>
+    requires weighted { ready.pairs.numbered ≡ false }
     requires sites { length ready.start.at ≡ ready.pairs.sites }
     requires data { (length data.now ≡ ready.pairs.sites * ready.start.labels)
         × All (IsCost data_limit) (map N.value data.now) }

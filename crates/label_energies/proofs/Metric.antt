@@ -1,11 +1,11 @@
-use Rattle.std.proofs.Common.{◌≡◌, ℕ, ◌+◌, ◌*◌, ◌<◌, ◌≤◌, true, false, inl, inr, subst, length, arith}
+use Rattle.std.proofs.Common.{◌≡◌, ℕ, ◌+◌, ◌*◌, ◌<◌, ◌≤◌, Bool, true, false, inl, inr, subst, length, arith}
 use Rattle.std.proofs.Math.Nat.{mul-le-mul_left}
 use Rattle.std.proofs.lemmas.List.Elements.{All-weaker}
 use Rattle.label_field.specs.declared.pair.Pair.{Pair}
 use Rattle.label_energies.specs.declared.change.Move.{Move}
 use Rattle.label_energies.specs.declared.change.Move.TheVariants.{Expand, Swap}
 use Rattle.label_field.specs.PairLists.{IsPair}
-use Rattle.label_energies.specs.Energies.{Instance, IsInstance, IsMetric, IsLabelled}
+use Rattle.label_energies.specs.Energies.{Instance, IsInstance, IsMetric, IsLabelled, IsWeighted, HasMetric}
 use Rattle.label_energies.specs.Moves.{label_after, IsRegularPair, IsAllowed, IsFirstIrregular, IsMoveOf}
 use Rattle.std.proofs.lemmas.Option.{get_or_from_slice_get, slice_get_within}
 use Rattle.label_energies.proofs.Reaching.{swap_one, swap_other, cases_one}
@@ -15,6 +15,13 @@ times_sum w a b = grind arith
 
 pub weighted : (w a b c d : ℕ) → a + d ≤ b + c → w * a + w * d ≤ w * b + w * c
 weighted w a b c d h = omega (arith, times_sum w a d, times_sum w b c, mul-le-mul_left w h)
+
+-- there is one such table
+same_entry : (m : Instance) (one other : ℕ → ℕ → ℕ) (a b : ℕ) → IsWeighted one m → IsWeighted other m → one a b ≡ other a b
+same_entry m one other a b first second = omega (arith, first 1 a b, second 1 a b)
+
+pub one_table : (m : Instance) (one other : ℕ → ℕ → ℕ) → IsWeighted one m → IsWeighted other m → one ≡ other
+one_table m one other first second = λ i a b. same_entry m one other a b first second i
 
 -- at the two ends' labels of a move a metric makes a regular table
 metric_table : (k : ℕ) (cost : ℕ → ℕ → ℕ) (move : Move) (l r : ℕ) → IsMetric k cost → IsMoveOf k move → l < k → r < k
@@ -36,20 +43,21 @@ metric_table k cost (Swap a b) l r metric here ll lr = elim (cases_one a b l) [
 ]
 
 -- a metric makes the term of every pair regular, in every move
-pub metric_allows : (m : Instance) (move : Move) (f : ℕ → ℕ) → IsInstance m → IsMetric m.labels m.smooth_cost → IsMoveOf m.labels move → IsLabelled m f
+pub metric_allows : (m : Instance) (move : Move) (f : ℕ → ℕ) → IsInstance m → HasMetric m → IsMoveOf m.labels move → IsLabelled m f
     → IsAllowed m move f
-metric_allows m move f pairs metric here labelled =
+metric_allows m move f pairs has here labelled =
     All-weaker (IsPair m.sites) (IsRegularPair m move f) (λ pair within.
-    weighted pair.weight
-    (m.smooth_cost (label_after move (f pair.first) false) (label_after move (f pair.second) false))
-    (m.smooth_cost (label_after move (f pair.first) false) (label_after move (f pair.second) true))
-    (m.smooth_cost (label_after move (f pair.first) true) (label_after move (f pair.second) false))
-    (m.smooth_cost (label_after move (f pair.first) true) (label_after move (f pair.second) true))
-    (metric_table m.labels m.smooth_cost move (f pair.first) (f pair.second) metric here (labelled pair.first within.first) (labelled pair.second within.second)))
+    (let l = f pair.first in
+    let r = f pair.second in
+    let cost : Bool → Bool → ℕ = λ x y. has.table (label_after move l x) (label_after move r y) in
+    let read = λ (x y : Bool). has.weighted pair.weight (label_after move l x) (label_after move r y) in
+    rw (read false false, read true true, read false true, read true false)
+    (weighted pair.weight (cost false false) (cost false true) (cost true false) (cost true true)
+    (metric_table m.labels has.table move l r has.metric here (labelled pair.first within.first) (labelled pair.second within.second)))))
     m.pairs pairs
 
 -- so no pair is ever named
-pub metric_never : (m : Instance) (move : Move) (f : ℕ → ℕ) (place : ℕ) → IsInstance m → IsMetric m.labels m.smooth_cost → IsMoveOf m.labels move → IsLabelled m f
+pub metric_never : (m : Instance) (move : Move) (f : ℕ → ℕ) (place : ℕ) → IsInstance m → HasMetric m → IsMoveOf m.labels move → IsLabelled m f
     → ¬ IsFirstIrregular m move f place
 metric_never m move f place pairs metric here labelled first =
     let all = metric_allows m move f pairs metric here labelled in

@@ -8,7 +8,7 @@ use Rattle.std.proofs.lemmas.List.Sums.{sum_by-cons}
 use Rattle.std.proofs.lemmas.List.Elements.{All-head, All-tail}
 use Rattle.label_field.specs.declared.pair.Pair.{Pair}
 use Rattle.label_energies.specs.declared.change.Move.TheVariants.{Expand}
-use Rattle.label_energies.specs.Energies.{Instance, IsInstance, pair_cost, data_energy, smooth_energy, plain_energy, energy, AreLabelsFree, IsMetric, IsLabelled, IsRatio}
+use Rattle.label_energies.specs.Energies.{Instance, IsInstance, pair_cost, data_energy, smooth_energy, plain_energy, energy, AreLabelsFree, IsMetric, IsLabelled, IsRatio, IsWeighted}
 use Rattle.label_energies.specs.Moves.{IsReached}
 use Rattle.sums.specs.Sums.{sum_below}
 use Rattle.label_field.specs.PairLists.{IsPair}
@@ -106,17 +106,18 @@ pair_bound u v w x y z uz xv yv =
     omega (arith, a, left, right)
 
 -- the two ends of a pair have one label under g
-pair_together : (m : Instance) (f g : ℕ → ℕ) (u v : ℕ) (pair : Pair) → IsMetric m.labels m.smooth_cost → g pair.first < m.labels → g pair.first ≡ g pair.second
+pair_together : (m : Instance) (table : ℕ → ℕ → ℕ) (f g : ℕ → ℕ) (u v : ℕ) (pair : Pair) → IsWeighted table m → IsMetric m.labels table → g pair.first < m.labels → g pair.first ≡ g pair.second
     → u * (sum_below m.labels (λ a. pair_cost m (toward f g a) pair) + pair_cost m f pair)
     ≤ u * sum_below m.labels (λ a. pair_cost m f pair) + v * pair_cost m g pair
-pair_together m f g u v pair metric lg same =
+pair_together m table f g u v pair weighted metric lg same =
     let p = pair.first in
     let q = pair.second in
     let a = toward_at f g (g p) p refl in
     let b = toward_at f g (g p) q (sym same) in
     let none = metric.equal (g p) lg in
-    let zero_cost : m.smooth_cost (toward f g (g p) p) (toward f g (g p) q) ≡ 0 = rw (a, b, ← same) none in
-    let zero_pair : pair_cost m (toward f g (g p)) pair ≡ 0 = rw zero_cost (grind arith) in
+    let zero_cost : table (toward f g (g p) p) (toward f g (g p) q) ≡ 0 = rw (a, b, ← same) none in
+    let read = weighted pair.weight (toward f g (g p) p) (toward f g (g p) q) in
+    let zero_pair : pair_cost m (toward f g (g p)) pair ≡ 0 = rw (read, zero_cost) (grind arith) in
     let all = sum_below-change m.labels (g p) (λ a. pair_cost m f pair) (λ a. pair_cost m (toward f g a) pair) lg
     (λ a l ne. (let x = toward_off f g a p (λ e. ne (sym e)) in let y = toward_off f g a q (λ e. ne (sym (same ∙ e))) in cc)) in
     let total : sum_below m.labels (λ a. pair_cost m (toward f g a) pair) + pair_cost m f pair ≡ sum_below m.labels (λ a. pair_cost m f pair) =
@@ -145,35 +146,36 @@ twice_changed k s t c0 c ls lt ne others =
     omega (arith, one, two, at, off t (λ e. ne (sym e)))
 
 -- the two ends of a pair have two labels under g
-pair_apart : (m : Instance) (f g : ℕ → ℕ) (least greatest : ℕ) (pair : Pair) → IsMetric m.labels m.smooth_cost → IsRatio m.labels m.smooth_cost least greatest
+pair_apart : (m : Instance) (table : ℕ → ℕ → ℕ) (f g : ℕ → ℕ) (least greatest : ℕ) (pair : Pair) → IsWeighted table m → IsMetric m.labels table → IsRatio m.labels table least greatest
     → f pair.first < m.labels → f pair.second < m.labels → g pair.first < m.labels → g pair.second < m.labels → g pair.first ≢ g pair.second
     → least * (sum_below m.labels (λ a. pair_cost m (toward f g a) pair) + pair_cost m f pair)
     ≤ least * sum_below m.labels (λ a. pair_cost m f pair) + (2 * greatest) * pair_cost m g pair
-pair_apart m f g least greatest pair metric ratio fp fq gp gq ne =
+pair_apart m table f g least greatest pair weighted metric ratio fp fq gp gq ne =
     let p = pair.first in
     let q = pair.second in
     let w = pair.weight in
     let two = twice_changed m.labels (g p) (g q) (pair_cost m f pair) (λ a. pair_cost m (toward f g a) pair) gp gq ne
     (λ a l np nq. (let x = toward_off f g a p (λ e. np (sym e)) in let y = toward_off f g a q (λ e. nq (sym e)) in cc)) in
-    let first : pair_cost m (toward f g (g p)) pair ≡ w * m.smooth_cost (g p) (f q) =
-    (let x = toward_at f g (g p) p refl in let y = toward_off f g (g p) q (λ e. ne (sym e)) in cc) in
-    let second : pair_cost m (toward f g (g q)) pair ≡ w * m.smooth_cost (f p) (g q) =
-    (let x = toward_off f g (g q) p ne in let y = toward_at f g (g q) q refl in cc) in
-    let bound = pair_bound least greatest w (m.smooth_cost (g p) (f q)) (m.smooth_cost (f p) (g q)) (m.smooth_cost (g p) (g q))
-    ((ratio.within (g p) (g q) gp gq ne).0) (at_most m.labels m.smooth_cost least greatest (g p) (f q) metric ratio gp fq)
-    (at_most m.labels m.smooth_cost least greatest (f p) (g q) metric ratio fp gq) in
+    let first : pair_cost m (toward f g (g p)) pair ≡ w * table (g p) (f q) =
+    (let x = toward_at f g (g p) p refl in let y = toward_off f g (g p) q (λ e. ne (sym e)) in let read = weighted w (g p) (f q) in cc) in
+    let second : pair_cost m (toward f g (g q)) pair ≡ w * table (f p) (g q) =
+    (let x = toward_off f g (g q) p ne in let y = toward_at f g (g q) q refl in let read = weighted w (f p) (g q) in cc) in
+    let read : pair_cost m g pair ≡ w * table (g p) (g q) = weighted w (g p) (g q) in
+    let bound = pair_bound least greatest w (table (g p) (f q)) (table (f p) (g q)) (table (g p) (g q))
+    ((ratio.within (g p) (g q) gp gq ne).0) (at_most m.labels table least greatest (g p) (f q) metric ratio gp fq)
+    (at_most m.labels table least greatest (f p) (g q) metric ratio fp gq) in
     let total : sum_below m.labels (λ a. pair_cost m (toward f g a) pair) + pair_cost m f pair
-    ≤ sum_below m.labels (λ a. pair_cost m f pair) + (w * m.smooth_cost (g p) (f q) + w * m.smooth_cost (f p) (g q)) =
+    ≤ sum_below m.labels (λ a. pair_cost m f pair) + (w * table (g p) (f q) + w * table (f p) (g q)) =
     omega (arith, two, first, second) in
-    omega (arith, mul-le-mul_left least total, times_sum least (sum_below m.labels (λ a. pair_cost m f pair)) (w * m.smooth_cost (g p) (f q) + w * m.smooth_cost (f p) (g q)), bound)
+    omega (arith, read, ap (λ x. (2 * greatest) * x) read, mul-le-mul_left least total, times_sum least (sum_below m.labels (λ a. pair_cost m f pair)) (w * table (g p) (f q) + w * table (f p) (g q)), bound)
 
-at_pair : (m : Instance) (f g : ℕ → ℕ) (least greatest : ℕ) (pair : Pair) → IsMetric m.labels m.smooth_cost → IsRatio m.labels m.smooth_cost least greatest
+at_pair : (m : Instance) (table : ℕ → ℕ → ℕ) (f g : ℕ → ℕ) (least greatest : ℕ) (pair : Pair) → IsWeighted table m → IsMetric m.labels table → IsRatio m.labels table least greatest
     → IsLabelled m f → IsLabelled m g → IsPair m.sites pair
     → least * (sum_below m.labels (λ a. pair_cost m (toward f g a) pair) + pair_cost m f pair)
     ≤ least * sum_below m.labels (λ a. pair_cost m f pair) + (2 * greatest) * pair_cost m g pair
-at_pair m f g least greatest pair metric ratio lf lg within = elim (cases_eq (g pair.first) (g pair.second)) [
-  | inl same ↦ pair_together m f g least (2 * greatest) pair metric (lg pair.first within.first) same
-  | inr other ↦ pair_apart m f g least greatest pair metric ratio (lf pair.first within.first) (lf pair.second within.second) (lg pair.first within.first) (lg pair.second within.second) other
+at_pair m table f g least greatest pair weighted metric ratio lf lg within = elim (cases_eq (g pair.first) (g pair.second)) [
+  | inl same ↦ pair_together m table f g least (2 * greatest) pair weighted metric (lg pair.first within.first) same
+  | inr other ↦ pair_apart m table f g least greatest pair weighted metric ratio (lf pair.first within.first) (lf pair.second within.second) (lg pair.first within.first) (lg pair.second within.second) other
 ]
 
 -- at the sum of k energies that are not lower, what is over is the bound
@@ -181,17 +183,17 @@ last_step : (u v K S e g : ℕ) → K ≤ S → u * (S + e) ≤ u * K + v * g �
 last_step u v K S e g le all = omega (arith, times_sum u S e, mul-le-mul_left u le, all)
 
 -- the bound of Boykov, Veksler and Zabih
-plain_bound : (m : Instance) (f g : ℕ → ℕ) (least greatest : ℕ) → IsInstance m → IsMetric m.labels m.smooth_cost → IsRatio m.labels m.smooth_cost least greatest
+plain_bound : (m : Instance) (table : ℕ → ℕ → ℕ) (f g : ℕ → ℕ) (least greatest : ℕ) → IsInstance m → IsWeighted table m → IsMetric m.labels table → IsRatio m.labels table least greatest
     → IsLabelled m f → IsLabelled m g → ((a : ℕ) → a < m.labels → (h : ℕ → ℕ) → IsReached (Expand a) m.sites f h → plain_energy m f ≤ plain_energy m h)
     → least * plain_energy m f ≤ (2 * greatest) * plain_energy m g
-plain_bound m f g least greatest pairs metric ratio lf lg local =
+plain_bound m table f g least greatest pairs weighted metric ratio lf lg local =
     let k = m.labels in
     let at_sites = sums_up least (2 * greatest) m.sites (λ p. sum_below k (λ a. m.data_cost p (toward f g a p))) (λ p. m.data_cost p (f p))
     (λ p. sum_below k (λ a. m.data_cost p (f p))) (λ p. m.data_cost p (g p))
     (λ p l. at_site m f g least (2 * greatest) p (omega (arith, ratio.ordered)) (lg p l)) in
     let at_pairs = lists_up (IsPair m.sites) least (2 * greatest) (λ pair. sum_below k (λ a. pair_cost m (toward f g a) pair)) (pair_cost m f)
     (λ pair. sum_below k (λ a. pair_cost m f pair)) (pair_cost m g) m.pairs pairs
-    (λ pair within. at_pair m f g least greatest pair metric ratio lf lg within) in
+    (λ pair within. at_pair m table f g least greatest pair weighted metric ratio lf lg within) in
     let both = adds_up least (2 * greatest)
     (sum_below m.sites (λ p. sum_below k (λ a. m.data_cost p (toward f g a p)))) (data_energy m f) (sum_below m.sites (λ p. sum_below k (λ a. m.data_cost p (f p)))) (data_energy m g)
     (sum_by (λ pair. sum_below k (λ a. pair_cost m (toward f g a) pair)) m.pairs) (smooth_energy m f) (sum_by (λ pair. sum_below k (λ a. pair_cost m f pair)) m.pairs) (smooth_energy m g)
@@ -217,12 +219,12 @@ plain_bound m f g least greatest pairs metric ratio lf lg local =
     (rw (← moved, ← stayed) both)
 
 -- also where label costs are counted, if all are 0
-pub expansion_bound : (m : Instance) (f g : ℕ → ℕ) (least greatest : ℕ) → IsInstance m → IsMetric m.labels m.smooth_cost → IsRatio m.labels m.smooth_cost least greatest
+pub expansion_bound : (m : Instance) (table : ℕ → ℕ → ℕ) (f g : ℕ → ℕ) (least greatest : ℕ) → IsInstance m → IsWeighted table m → IsMetric m.labels table → IsRatio m.labels table least greatest
     → AreLabelsFree m → IsLabelled m f → IsLabelled m g → ((a : ℕ) → a < m.labels → (h : ℕ → ℕ) → IsReached (Expand a) m.sites f h → energy m f ≤ energy m h)
     → least * energy m f ≤ (2 * greatest) * energy m g
-expansion_bound m f g least greatest pairs metric ratio free lf lg local =
+expansion_bound m table f g least greatest pairs weighted metric ratio free lf lg local =
     let at_f = free-plain m f free in
     let at_g = free-plain m g free in
-    let plain = plain_bound m f g least greatest pairs metric ratio lf lg
+    let plain = plain_bound m table f g least greatest pairs weighted metric ratio lf lg
     (λ a l h reached. (let low = local a l h reached in let at_h = free-plain m h free in omega (arith, low, at_f, at_h))) in
     rw (at_f, at_g) plain

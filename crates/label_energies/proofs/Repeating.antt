@@ -5,7 +5,7 @@ use Rattle.label_field.specs.PairLists.{IsPair}
 use Rattle.label_energies.specs.declared.change.Move.{Move}
 use Rattle.label_energies.specs.declared.change.Move.TheVariants.{Expand, Swap}
 use Rattle.label_energies.specs.Energies.{Instance, IsInstance, labelling}
-use Rattle.label_energies.specs.Moves.{IsOneOf, MayBecome, IsBest, label_after, IsRegularPair, IsAllowed}
+use Rattle.label_energies.specs.Moves.{IsOneOf, MayBecome, IsBest, label_after, pair_entry, IsRegularPair, IsAllowed}
 use Rattle.label_energies.proofs.Reaching.{cases_one, neither, swap_one}
 use Rattle.label_energies.proofs.Best.{stays-reached}
 
@@ -44,10 +44,16 @@ made_again (Swap a b) old new may = elim (cases_one a b old) [
 regular_again : (m : Instance) (move : Move) (f g : ℕ → ℕ) (pair : Pair) → MayBecome move (f pair.first) (g pair.first)
     → MayBecome move (f pair.second) (g pair.second) → IsRegularPair m move f pair → IsRegularPair m move g pair
 regular_again m move f g pair first second regular = elim (made_again move (f pair.first) (g pair.first) first) [
-  | inr fixed ↦ rw fixed (omega arith)
+  | inr fixed ↦
+      let off = ap (λ l. m.smooth_cost pair.weight l (label_after move (g pair.second) false)) fixed in
+      let on = ap (λ l. m.smooth_cost pair.weight l (label_after move (g pair.second) true)) fixed in omega (arith, off, on)
   | inl same ↦ elim (made_again move (f pair.second) (g pair.second) second) [
-    | inr fixed ↦ rw fixed (omega arith)
-    | inl alike ↦ rw (same true, same false, alike true, alike false) regular
+    | inr fixed ↦
+        let off = ap (λ l. m.smooth_cost pair.weight (label_after move (g pair.first) false) l) fixed in
+        let on = ap (λ l. m.smooth_cost pair.weight (label_after move (g pair.first) true) l) fixed in omega (arith, off, on)
+    | inl alike ↦
+        let at : (x y : Bool) → pair_entry m move g pair x y ≡ pair_entry m move f pair x y = λ x y i. m.smooth_cost pair.weight (same x i) (alike y i) in
+        omega (arith, at false false, at true true, at false true, at true false, regular)
   ]
 ]
 

@@ -3,7 +3,7 @@ use Rattle.std.proofs.Common.{◌≡◌, ℕ, ◌+◌, ◌*◌, true, false, Lis
 use Rattle.std.specs.Prelude.{slice_index}
 use Rattle.label_field.specs.declared.pair.Pair.{Pair}
 use Rattle.label_energies.specs.declared.change.Move.TheVariants.{Expand, Swap}
-use Rattle.label_energies.specs.Energies.{Instance, energy, labelling}
+use Rattle.label_energies.specs.Energies.{Instance, energy, labelling, times_weight}
 use Rattle.label_energies.specs.Moves.{pair_entry, IsRegularPair}
 use Rattle.label_energies.specs.Chains.{expansions, swaps}
 
@@ -16,7 +16,7 @@ tabled n k costs smooth pairs = record {
   sites = n;
   labels = k;
   data_cost = λ p l. slice_index costs (p * k + l);
-  smooth_cost = λ a b. slice_index smooth (a * k + b);
+  smooth_cost = times_weight (λ a b. slice_index smooth (a * k + b));
   pairs = pairs;
   label_cost = λ l. 0;
 }

@@ -2,7 +2,7 @@
 use Rattle.std.specs.Prelude.{◌≡◌, ℕ, ◌*◌, ◌≤◌, Bool, true, List}
 use Rattle.label_energies.specs.declared.change.Move.{Move}
 use Rattle.label_energies.specs.Energies.{Instance, IsInstance, IsMetric, IsRatio, IsLabelled}
-use Rattle.label_energies.specs.Energies.{AreLabelsFree, energy, labelling}
+use Rattle.label_energies.specs.Energies.{AreLabelsFree, energy, labelling, IsWeighted, HasMetric}
 use Rattle.label_energies.specs.Moves.{IsAllowed, IsFirstIrregular, IsMoveOf}
 use Rattle.label_energies.specs.Chains.{IsChain, expansions}
 
@@ -21,8 +21,9 @@ IsWithinTwice m least greatest g =
 -- twice the ratio of every labelling (Boykov, Veksler, Zabih, PAMI 2001, theorem 6.1)
 abbrev pub SettledIsNear : Type 0
 SettledIsNear =
-    (m : Instance) (allowed : ℕ) (f g : List ℕ) (done least greatest : ℕ) → IsInstance m
-    → IsMetric m.labels m.smooth_cost → IsRatio m.labels m.smooth_cost least greatest
+    (m : Instance) (table : ℕ → ℕ → ℕ) (allowed : ℕ) (f g : List ℕ) (done least greatest : ℕ)
+    → IsInstance m → IsWeighted table m
+    → IsMetric m.labels table → IsRatio m.labels table least greatest
     → AreLabelsFree m
     → IsChain m (expansions m.labels) allowed f g done true → IsLabelled m (labelling g)
     → IsWithinTwice m least greatest g
@@ -31,6 +32,6 @@ SettledIsNear =
 abbrev pub MetricIsAllowed : Type 0
 MetricIsAllowed =
     (m : Instance) (move : Move) (f : ℕ → ℕ) (place : ℕ) → IsInstance m
-    → IsMetric m.labels m.smooth_cost
+    → HasMetric m
     → IsMoveOf m.labels move → IsLabelled m f
     → IsAllowed m move f × (¬ IsFirstIrregular m move f place)

@@ -49,7 +49,7 @@ label_after (Swap a b) old bit = cond ((old == a) || (old == b)) (cond bit b a) 
 -- the entry of the term that the move makes of a pair
 abbrev pub pair_entry : Instance → Move → (ℕ → ℕ) → Pair → Bool → Bool → ℕ
 pair_entry m move f pair x y =
-    pair.weight * m.smooth_cost (label_after move (f pair.first) x)
+    m.smooth_cost pair.weight (label_after move (f pair.first) x)
     (label_after move (f pair.second) y)
 
 -- the term that the move makes of a pair is regular

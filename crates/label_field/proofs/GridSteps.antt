@@ -8,7 +8,7 @@ use Rattle.std.proofs.lemmas.Bool.Decides.{nat_tests}
 use Rattle.label_field.specs.declared.pair.Pair.{Pair}
 use Rattle.label_field.specs.declared.grid.Step.{Step}
 use Rattle.label_field.specs.Limits.{weight_limit}
-use Rattle.label_field.specs.PairLists.{IsPair}
+use Rattle.label_field.specs.PairLists.{IsWeightedPair}
 use Rattle.label_field.specs.Grids.{IsImage, IsForward, site_at, column, row, stays, step_end, pairs_of_steps}
 
 -- one more site
@@ -71,25 +71,25 @@ site_at-column width site = omega (arith, div-add-mod' site width)
 
 -- the pairs at a site are pairs of two sites of the image
 pub pairs_at_are : (width height weight : ℕ) (steps : List Step) (site : ℕ) → IsImage width height → All IsForward steps → weight ≤ weight_limit
-    → site < width * height → All (IsPair (width * height)) (pairs_of_steps width height weight steps site)
+    → site < width * height → All (IsWeightedPair (width * height)) (pairs_of_steps width height weight steps site)
 pairs_at_are width height weight steps site image forward light within =
     let x : ℕ = column width site in
     let y : ℕ = row width site in
     let test : Step → Bool = stays width height x y in
     let pair : Step → Pair = λ step. record { first = site; second = step_end width x y step; weight = weight } in
-    All-map (IsPair (width * height)) pair (filter test steps) (λ k d lt.
+    All-map (IsWeightedPair (width * height)) pair (filter test steps) (λ k d lt.
     let passes : stays width height x y (get_or (filter test steps) k d) ≡ true = filter_passes test steps k d lt in
     let later : site_at width x y < step_end width x y (get_or (filter test steps) k d) =
     ends_later width height x y (get_or (filter test steps) k d) (mod_below site width image.some_column) (All-filter test IsForward steps forward k d lt) passes in
     let back : site_at width x y ≡ site = site_at-column width site in
     let inside : step_end width x y (get_or (filter test steps) k d) < width * height = ends_inside width height x y (get_or (filter test steps) k d) passes in
-    record { first = within; second = inside; unequal = omega (arith, later, back); weight = light })
+    record { pair_is = record { first = within; second = inside; unequal = omega (arith, later, back) }; light = light })
 
 -- and so for several sites
 pub front_are : (width height weight : ℕ) (steps : List Step) (a n : ℕ) → IsImage width height → All IsForward steps → weight ≤ weight_limit
-    → a + n ≤ width * height → All (IsPair (width * height)) (flat_map (pairs_of_steps width height weight steps) (range_with_len a n))
-front_are width height weight steps a zero image forward light within = All-nil (IsPair (width * height))
+    → a + n ≤ width * height → All (IsWeightedPair (width * height)) (flat_map (pairs_of_steps width height weight steps) (range_with_len a n))
+front_are width height weight steps a zero image forward light within = All-nil (IsWeightedPair (width * height))
 front_are width height weight steps a (suc n) image forward light within =
-    All-append (IsPair (width * height)) (pairs_of_steps width height weight steps a) (flat_map (pairs_of_steps width height weight steps) (range_with_len (a + 1) n))
+    All-append (IsWeightedPair (width * height)) (pairs_of_steps width height weight steps a) (flat_map (pairs_of_steps width height weight steps) (range_with_len (a + 1) n))
     (pairs_at_are width height weight steps a image forward light (omega arith))
     (front_are width height weight steps (a + 1) n image forward light (omega arith))

@@ -3,3 +3,4 @@ pub mod Members
 pub mod Neighbours
 pub mod Apart
 pub mod GridLaws
+pub mod Numbers

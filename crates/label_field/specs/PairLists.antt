@@ -1,4 +1,5 @@
-use Rattle.std.specs.Prelude.{◌≡◌, ◌≢◌, ℕ, ℤ, pos, ◌<◌, ◌≤◌, ◌≤ℤ◌, ◌⊎◌, List, length}
+use Rattle.std.specs.Prelude.{◌≡◌, ◌≢◌, ℕ, suc, ℤ, pos, ◌<◌, ◌≤◌, ◌≤ℤ◌, ◌⊎◌, Bool, true, false}
+use Rattle.std.specs.Prelude.{List, [], ◌∷◌, length}
 use Rattle.std.specs.List.{All}
 use Rattle.label_field.specs.Limits.{site_limit, pair_limit, weight_limit}
 use Rattle.label_field.specs.declared.pair.Pair.{Pair}
@@ -7,23 +8,41 @@ use Rattle.label_field.specs.declared.error.LabelFieldError.TheVariants.{NoSuchS
 use Rattle.label_field.specs.declared.error.LabelFieldError.TheVariants.{SamePair, TooManyPairs}
 use Rattle.label_field.specs.declared.error.LabelFieldError.TheVariants.{WeightRange, OutOfMemory}
 
--- how many sites there are, and the pairs in their order
+-- how many sites there are, the pairs in their order, and whether they are numbered: then the
+-- weight of each is its number, by which it has costs of its own
 pub record PairList : Type 0 where
   pub sites : ℕ
   pub list : List Pair
+  pub numbered : Bool
 
--- two unequal sites, and a weight in its limit
+-- two unequal sites
 pub record IsPair (sites : ℕ) (pair : Pair) : Type 0 where
   pub first : pair.first < sites
   pub second : pair.second < sites
   pub unequal : pair.first ≢ pair.second
-  pub weight : pair.weight ≤ weight_limit
+
+-- the same, and a weight in its limit
+pub record IsWeightedPair (sites : ℕ) (pair : Pair) : Type 0 where
+  pub pair_is : IsPair sites pair
+  pub light : pair.weight ≤ weight_limit
+
+-- a pair of the list may have this weight: one in its limit; or, where they are numbered, a number
+-- below how many there are
+pub record IsWeightIn (pairs : PairList) (weight : ℕ) : Type 0 where
+  pub weighted : pairs.numbered ≡ false → weight ≤ weight_limit
+  pub numbered : pairs.numbered ≡ true → weight < length pairs.list
 
 -- numbers in their limits, and a list of pairs
 pub record IsPairList (pairs : PairList) : Type 0 where
   pub sites : pairs.sites ≤ site_limit
   pub count : length pairs.list ≤ pair_limit
   pub each : All (IsPair pairs.sites) pairs.list
+  pub weights : All (λ pair. IsWeightIn pairs pair.weight) pairs.list
+
+-- the pairs with their numbers in place of weights, the first of them having this one
+abbrev pub number_pairs : ℕ → List Pair → List Pair
+number_pairs k [] = []
+number_pairs k (pair ∷ pairs) = record pair { weight = k } ∷ number_pairs (suc k) pairs
 
 -- a weight in its range
 abbrev pub IsWeight : ℤ → Type 0

@@ -1,6 +1,6 @@
 //! The pairs of neighbours of an image.
 ghost use Rattle.std.specs.Prelude.{◌≡◌, ◌+◌, ◌-◌, ◌*◌, ◌<◌, ◌≤◌, ◌++◌, ◌↔◌, IsTrue, IfOk, OnOk};
-ghost use Rattle.std.specs.Prelude.{if◌then◌else◌, Some, None};
+ghost use Rattle.std.specs.Prelude.{if◌then◌else◌, Some, None, false};
 ghost use Rattle.std.specs.List.{All};
 ghost use Rattle.label_field.specs.Limits.{site_limit, weight_limit};
 ghost use Rattle.label_field.specs.Grids.{IsImage, IsSmallStep, AreSmallSteps, edge_count};
@@ -143,6 +143,7 @@ fn grid(
     ensures { IfOk result (λ pairs. pairs ≡ record {
       sites = image.width * image.height;
       list = grid_list image.width image.height weight steps.now;
+      numbered = false;
     }) }
 {
     let sites = image.width * image.height;
@@ -175,7 +176,11 @@ impl Pairs {
         requires image { IsImage width height }
         requires weight { weight ≤ weight_limit }
         ensures { IfOk result (λ pairs. pairs
-            ≡ record { sites = width * height; list = grid_list width height weight steps4 }) }
+            ≡ record {
+              sites = width * height;
+              list = grid_list width height weight steps4;
+              numbered = false;
+            }) }
     {
         let image = Image { width, height };
         grid(alloc, image, weight, &[RIGHT, DOWN], image.edges())
@@ -188,7 +193,11 @@ impl Pairs {
         requires image { IsImage width height }
         requires weight { weight ≤ weight_limit }
         ensures { IfOk result (λ pairs. pairs
-            ≡ record { sites = width * height; list = grid_list width height weight steps8 }) }
+            ≡ record {
+              sites = width * height;
+              list = grid_list width height weight steps8;
+              numbered = false;
+            }) }
     {
         let image = Image { width, height };
         let count = image.edges() + image.corners();

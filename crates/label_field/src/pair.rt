@@ -8,6 +8,7 @@ pub struct Pair {
     pub first: u32,
     /// The number of the second site. In a list it is never that of the first.
     pub second: u32,
-    /// The factor of the term: in a list from 0 to `WEIGHT_LIMIT`.
+    /// The factor of the term: in a list from 0 to `WEIGHT_LIMIT`. Where the pairs of a list are
+    /// numbered, each has costs of its own, and this is its number: its place in the list.
     pub weight: u32,
 }

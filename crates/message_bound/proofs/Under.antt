@@ -46,11 +46,11 @@ passed m index n w c d e pair list costs taken given added old low mid new sites
     let between = entries_raised m.sites w pair.first e given low mid g lf each ew gave in
     let behind = entries_raised m.sites w pair.second d added mid new g ls each dw raised in
     let due = paid (g pair.first) (g pair.second) (each pair.first lf) (each pair.second ls) in
-    let entry_is = ap (λ k. pair.weight * k) (are (g pair.first) (g pair.second) (each pair.first lf) (each pair.second ls)) in
+    let entry_is = are (g pair.first) (g pair.second) pair.weight (each pair.first lf) (each pair.second ls) in
     let inside : index < length m.pairs = omega (arith, within, ap (λ (ps : List Pair). length ps) pairs) in
     let read : get_or m.pairs index pair ≡ pair = ap (λ (ps : List Pair). get_or ps index pair) pairs ∙ get_or_from_slice_get list index pair pair here in
     let more = sum_by_more (pair_cost m g) m.pairs index pair inside in
-    let cost : pair_cost m g (get_or m.pairs index pair) ≡ pair.weight * m.smooth_cost (g pair.first) (g pair.second) = ap (pair_cost m g) read in
+    let cost : pair_cost m g (get_or m.pairs index pair) ≡ m.smooth_cost pair.weight (g pair.first) (g pair.second) = ap (pair_cost m g) read in
     let P : ℕ → Type 0 = λ k. entries_of m.sites k old g ≤ m.sites * ground + parts * (data_energy m g + sum_by (pair_cost m g) (take index m.pairs)) in
     let was = subst P labels (under g labelled) in
     let Q : ℕ → Type 0 = λ k. entries_of m.sites k new g ≤ m.sites * ground + parts * (data_energy m g + sum_by (pair_cost m g) (take (index + 1) m.pairs)) in

@@ -10,10 +10,11 @@ use Rattle.message_bound.specs.declared.costs.Form.TheVariants.{Linear, Square, 
 abbrev pub parts : ℕ
 parts = 256
 
--- the list is the table of what two labels cost, in parts
+-- the list is the table of what two labels cost a pair of weight 1, in parts: a pair costs its
+-- weight times that
 abbrev pub AreSmoothCosts : Instance → ℕ → List ℕ → Type 0
-AreSmoothCosts m labels costs = (a b : ℕ) → a < labels → b < labels
-    → slice_index costs (a * labels + b) ≡ parts * m.smooth_cost a b
+AreSmoothCosts m labels costs = (a b weight : ℕ) → a < labels → b < labels
+    → weight * slice_index costs (a * labels + b) ≡ parts * m.smooth_cost weight a b
 
 -- the table has truncated linear costs
 abbrev pub IsSlopeOf : ℕ → List ℕ → Slope → Type 0

@@ -25,7 +25,7 @@ abbrev pub AreAfforded : Instance → (ℕ → ℕ → ℤ) → (ℕ → ℕ →
 AreAfforded m to_first to_second [] k = Unit {0}
 AreAfforded m to_first to_second (pair ∷ pairs) k =
     ((a b : ℕ) → a < m.labels → b < m.labels
-    → (to_first k a +ℤ to_second k b) ≤ℤ pos (pair.weight * m.smooth_cost a b))
+    → (to_first k a +ℤ to_second k b) ≤ℤ pos (m.smooth_cost pair.weight a b))
     × AreAfforded m to_first to_second pairs (suc k)
 
 -- messages that the pairs can afford prove a bound: a number for each site that no label there

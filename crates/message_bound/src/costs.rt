@@ -1,6 +1,6 @@
 //! What two labels cost a pair of weight 1, in a table, and of what form these costs are.
 ghost use Rattle.std.specs.Prelude.{◌≡◌, ℕ, ◌+◌, ◌*◌, ◌/◌, ◌%◌, ◌^◌, ◌<◌, ◌≤◌, length, slice_index};
-ghost use Rattle.std.specs.Prelude.{IfOk, IfSome, IsTrue, min};
+ghost use Rattle.std.specs.Prelude.{IfOk, IfSome, IsTrue, min, false};
 ghost use Rattle.cost_store.specs.Posed.{IsPosed, WhereMeant};
 ghost use Rattle.label_field.specs.Grids.{distance};
 ghost use Rattle.label_field.specs.Limits.{label_limit};
@@ -37,10 +37,11 @@ fn smooth_parts<F: Fn(u32, u32) -> i64 + Sync, V: Fn(u32, u32) -> i64 + Sync>(
     second: u32,
 ) -> u32
     requires posed { IsPosed F.Fn V.Fn problem.now }
+    requires weighted { problem.now.pairs.numbered ≡ false }
     requires inside { (first < problem.now.data_cost.labels)
         × (second < problem.now.data_cost.labels) }
     ensures { WhereMeant F.Fn V.Fn problem.now
-        (λ m. result ≡ parts * m.smooth_cost first second) }
+        (λ m. (weight : ℕ) → weight * result ≡ parts * m.smooth_cost weight first second) }
 {
     (PARTS * problem.pair_cost(1, first, second).unsigned_abs()) as u32
 }
@@ -51,6 +52,7 @@ pub fn smooth_costs<F: Fn(u32, u32) -> i64 + Sync, V: Fn(u32, u32) -> i64 + Sync
     problem: &Problem<F, V>,
 ) -> Result<Vec<u32>, AllocError>
     requires posed { IsPosed F.Fn V.Fn problem.now }
+    requires weighted { problem.now.pairs.numbered ≡ false }
     ensures size { IfOk result (λ costs. length costs.items
         ≡ problem.now.data_cost.labels * problem.now.data_cost.labels) }
     ensures costs { IfOk result (λ costs. WhereMeant F.Fn V.Fn problem.now

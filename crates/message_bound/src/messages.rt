@@ -1,6 +1,6 @@
 //! The bound that messages prove, whatever they are.
 ghost use Rattle.std.specs.Prelude.{◌≡◌, ℕ, pos, ◌+◌, ◌-◌, ◌*◌, ◌^◌, ◌<◌, ◌≤◌, length, slice_index};
-ghost use Rattle.std.specs.Prelude.{IfOk, IfSome, IsTrue, List};
+ghost use Rattle.std.specs.Prelude.{IfOk, IfSome, IsTrue, List, false};
 ghost use Rattle.label_field.specs.Limits.{label_limit, weight_limit};
 ghost use Rattle.label_energies.specs.Energies.{Instance};
 ghost use Rattle.cost_store.specs.Posed.{IsPosed, WhereMeant};
@@ -222,6 +222,7 @@ fn pass_message(
     taken: &mut [u32],
     given: &mut [u32],
 )
+    requires weighted { pairs.now.numbered ≡ false }
     requires index { index < length pairs.now.list }
     requires size { length rows.old ≡ pairs.now.sites * length added.now }
     requires costs { length costs.now ≡ length added.now * length added.now }
@@ -254,6 +255,7 @@ fn pass_all(
     taken: &mut [u32],
     given: &mut [u32],
 )
+    requires weighted { pairs.now.numbered ≡ false }
     requires size { length rows.old ≡ pairs.now.sites * labels }
     requires few { labels ≤ label_limit }
     requires costs { length costs.now ≡ labels * labels }
@@ -296,6 +298,7 @@ pub fn bound_by_messages<F: Fn(u32, u32) -> i64 + Sync, V: Fn(u32, u32) -> i64 +
     messages: &[u32],
 ) -> Result<i64, AllocError>
     requires posed { IsPosed F.Fn V.Fn problem.now }
+    requires weighted { problem.now.pairs.numbered ≡ false }
     requires few { problem.now.data_cost.labels ≤ label_limit }
     requires messages { length messages.now
         ≡ length problem.now.pairs.list * problem.now.data_cost.labels }

@@ -5,7 +5,7 @@ use Rattle.label_field.specs.declared.pair.Pair.{Pair}
 use Rattle.label_field.specs.PairLists.{IsPair, PairList, IsPairList}
 use Rattle.label_energies.specs.Energies.{Instance, IsInstance}
 use Rattle.move_energy.specs.declared.by_site.Neighbours.{Neighbours}
-use Rattle.move_energy.specs.BySite.{degree, pair_ends, grouped_at, AreBySite, AreNeighboursOf}
+use Rattle.move_energy.specs.BySite.{degree, pair_ends, grouped_at, AreBySite, AreEndsBySite, AreNeighboursOf}
 use Rattle.move_energy.proofs.Parts.{starts_within}
 use Rattle.move_energy.proofs.PairEnds.{ends_len}
 
@@ -23,8 +23,8 @@ meant_grouped m pairs ends same sites b =
 
 pub meant_beside : (m : Instance) (pairs : PairList) (ends : Neighbours) → m.pairs ≡ pairs.list → m.sites ≡ pairs.sites → AreBySite pairs ends → AreNeighboursOf m ends
 meant_beside m pairs ends same sites by_site =
-    let P : ℕ → Type 0 = λ n. AreBySite (record { sites = n; list = pairs.list }) ends in
-    let Q : List Pair → Type 0 = λ ps. AreBySite (record { sites = m.sites; list = ps }) ends in
+    let P : ℕ → Type 0 = λ n. AreEndsBySite n pairs.list ends in
+    let Q : List Pair → Type 0 = λ ps. AreEndsBySite m.sites ps ends in
     subst Q (sym same) (subst P (sym sites) by_site)
 
 -- a site has at most two ends of each pair

@@ -44,7 +44,7 @@ asked_rise m move f site other x pair stays turns label ends unequal turned is =
       let none : stays ≡ label_after move (f pair.first) false = turned.0 ∙ ap (λ s. label_after move (f s) false) (sym here) in
       let beside : label ≡ label_after move (f pair.second) (x pair.second) = is ∙ ap (λ s. label_after move (f s) (x s)) (sym there) in
       ap (λ b. end_rise m pair.weight b stays turns label) (test_true pair.first site here)
-      ∙ (λ i. pos (pair.weight * m.smooth_cost (one i) (beside i)) -ℤ pos (pair.weight * m.smooth_cost (none i) (beside i)))
+      ∙ (λ i. pos (m.smooth_cost pair.weight (one i) (beside i)) -ℤ pos (m.smooth_cost pair.weight (none i) (beside i)))
       ∙ sym (pair_rise-first m move f site x pair here (λ same. unequal (here ∙ sym same)))
   | inr apart ↦
       let swapped = first_other pair site other ends apart in
@@ -52,7 +52,7 @@ asked_rise m move f site other x pair stays turns label ends unequal turned is =
       let none : stays ≡ label_after move (f pair.second) false = turned.0 ∙ ap (λ s. label_after move (f s) false) (sym swapped.1) in
       let beside : label ≡ label_after move (f pair.first) (x pair.first) = is ∙ ap (λ s. label_after move (f s) (x s)) (sym swapped.0) in
       ap (λ b. end_rise m pair.weight b stays turns label) (test_false pair.first site apart)
-      ∙ (λ i. pos (pair.weight * m.smooth_cost (beside i) (one i)) -ℤ pos (pair.weight * m.smooth_cost (beside i) (none i)))
+      ∙ (λ i. pos (m.smooth_cost pair.weight (beside i) (one i)) -ℤ pos (m.smooth_cost pair.weight (beside i) (none i)))
       ∙ sym (pair_rise-second m move f site x pair apart swapped.1)
 ]
 
@@ -66,7 +66,7 @@ pub risen_all : (m : Instance) (move : Move) (f : ℕ → ℕ) (ends : Neighbour
     → risen m move f ends site x (degree ends site) ≡ rise (move_value m move f) site x
 risen_all m move f ends site x pairs grouped inside =
     ap (λ s. data_rise m move f site +ℤ s)
-    (sym (site_sum (record { sites = m.sites; list = m.pairs }) ends site (pair_rise m move f site x) pairs grouped inside (λ pair off other. pair_rise-none m move f site x pair off other)))
+    (sym (site_sum (record { sites = m.sites; list = m.pairs; numbered = false }) ends site (pair_rise m move f site x) pairs grouped inside (λ pair off other. pair_rise-none m move f site x pair off other)))
     ∙ sym (rise_parts m move f site x inside)
 
 -- ---- the sums, as the machine counts them

@@ -62,14 +62,14 @@ open_all move f choices n all below = record {
 -- a pair of which the move cannot change one end makes a regular term
 fixed_first : (m : Instance) (move : Move) (f : ℕ → ℕ) (pair : Pair) → label_after move (f pair.first) true ≡ label_after move (f pair.first) false → IsRegularPair m move f pair
 fixed_first m move f pair fixed =
-    let p = ap (λ l. pair.weight * m.smooth_cost l (label_after move (f pair.second) true)) fixed in
-    let q = ap (λ l. pair.weight * m.smooth_cost l (label_after move (f pair.second) false)) fixed in
+    let p = ap (λ l. m.smooth_cost pair.weight l (label_after move (f pair.second) true)) fixed in
+    let q = ap (λ l. m.smooth_cost pair.weight l (label_after move (f pair.second) false)) fixed in
     omega (arith, p, q)
 
 fixed_second : (m : Instance) (move : Move) (f : ℕ → ℕ) (pair : Pair) → label_after move (f pair.second) true ≡ label_after move (f pair.second) false → IsRegularPair m move f pair
 fixed_second m move f pair fixed =
-    let p = ap (λ l. pair.weight * m.smooth_cost (label_after move (f pair.first) true) l) fixed in
-    let q = ap (λ l. pair.weight * m.smooth_cost (label_after move (f pair.first) false) l) fixed in
+    let p = ap (λ l. m.smooth_cost pair.weight (label_after move (f pair.first) true) l) fixed in
+    let q = ap (λ l. m.smooth_cost pair.weight (label_after move (f pair.first) false) l) fixed in
     omega (arith, p, q)
 
 -- so where the open sites are those that it can change, the pairs with two open ends are all that

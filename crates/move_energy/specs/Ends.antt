@@ -41,9 +41,9 @@ AreTwoLabels move old stays turns =
 -- the other
 abbrev pub end_rise : Instance → ℕ → Bool → ℕ → ℕ → ℕ → ℤ
 end_rise m weight true stays turns other =
-    pos (weight * m.smooth_cost turns other) -ℤ pos (weight * m.smooth_cost stays other)
+    pos (m.smooth_cost weight turns other) -ℤ pos (m.smooth_cost weight stays other)
 end_rise m weight false stays turns other =
-    pos (weight * m.smooth_cost other turns) -ℤ pos (weight * m.smooth_cost other stays)
+    pos (m.smooth_cost weight other turns) -ℤ pos (m.smooth_cost weight other stays)
 
 -- the decided sites have their values, and all others this one
 abbrev pub decided_or : List Choice → Bool → ℕ → Bool

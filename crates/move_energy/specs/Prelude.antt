@@ -3,8 +3,8 @@ pub use Rattle.compile_cut.specs.Quadratics.{IsQuadraticBounded, IsConstant}
 pub use Rattle.cost_store.specs.Limits.{site_cost_limit, pair_cost_limit}
 pub use Rattle.cost_store.specs.Posed.{IsPosed, IsAsked, WhereMeant}
 pub use Rattle.cost_store.specs.Promises.{IsCost}
-pub use Rattle.label_field.specs.Limits.{site_limit, pair_limit, weight_limit}
-pub use Rattle.label_field.specs.PairLists.{IsPair}
+pub use Rattle.label_field.specs.Limits.{site_limit, pair_limit}
+pub use Rattle.label_field.specs.PairLists.{IsPair, IsWeightIn}
 pub use Rattle.label_energies.specs.Energies.{labelling}
 pub use Rattle.label_energies.specs.Moves.{IsMoveOf, label_after, IsRegularPair}
 pub use Rattle.move_energy.specs.Built.{label_given, AddsCost, IsLonger, IsBuilt, AddsEnds}

@@ -1,7 +1,7 @@
 //! What a pair of two sites costs in a move.
 ghost use Rattle.std.specs.Prelude.{◌≡◌, ◌<◌, ◌≤◌, ◌*◌, ◌∷◌, [], pos, ◌≤ℤ◌, true, false, All};
 ghost use Rattle.std.specs.Prelude.{length, unsigned_abs};
-ghost use Rattle.move_energy.specs.Prelude.{weight_limit, IsPair, labelling, label_after, IsMoveOf};
+ghost use Rattle.move_energy.specs.Prelude.{IsWeightIn, IsPair, labelling, label_after, IsMoveOf};
 ghost use Rattle.move_energy.specs.Prelude.{IsWithin, IsCost, IsPosed, IsAsked, WhereMeant};
 ghost use Rattle.move_energy.specs.Prelude.{pair_cost_limit, surplus_limit, surplus_of, pair_table};
 
@@ -28,14 +28,14 @@ impl Known {
         second: u32,
     ) -> i64
         requires posed { IsPosed F.Fn V.Fn problem.now }
-        requires weight { weight ≤ weight_limit }
+        requires weight { IsWeightIn problem.now.pairs weight }
         requires inside { (first < problem.now.data_cost.labels)
             × (second < problem.now.data_cost.labels) }
         requires known { WhereMeant F.Fn V.Fn problem.now (λ m. self.cost ≡ pos
-            (weight * m.smooth_cost self.first self.second)) }
+            (m.smooth_cost weight self.first self.second)) }
         requires range { (pos 0 ≤ℤ self.cost) × (self.cost ≤ℤ pos pair_cost_limit) }
         ensures cost { WhereMeant F.Fn V.Fn problem.now
-            (λ m. result ≡ pos (weight * m.smooth_cost first second)) }
+            (λ m. result ≡ pos (m.smooth_cost weight first second)) }
         ensures range { (pos 0 ≤ℤ result) × (result ≤ℤ pos pair_cost_limit) }
     {
         if first == self.first && second == self.second {
@@ -75,16 +75,16 @@ fn corner_costs<F: Fn(u32, u32) -> i64 + Sync, V: Fn(u32, u32) -> i64 + Sync>(
     second: TwoLabels,
 ) -> [i64; 4]
     requires posed { IsPosed F.Fn V.Fn problem.now }
-    requires weight { weight ≤ weight_limit }
+    requires weight { IsWeightIn problem.now.pairs weight }
     requires first { (first.stays < problem.now.data_cost.labels) ×
         (first.turns < problem.now.data_cost.labels) }
     requires second { (second.stays < problem.now.data_cost.labels) ×
         (second.turns < problem.now.data_cost.labels) }
     ensures table { WhereMeant F.Fn V.Fn problem.now
-        (λ m. result ≡ pos (weight * m.smooth_cost first.stays
-        second.stays) ∷ pos (weight * m.smooth_cost first.stays second.turns)
-        ∷ pos (weight * m.smooth_cost
-        first.turns second.stays) ∷ pos (weight * m.smooth_cost first.turns second.turns) ∷ []) }
+        (λ m. result ≡ pos (m.smooth_cost weight first.stays
+        second.stays) ∷ pos (m.smooth_cost weight first.stays second.turns)
+        ∷ pos (m.smooth_cost weight
+        first.turns second.stays) ∷ pos (m.smooth_cost weight first.turns second.turns) ∷ []) }
     ensures range { All (IsCost (pos pair_cost_limit)) result }
 {
     let neither = problem.pair_cost(weight, first.stays, second.stays);
@@ -114,17 +114,17 @@ pub fn pair_table<F: Fn(u32, u32) -> i64 + Sync, V: Fn(u32, u32) -> i64 + Sync>(
     second: u32,
 ) -> [i64; 4]
     requires posed { IsPosed F.Fn V.Fn problem.now }
-    requires weight { weight ≤ weight_limit }
+    requires weight { IsWeightIn problem.now.pairs weight }
     requires inside { (first < problem.now.data_cost.labels)
         × (second < problem.now.data_cost.labels) }
     requires change { IsMoveOf problem.now.data_cost.labels change }
-    ensures table { WhereMeant F.Fn V.Fn problem.now (λ m. result ≡ pos (weight * m.smooth_cost
+    ensures table { WhereMeant F.Fn V.Fn problem.now (λ m. result ≡ pos (m.smooth_cost weight
         (label_after change first false) (label_after change second false))
-        ∷ pos (weight * m.smooth_cost (label_after change first false)
+        ∷ pos (m.smooth_cost weight (label_after change first false)
         (label_after change second true))
-        ∷ pos (weight * m.smooth_cost (label_after change first true)
+        ∷ pos (m.smooth_cost weight (label_after change first true)
         (label_after change second false))
-        ∷ pos (weight * m.smooth_cost (label_after change first true)
+        ∷ pos (m.smooth_cost weight (label_after change first true)
         (label_after change second true)) ∷ []) }
     ensures range { All (IsCost (pos pair_cost_limit)) result }
     ensures within { All (IsWithin pair_cost_limit) result }
@@ -146,6 +146,7 @@ pub fn term<F: Fn(u32, u32) -> i64 + Sync, V: Fn(u32, u32) -> i64 + Sync>(
 ) -> [i64; 4]
     requires posed { IsPosed F.Fn V.Fn problem.now }
     requires pair { IsPair (length at.now) pair }
+    requires weight { IsWeightIn problem.now.pairs pair.weight }
     requires asked { IsAsked problem.now at.now change }
     ensures table { WhereMeant F.Fn V.Fn problem.now
         (λ m. result ≡ pair_table m change (labelling at.now) pair) }

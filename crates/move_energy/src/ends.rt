@@ -1,6 +1,6 @@
 //! The term of a pair of two sites.
 ghost use Rattle.std.specs.Prelude.{◌≡◌, ◌<◌, ◌≤◌, ◌*◌, vec_len, IfOk, OnOk};
-ghost use Rattle.move_energy.specs.Prelude.{weight_limit, label_after, IsMoveOf, term_limit};
+ghost use Rattle.move_energy.specs.Prelude.{IsWeightIn, label_after, IsMoveOf, term_limit};
 ghost use Rattle.move_energy.specs.Prelude.{IsQuadraticBounded, IsPosed, WhereMeant, Open};
 ghost use Rattle.move_energy.specs.Prelude.{AddsCost, AddsEnds, IsLonger};
 
@@ -22,7 +22,7 @@ fn add_both<F: Fn(u32, u32) -> i64 + Sync, V: Fn(u32, u32) -> i64 + Sync>(
     second: End,
 ) -> Result<bool, AllocError>
     requires posed { IsPosed F.Fn V.Fn problem.now }
-    requires weight { weight ≤ weight_limit }
+    requires weight { IsWeightIn problem.now.pairs weight }
     requires inside { (first.label < problem.now.data_cost.labels) ×
         (second.label < problem.now.data_cost.labels) }
     requires change { IsMoveOf problem.now.data_cost.labels change }
@@ -52,7 +52,7 @@ fn add_first<F: Fn(u32, u32) -> i64 + Sync, V: Fn(u32, u32) -> i64 + Sync>(
     other: u32,
 )
     requires posed { IsPosed F.Fn V.Fn problem.now }
-    requires weight { weight ≤ weight_limit }
+    requires weight { IsWeightIn problem.now.pairs weight }
     requires inside { (end.label < problem.now.data_cost.labels)
         × (other < problem.now.data_cost.labels) }
     requires change { IsMoveOf problem.now.data_cost.labels change }
@@ -60,7 +60,7 @@ fn add_first<F: Fn(u32, u32) -> i64 + Sync, V: Fn(u32, u32) -> i64 + Sync>(
     requires bounded { IsQuadraticBounded term_limit form.old }
     ensures longer { IsLonger 1 form.old form.new }
     ensures adds { WhereMeant F.Fn V.Fn problem.now
-        (λ m. AddsCost form.old form.new (λ x. weight * m.smooth_cost
+        (λ m. AddsCost form.old form.new (λ x. m.smooth_cost weight
         (label_after change end.label (x end.variable)) other)) }
 {
     let stays = problem.pair_cost(weight, change.label(end.label, false), other);
@@ -78,7 +78,7 @@ fn add_second<F: Fn(u32, u32) -> i64 + Sync, V: Fn(u32, u32) -> i64 + Sync>(
     end: End,
 )
     requires posed { IsPosed F.Fn V.Fn problem.now }
-    requires weight { weight ≤ weight_limit }
+    requires weight { IsWeightIn problem.now.pairs weight }
     requires inside { (end.label < problem.now.data_cost.labels)
         × (other < problem.now.data_cost.labels) }
     requires change { IsMoveOf problem.now.data_cost.labels change }
@@ -86,7 +86,7 @@ fn add_second<F: Fn(u32, u32) -> i64 + Sync, V: Fn(u32, u32) -> i64 + Sync>(
     requires bounded { IsQuadraticBounded term_limit form.old }
     ensures longer { IsLonger 1 form.old form.new }
     ensures adds { WhereMeant F.Fn V.Fn problem.now
-        (λ m. AddsCost form.old form.new (λ x. weight * m.smooth_cost
+        (λ m. AddsCost form.old form.new (λ x. m.smooth_cost weight
         other (label_after change end.label (x end.variable)))) }
 {
     let stays = problem.pair_cost(weight, other, change.label(end.label, false));
@@ -105,7 +105,7 @@ pub fn add_ends<F: Fn(u32, u32) -> i64 + Sync, V: Fn(u32, u32) -> i64 + Sync>(
     second: End,
 ) -> Result<bool, AllocError>
     requires posed { IsPosed F.Fn V.Fn problem.now }
-    requires weight { weight ≤ weight_limit }
+    requires weight { IsWeightIn problem.now.pairs weight }
     requires inside { (first.label < problem.now.data_cost.labels) ×
         (second.label < problem.now.data_cost.labels) }
     requires change { IsMoveOf problem.now.data_cost.labels change }

@@ -1,7 +1,7 @@
 //! Whether the terms that a move makes are regular.
 ghost use Rattle.std.specs.Prelude.{◌↔◌, ◌⊎◌, length, IsTrue};
 ghost use Rattle.move_energy.specs.Prelude.{IsPair, labelling, IsRegularPair, IsPosed, IsAsked};
-ghost use Rattle.move_energy.specs.Prelude.{WhereMeant, Changes, AreTermsTested};
+ghost use Rattle.move_energy.specs.Prelude.{WhereMeant, Changes, AreTermsTested, IsWeightIn};
 
 use crate::costs::term;
 use crate::error::BuildError;
@@ -31,6 +31,7 @@ fn is_term_regular<F: Fn(u32, u32) -> i64 + Sync, V: Fn(u32, u32) -> i64 + Sync>
     requires posed { IsPosed F.Fn V.Fn problem.now }
     requires asked { IsAsked problem.now at.now change }
     requires pair { IsPair (length at.now) pair }
+    requires weight { IsWeightIn problem.now.pairs pair.weight }
     ensures { WhereMeant F.Fn V.Fn problem.now
         (λ m. IsTrue result ↔ IsRegularPair m change (labelling at.now) pair) }
 {

@@ -131,9 +131,9 @@ fn is_right<H: Sharing>(rt: &impl Abort, alloc: Global, row: &[u8; COSTED_BYTES]
         requires { (first * labels + second < length smooth.now) × (labels ≤ 256) }
         ensures { result ≡ entry_at labels smooth.entry.now first second }
     { smooth[first as usize * labels as usize + second as usize] };
-    let mut problem = Problem {
+    let mut problem = Problem::new(
         pairs,
-        data_cost: DataCost::new(
+        DataCost::new(
             |site: u32, label: u32| -> i64
                 requires { (site < 6) × (label < 4) }
                 ensures { (pos 0 ≤ℤ result) × (result ≤ℤ pos 10000000) }
@@ -141,9 +141,8 @@ fn is_right<H: Sharing>(rt: &impl Abort, alloc: Global, row: &[u8; COSTED_BYTES]
             sites,
             labels,
         ),
-        smooth_cost: SmoothCost::with_metric(cost, labels, is_metric(smooth, labels)),
-        label_costs: None,
-    };
+        SmoothCost::with_metric(cost, labels, is_metric(smooth, labels)),
+    );
     let Ok(()) = problem.set_label_costs(alloc, &costs_of(row)[..labels as usize]) else {
         return false;
     };

@@ -1,5 +1,5 @@
 //! Listed moves of which few sites are left for a cut, or none, or all.
-ghost use Rattle.std.specs.Prelude.{◌≡◌, ◌≤◌, ◌<◌, ◌≤ℤ◌, pos, length};
+ghost use Rattle.std.specs.Prelude.{false, ◌≡◌, ◌≤◌, ◌<◌, ◌≤ℤ◌, pos, length};
 ghost use Rattle.label_energies.specs.Moves.{IsMoveOf};
 ghost use Rattle.cost_store.specs.Posed.{IsPosed, FitsProblem};
 
@@ -31,15 +31,17 @@ fn number(row: &[u8; BYTES], place: usize) -> u32
 /// The pairs of a row.
 fn pairs_of(rt: &impl Abort, alloc: Global, row: &[u8; BYTES], sites: u32) -> Pairs
     requires { sites ≤ 24 }
-    ensures { result.sites ≡ sites }
+    ensures sites { result.sites ≡ sites }
+    ensures weighted { result.numbered ≡ false }
 {
     let mut pairs = Pairs::new(alloc, sites);
     for place in 0..number(row, 2).min(40) as usize {
         let at = 137 + 3 * place;
         let weight = i64::from(number(row, at + 2));
+        hold(rt, !pairs.are_numbered());
         take_ok(rt, pairs.add(number(row, at), number(row, at + 1), weight));
     }
-    hold(rt, pairs.sites() == sites);
+    hold(rt, pairs.sites() == sites && !pairs.are_numbered());
     pairs
 }
 
@@ -135,9 +137,9 @@ fn is_right(rt: &impl Abort, alloc: Global, row: &[u8; BYTES]) -> bool {
     let mut labelling = labels_at(rt, alloc, row, 89, sites, labels);
     let mut again = labels_at(rt, alloc, row, 89, sites, labels);
     let wanted = labels_at(rt, alloc, row, 113, sites, labels);
-    let problem = Problem {
+    let problem = Problem::new(
         pairs,
-        data_cost: DataCost::new(
+        DataCost::new(
             |site: u32, label: u32| -> i64
                 requires { (site < 24) × (label < 3) }
                 ensures { (pos 0 ≤ℤ result) × (result ≤ℤ pos 255) }
@@ -145,15 +147,14 @@ fn is_right(rt: &impl Abort, alloc: Global, row: &[u8; BYTES]) -> bool {
             sites,
             labels,
         ),
-        smooth_cost: SmoothCost::new(
+        SmoothCost::new(
             |first: u32, second: u32| -> i64
                 requires { (first < 3) × (second < 3) }
                 ensures { (pos 0 ≤ℤ result) × (result ≤ℤ pos 255) }
             { i64::from(number(row, 80 + (first * 3 + second) as usize)) },
             labels,
         ),
-        label_costs: None,
-    };
+    );
     is_told(
         rt,
         &problem,

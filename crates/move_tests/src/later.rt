@@ -1,7 +1,7 @@
 //! How many cuts a run of expansions has whose later expansions look near the changes alone, and
 //! how many sites these have, on the picture of `opened`; and that it ends as a run whose moves are
 //! all made whole.
-ghost use Rattle.std.specs.Prelude.{◌≡◌, ◌<◌, ◌≤◌, ◌+◌, ◌*◌, ◌≤ℤ◌, pos, length, All};
+ghost use Rattle.std.specs.Prelude.{false, ◌≡◌, ◌<◌, ◌≤◌, ◌+◌, ◌*◌, ◌≤ℤ◌, pos, length, All};
 ghost use Rattle.cost_store.specs.Limits.{smooth_limit};
 ghost use Rattle.cost_store.specs.Promises.{IsCost, entry_at};
 ghost use Rattle.cut_ways.specs.declared.solve_error.SolveError.TheVariants.{OutOfMemory};
@@ -112,14 +112,13 @@ fn expands<H: Sharing>(
     how: &H,
 ) -> bool
     requires ready { H.ready how.now }
-    requires pairs { pairs.sites ≡ 4096 }
+    requires pairs { (pairs.sites ≡ 4096) × (pairs.numbered ≡ false) }
     requires sites { (length labelling.old.at ≡ 4096) × (labelling.old.labels ≡ 4) }
     requires smooth { (length smooth.now ≡ 16) × All (IsCost smooth_limit) smooth.now }
 {
-    pairs.keeps();
-    let problem = Problem {
+    let problem = Problem::new(
         pairs,
-        data_cost: DataCost::new(
+        DataCost::new(
             |site: u32, label: u32| -> i64
                 requires { (site < 4096) × (label < 4) }
                 ensures { (pos 0 ≤ℤ result) × (result ≤ℤ pos 15) }
@@ -127,7 +126,7 @@ fn expands<H: Sharing>(
             4096,
             4,
         ),
-        smooth_cost: SmoothCost::with_metric(
+        SmoothCost::with_metric(
             |first: u32, second: u32| -> i64
                 requires { first * 4 + second < length smooth.now }
                 ensures { result ≡ entry_at 4 smooth.entry.now first second }
@@ -135,8 +134,7 @@ fn expands<H: Sharing>(
             4,
             is_metric(smooth, 4),
         ),
-        label_costs: None,
-    };
+    );
     run_expansion(alloc, &problem, labelling, cycles, how).is_ok()
 }
 

@@ -2,8 +2,8 @@
 //! scripts answer that try every labelling, without label costs and with them, and the bounds of
 //! runs; how many sites deciding leaves open on a picture, and how many the cuts of a run have
 //! whose later expansions look near the changes; listed moves of which few sites, none or all are
-//! left open; moves that are closed in by parts; runs that are made step by step, and may be left
-//! after each; and tables of costs that threads fill.
+//! left open; moves over pairs with costs of their own; moves that are closed in by parts; runs
+//! that are made step by step, and may be left after each; and tables of costs that threads fill.
 #![tactic(auto)]
 
 #[cfg(test)]
@@ -24,6 +24,10 @@ mod later;
 mod listed;
 #[cfg(test)]
 mod opened;
+#[cfg(test)]
+mod own;
+#[cfg(test)]
+mod own_costs;
 #[cfg(test)]
 mod parts;
 #[cfg(test)]

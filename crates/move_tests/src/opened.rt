@@ -100,14 +100,13 @@ fn expand_picture(
     alpha: u32,
 ) -> Option<(usize, usize)> {
     let pairs = take_ok(rt, Pairs::grid4(alloc, 64, 64, 1));
-    pairs.keeps();
     hold(rt, alpha < 4);
     hold(rt, pairs.sites() == 4096);
     hold(rt, labelling.sites() == 4096);
     hold(rt, labelling.labels() == 4);
-    let problem = Problem {
+    let problem = Problem::new(
         pairs,
-        data_cost: DataCost::new(
+        DataCost::new(
             |site: u32, label: u32| -> i64
                 requires { (site < 4096) × (label < 4) }
                 ensures { (pos 0 ≤ℤ result) × (result ≤ℤ pos 15) }
@@ -115,14 +114,13 @@ fn expand_picture(
             4096,
             4,
         ),
-        smooth_cost: SmoothCost::new(
+        SmoothCost::new(
             |first: u32, second: u32| -> i64
                 ensures { (pos 0 ≤ℤ result) × (result ≤ℤ pos 2) }
             { if first == second { 0 } else { 2 } },
             4,
         ),
-        label_costs: None,
-    };
+    );
     take_ok(rt, expand_label(alloc, &problem, labelling, alpha))
 }
 

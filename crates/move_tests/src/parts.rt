@@ -94,6 +94,7 @@ fn pairs_of(rt: &impl Abort, alloc: Global, picture: u32) -> Pairs {
             } else {
                 (site, site + step)
             };
+            hold(rt, !pairs.are_numbered());
             take_ok(rt, pairs.add(ends.0, ends.1, 1));
         }
     }
@@ -280,11 +281,10 @@ fn try_moves<F: Fn(u32, u32) -> i64 + Sync, V: Fn(u32, u32) -> i64 + Sync>(
 /// each comes to the same by parts.
 fn try_picture(rt: &impl Abort, alloc: Global, picture: u32) -> Option<usize> {
     let pairs = pairs_of(rt, alloc, picture);
-    pairs.keeps();
-    hold(rt, pairs.sites() == SITES);
-    let problem = Problem {
+    hold(rt, pairs.sites() == SITES && !pairs.are_numbered());
+    let problem = Problem::new(
         pairs,
-        data_cost: DataCost::new(
+        DataCost::new(
             |site: u32, label: u32| -> i64
                 requires { (site < 81) × (label < 4) }
                 ensures { (pos 0 ≤ℤ result) × (result ≤ℤ pos 65535) }
@@ -292,15 +292,14 @@ fn try_picture(rt: &impl Abort, alloc: Global, picture: u32) -> Option<usize> {
             SITES,
             4,
         ),
-        smooth_cost: SmoothCost::new(
+        SmoothCost::new(
             |first: u32, second: u32| -> i64
                 requires { (first < 4) × (second < 4) }
                 ensures { (pos 0 ≤ℤ result) × (result ≤ℤ pos 10000) }
             { smooth_at(picture, first, second) },
             4,
         ),
-        label_costs: None,
-    };
+    );
     try_moves(rt, alloc, &problem, picture)
 }
 

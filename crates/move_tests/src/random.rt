@@ -1,6 +1,6 @@
 //! Small random moves and runs, with sites decided first, without, and strip by strip, against
 //! answers worked out over all labellings.
-ghost use Rattle.std.specs.Prelude.{◌≡◌, ◌≤◌, ◌<◌, ◌+◌, ◌*◌, ◌≤ℤ◌, pos, length};
+ghost use Rattle.std.specs.Prelude.{false, ◌≡◌, ◌≤◌, ◌<◌, ◌+◌, ◌*◌, ◌≤ℤ◌, pos, length};
 ghost use Rattle.cost_store.specs.Posed.{IsPosed, FitsProblem, AreOfOneSize};
 ghost use Rattle.cut_ways.specs.declared.solve_error.SolveError.TheVariants.{OutOfMemory};
 
@@ -143,15 +143,17 @@ fn energy_at(row: &[u8; BYTES], from: usize) -> i64
 /// The pairs of a row.
 pub fn pairs_of(rt: &impl Abort, alloc: Global, row: &[u8; BYTES], sites: u32) -> Pairs
     requires { sites ≤ 6 }
-    ensures { result.sites ≡ sites }
+    ensures sites { result.sites ≡ sites }
+    ensures weighted { result.numbered ≡ false }
 {
     let mut pairs = Pairs::new(alloc, sites);
     for place in 0..digit(row, 2).min(7) as usize {
         let at = 61 + 3 * place;
         let weight = i64::from(number(row, at + 2, WEIGHT));
+        hold(rt, !pairs.are_numbered());
         take_ok(rt, pairs.add(digit(row, at), digit(row, at + 1), weight));
     }
-    hold(rt, pairs.sites() == sites);
+    hold(rt, pairs.sites() == sites && !pairs.are_numbered());
     pairs
 }
 
@@ -300,9 +302,9 @@ pub fn is_right<H: Sharing>(
     hold(rt, 1 <= labels && labels <= 4);
     let pairs = pairs_of(rt, alloc, row, sites);
     let mut labelling = start_of(rt, alloc, row, sites, labels);
-    let problem = Problem {
+    let problem = Problem::new(
         pairs,
-        data_cost: DataCost::new(
+        DataCost::new(
             |site: u32, label: u32| -> i64
                 requires { (site < 6) × (label < 4) }
                 ensures { (pos 0 ≤ℤ result) × (result ≤ℤ pos 10000000) }
@@ -310,15 +312,14 @@ pub fn is_right<H: Sharing>(
             sites,
             labels,
         ),
-        smooth_cost: SmoothCost::new(
+        SmoothCost::new(
             |first: u32, second: u32| -> i64
                 requires { (first < 4) × (second < 4) }
                 ensures { (pos 0 ≤ℤ result) × (result ≤ℤ pos 10000) }
             { i64::from(number(row, 33 + (first * 4 + second) as usize, SMOOTH)) },
             labels,
         ),
-        label_costs: None,
-    };
+    );
     is_answered(&problem, alloc, &mut labelling, row, 0, chain, how)
 }
 

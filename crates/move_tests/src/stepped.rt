@@ -125,9 +125,9 @@ fn is_right<H: Sharing>(
     hold(rt, 1 <= labels && labels <= 4);
     let pairs = pairs_of(rt, alloc, row, sites);
     let mut labelling = start_of(rt, alloc, row, sites, labels);
-    let problem = Problem {
+    let problem = Problem::new(
         pairs,
-        data_cost: DataCost::new(
+        DataCost::new(
             |site: u32, label: u32| -> i64
                 requires { (site < 6) × (label < 4) }
                 ensures { (pos 0 ≤ℤ result) × (result ≤ℤ pos 10000000) }
@@ -135,15 +135,14 @@ fn is_right<H: Sharing>(
             sites,
             labels,
         ),
-        smooth_cost: SmoothCost::new(
+        SmoothCost::new(
             |first: u32, second: u32| -> i64
                 requires { (first < 4) × (second < 4) }
                 ensures { (pos 0 ≤ℤ result) × (result ≤ℤ pos 10000) }
             { i64::from(number(row, 33 + (first * 4 + second) as usize, SMOOTH)) },
             labels,
         ),
-        label_costs: None,
-    };
+    );
     is_stepped(&problem, alloc, &mut labelling, row, steps, how)
 }
 

@@ -7,7 +7,8 @@ use Rattle.cost_store.specs.Promises.{IsCost, IsMetricTable, IsTable, cost_in, e
 use Rattle.cost_store.proofs.Metrics.{table_of_metric}
 use Rattle.label_field.specs.LabelFields.{LabelField}
 use Rattle.label_energies.specs.declared.change.Move.{Move}
-use Rattle.label_energies.specs.Energies.{Instance, IsInstance, IsMetric}
+use Rattle.label_energies.specs.Energies.{Instance, IsInstance, IsMetric, HasMetric, IsWeighted}
+use Rattle.label_energies.proofs.Metric.{one_table}
 use Rattle.moves.specs.Instances.{data_entry}
 use Rattle.run_steps.specs.Problems.{IsRunOfCycles, TellsPairNotRegular}
 use Rattle.one_move.specs.declared.error.MoveError.{MoveError}
@@ -59,17 +60,19 @@ metric_kept k table metric cost entries =
 
 -- where a closure answers the table's entries, and its costs are a metric, the table is one
 pub table_metric : (m : Instance) (k l : ℕ) (table : List ℤ) → 0 < k → length table ≡ k * k → m.labels ≡ l → l ≡ k
-    → ((a b : ℕ) (z : ℤ) → a < l → b < l → z ≡ entry_at k table a b → z ≡ pos (m.smooth_cost a b)) → IsMetric m.labels m.smooth_cost → IsMetricTable k table
-table_metric m k l table some size labels same entries metric =
-    let M : ℕ → Type 0 = λ n. IsMetric n m.smooth_cost in
-    table_of_metric k m.smooth_cost table some
+    → (cost : ℕ → ℕ → ℕ) → IsWeighted cost m
+    → ((a b : ℕ) (z : ℤ) → a < l → b < l → z ≡ entry_at k table a b → z ≡ pos (cost a b)) → HasMetric m → IsMetricTable k table
+table_metric m k l table some size labels same cost weighted entries has =
+    let M : ℕ → Type 0 = λ n. IsMetric n cost in
+    let T : (ℕ → ℕ → ℕ) → Type 0 = λ t. IsMetric m.labels t in
+    table_of_metric k cost table some
     (record { size = size; each = λ a b la lb. entries a b (entry_at k table a b) (below_along a k l la (sym same)) (below_along b k l lb (sym same)) refl })
-    (subst M (labels ∙ same) metric)
+    (subst M (labels ∙ same) (subst T (one_table m has.table cost has.weighted weighted) has.metric))
 
 -- over a metric no run is refused for a pair whose term is not regular
 pub metric_run : (m : Instance) (moves : List Move) (allowed : ℕ) (f : List ℕ) (field : LabelField) (e : MoveError)
     → All (λ label. label < field.labels) field.at → IsInstance m → length field.at ≡ m.sites → field.labels ≡ m.labels
-    → IsMetric m.labels m.smooth_cost → IsRunOfCycles m moves allowed f field.at (Err e) → ¬ TellsPairNotRegular e
+    → HasMetric m → IsRunOfCycles m moves allowed f field.at (Err e) → ¬ TellsPairNotRegular e
 metric_run m moves allowed f field e below pairs sites labels metric (inl run) =
     metric_refusal m run.0 field e below pairs sites labels metric run.2
 metric_run m moves allowed f field e below pairs sites labels metric (inr never) = (let P : MoveError → Type 0 = λ told. ¬ TellsPairNotRegular told in subst P (sym never.1) (λ told. told))

@@ -4,7 +4,7 @@ use Rattle.label_field.specs.LabelFields.{LabelField}
 use Rattle.label_energies.specs.declared.change.Move.{Move}
 use Rattle.label_energies.specs.declared.cycles.Moves.{Moves}
 use Rattle.label_energies.specs.declared.cycles.Moves.TheVariants.{Swap as Swaps}
-use Rattle.label_energies.specs.Energies.{Instance, IsInstance, IsLabelled, IsMetric, AreLabelsFree, labelling}
+use Rattle.label_energies.specs.Energies.{Instance, IsInstance, IsLabelled, HasMetric, AreLabelsFree, labelling}
 use Rattle.label_energies.specs.Moves.{IsMoveOf, IsSwap}
 use Rattle.label_energies.specs.Chains.{IsChain, expansions}
 use Rattle.label_energies.proofs.Chains.{settled_is_local}
@@ -24,7 +24,7 @@ use Rattle.moves.proofs.Entries.{metric_run}
 
 -- a move between the labels of a metric is refused for memory or a cut alone
 move_refused : (refuses : SolveError → Type 0) (labels : ℕ) (m : Instance) (move : Move) (f : LabelField) (e : MoveError)
-    → All (λ label. label < f.labels) f.at → IsInstance m → length f.at ≡ m.sites → f.labels ≡ m.labels → IsMetric m.labels m.smooth_cost
+    → All (λ label. label < f.labels) f.at → IsInstance m → length f.at ≡ m.sites → f.labels ≡ m.labels → HasMetric m
     → IsMoveOf m.labels move → (IsSwap move → AreLabelsFree m) → IsCauseOfRefusal m move f.at e → IsMoveRefusal refuses labels move e → IsMemoryOrCut refuses e
 move_refused refuses labels m move f NoSuchLabel below pairs sites count metric inside free is may = absurd (is inside)
 move_refused refuses labels m move f LabelCostInSwap below pairs sites count metric inside free is may = absurd (is.2 (free is.1))
@@ -45,7 +45,7 @@ moved_over_metric refuses labels m move f g (Err e) below pairs sites count insi
 
 -- and so is a run of moves that may be made
 run_refused : (refuses : SolveError → Type 0) (m : Instance) (moves : List Move) (allowed : ℕ) (f : List ℕ) (g : LabelField) (e : MoveError)
-    → All (λ label. label < g.labels) g.at → IsInstance m → length g.at ≡ m.sites → g.labels ≡ m.labels → IsMetric m.labels m.smooth_cost
+    → All (λ label. label < g.labels) g.at → IsInstance m → length g.at ≡ m.sites → g.labels ≡ m.labels → HasMetric m
     → (e ≡ LabelCostInSwap → AreLabelsFree m) → IsRunOfCycles m moves allowed f g.at (Err e) → IsRunRefusal refuses e → IsMemoryOrCut refuses e
 run_refused refuses m moves allowed f g NoSuchLabel below pairs sites count metric free run may = absurd may
 run_refused refuses m moves allowed f g LabelCostInSwap below pairs sites count metric free (inl next) may = absurd (next.2.2 (free refl))
@@ -76,5 +76,5 @@ settled_within m allowed f g (Err e) below pairs sites count run = tt
 settled_within m allowed f g (Ok ended) below pairs sites count run = λ settled bound known h lh.
     let S : Bool → Type 0 = λ b. IsChain m (expansions m.labels) allowed f g.at ended.cycles b in
     let labelled : IsLabelled m (labelling g.at) = λ p l. (let one = below p 0 (omega (arith, l, sites)) in omega (arith, one, count)) in
-    expansion_bound m (labelling g.at) h bound.vmin bound.vmax pairs known.metric known.ratio known.free labelled lh
+    expansion_bound m known.metric.table (labelling g.at) h bound.vmin bound.vmax pairs known.metric.weighted known.metric.metric known.ratio known.free labelled lh
     (settled_is_local m allowed f g.at ended.cycles (subst S settled run))

@@ -6,7 +6,8 @@ use Rattle.cost_store.specs.Promises.{IsCost, IsTable}
 use Rattle.cost_store.specs.LabelCosts.{cost_at, AreFree, AreLabelCosts, HasCosts, costs_of}
 use Rattle.label_field.specs.LabelFields.{LabelField}
 use Rattle.label_energies.specs.Chains.{IsChain, moves_of}
-use Rattle.label_energies.specs.Energies.{Instance, IsInstance, AreLabelsFree, IsRatio, labelling}
+use Rattle.label_energies.specs.Energies.{Instance, IsInstance, AreLabelsFree, IsRatio, HasRatio, IsWeighted, labelling}
+use Rattle.label_energies.proofs.Metric.{one_table}
 use Rattle.label_energies.specs.declared.change.Move.{Move}
 use Rattle.label_energies.proofs.Chains.{settled_is_local}
 use Rattle.label_energies.proofs.Ratio.{expansion_bound}
@@ -39,8 +40,8 @@ is_near : (m : Instance) (start : List ℕ) (cycles : ℕ) (field : LabelField) 
     → IsInstance m → All (λ label. label < field.labels) field.at → length field.at ≡ m.sites → field.labels ≡ m.labels
     → IsBoundOf m bound → IsChain m (moves_of Expansion m.labels) cycles start field.at ended.cycles true → IsNearLeast m field.at bound
 is_near m start cycles field ended bound pairs below sites labels of chain = record {
-  ratio = of.ratio;
-  near = λ h lh. expansion_bound m (labelling field.at) h bound.vmin bound.vmax pairs of.metric of.ratio of.free
+  ratio = record { table = of.metric.table; weighted = of.metric.weighted; ratio = of.ratio };
+  near = λ h lh. expansion_bound m of.metric.table (labelling field.at) h bound.vmin bound.vmax pairs of.metric.weighted of.metric.metric of.ratio of.free
       (λ p l. (let here = below p 0 (omega (arith, l, sites)) in omega (arith, here, labels))) lh
       (settled_is_local m cycles start field.at ended.cycles chain);
 }
@@ -61,35 +62,38 @@ tells_bound m moves start cycles field ended (Some b) pairs below sites labels r
       is_near m start cycles field ended b pairs below sites labels known.2 (subst C known.1 (subst K known.0 run)),
     )
 
-greatest_small : (m : Instance) (most : ℤ) (k least greatest : ℕ) (table : List ℤ) → m.labels ≡ k → All (IsCost most) table → IsTable k k m.smooth_cost table
-    → pos 1 ≤ℤ most → IsRatio m.labels m.smooth_cost least greatest → pos greatest ≤ℤ most
-greatest_small m most k least greatest table labels costs is some ratio = elim (cases_lt 1 m.labels) [
-  | inl more ↦
-      (
-      let met = ratio.greatest_met more in
-      let P : ℤ → Type 0 = λ z. z ≤ℤ most in
-      let la : met.0 < k = omega (arith, met.2, labels) in
-      let lb : met.1 < k = omega (arith, met.3, labels) in
-      let entry = costs (met.0 * k + met.1) (pos 0) (place_in met.0 met.1 k k (length table) la lb is.size) in
-      subst P (is.each met.0 met.1 la lb ∙ ap pos met.5) entry.1
-      )
-  | inr one ↦ (let P : ℕ → Type 0 = λ n. pos n ≤ℤ most in subst P (sym (ratio.alone one).1) some)
-]
+greatest_small : (m : Instance) (most : ℤ) (k least greatest : ℕ) (table : List ℤ) (cost : ℕ → ℕ → ℕ) → IsWeighted cost m → m.labels ≡ k → All (IsCost most) table
+    → IsTable k k cost table → pos 1 ≤ℤ most → HasRatio m least greatest → pos greatest ≤ℤ most
+greatest_small m most k least greatest table cost weighted labels costs is some has =
+    let R : (ℕ → ℕ → ℕ) → Type 0 = λ t. IsRatio m.labels t least greatest in
+    let ratio = subst R (one_table m has.table cost has.weighted weighted) has.ratio in
+    elim (cases_lt 1 m.labels) [
+      | inl more ↦
+          (
+          let met = ratio.greatest_met more in
+          let P : ℤ → Type 0 = λ z. z ≤ℤ most in
+          let la : met.0 < k = omega (arith, met.2, labels) in
+          let lb : met.1 < k = omega (arith, met.3, labels) in
+          let entry = costs (met.0 * k + met.1) (pos 0) (place_in met.0 met.1 k k (length table) la lb is.size) in
+          subst P (is.each met.0 met.1 la lb ∙ ap pos met.5) entry.1
+          )
+      | inr one ↦ (let P : ℕ → Type 0 = λ n. pos n ≤ℤ most in subst P (sym (ratio.alone one).1) some)
+    ]
 
-told_small : (m : Instance) (most : ℤ) (k : ℕ) (table : List ℤ) (moves : Moves) (labels : List ℕ) (settled : Bool) (bound : Option Bound) → m.labels ≡ k
-    → All (IsCost most) table → IsTable k k m.smooth_cost table → pos 1 ≤ℤ most → TellsBound m moves labels settled bound
+told_small : (m : Instance) (most : ℤ) (k : ℕ) (table : List ℤ) (moves : Moves) (labels : List ℕ) (settled : Bool) (bound : Option Bound)
+    (cost : ℕ → ℕ → ℕ) → IsWeighted cost m → m.labels ≡ k → All (IsCost most) table → IsTable k k cost table → pos 1 ≤ℤ most → TellsBound m moves labels settled bound
     → IfSome bound (λ (b : Bound). pos b.vmax ≤ℤ most)
-told_small m most k table moves labels settled None same costs is some tells = tt
-told_small m most k table moves labels settled (Some b) same costs is some tells =
-    greatest_small m most k b.vmin b.vmax table same costs is some tells.1.ratio
+told_small m most k table moves labels settled None cost weighted same costs is some tells = tt
+told_small m most k table moves labels settled (Some b) cost weighted same costs is some tells =
+    greatest_small m most k b.vmin b.vmax table cost weighted same costs is some tells.1.ratio
 
 -- the numbers of a bound are costs of the table, or 1
 pub bound_small : (m : Instance) (most : ℤ) (k : ℕ) (table : List ℤ) (moves : Moves) (cycles : ℕ) (start : List ℕ) (r : Result Run MoveError) → m.labels ≡ k
-    → All (IsCost most) table → IsTable k k m.smooth_cost table → pos 1 ≤ℤ most → AnswersRun m moves cycles start r
+    → All (IsCost most) table → (cost : ℕ → ℕ → ℕ) → IsWeighted cost m → IsTable k k cost table → pos 1 ≤ℤ most → AnswersRun m moves cycles start r
     → IfOk r (λ (run : Run). IfSome run.bound (λ (b : Bound). pos b.vmax ≤ℤ most))
-bound_small m most k table moves cycles start (Err e) same costs is some answers = tt
-bound_small m most k table moves cycles start (Ok run) same costs is some answers =
-    told_small m most k table moves run.labelling.at run.ended.settled run.bound same costs is some answers.4
+bound_small m most k table moves cycles start (Err e) same costs cost weighted is some answers = tt
+bound_small m most k table moves cycles start (Ok run) same costs cost weighted is some answers =
+    told_small m most k table moves run.labelling.at run.ended.settled run.bound cost weighted same costs is some answers.4
 
 of_label : (m : Instance) (next : Move) (g : List ℕ) (e : MoveError) → e ≡ LabelCostInSwap → IsCauseOfRefusal m next g e → ¬ AreLabelsFree m
 of_label m next g e is refusal =

@@ -1,14 +1,14 @@
 -- What is known of a problem that has a bound.
 use Rattle.std.specs.Prelude.{ℕ, List}
-use Rattle.label_energies.specs.Energies.{Instance, IsMetric, IsRatio, AreLabelsFree}
+use Rattle.label_energies.specs.Energies.{Instance, HasMetric, IsRatio, AreLabelsFree}
 use Rattle.label_energies.specs.Laws.{IsWithinTwice}
 use Rattle.moves.specs.declared.bound.Bound.{Bound}
 
 -- the smooth costs are a metric, these are the least and the greatest of two unequal labels, and no
 -- label costs anything by itself
 pub record IsBoundOf (m : Instance) (bound : Bound) : Type 0 where
-  pub metric : IsMetric m.labels m.smooth_cost
-  pub ratio : IsRatio m.labels m.smooth_cost bound.vmin bound.vmax
+  pub metric : HasMetric m
+  pub ratio : IsRatio m.labels metric.table bound.vmin bound.vmax
   pub free : AreLabelsFree m
 
 -- labels that are within each bound of the problem: `vmin` times their energy is at most twice

@@ -1,8 +1,8 @@
 -- What is true of every move and every run over a metric, and of every refusal of one thread.
 use Rattle.std.specs.Prelude.{◌≡◌, ◌*◌, ℕ, List, pos, ◌≤ℤ◌, IsTrue, Ok, Err}
 use Rattle.label_energies.specs.declared.change.Move.{Move}
-use Rattle.label_energies.specs.Energies.{Instance, IsInstance, IsMetric, IsLabelled, AreLabelsFree}
-use Rattle.label_energies.specs.Energies.{labelling, energy}
+use Rattle.label_energies.specs.Energies.{Instance, IsInstance, HasMetric, IsLabelled}
+use Rattle.label_energies.specs.Energies.{labelling, energy, AreLabelsFree, IsWeighted}
 use Rattle.label_energies.specs.Chains.{expansions}
 use Rattle.label_energies.specs.Laws.{IsWithinTwice}
 use Rattle.label_field.specs.LabelFields.{LabelField}
@@ -30,7 +30,7 @@ SettledRunIsNear =
 -- twice the energy of any labelling
 abbrev pub PottsRunIsNear : Type 0
 PottsRunIsNear =
-    (m : Instance) (g : List ℕ) (h : ℕ → ℕ) → m.smooth_cost ≡ potts → AreLabelsFree m
+    (m : Instance) (g : List ℕ) (h : ℕ → ℕ) → IsWeighted potts m → AreLabelsFree m
     → IsWithinBound m g
     → IsLabelled m h → pos (energy m (labelling g)) ≤ℤ pos (2 * energy m h)
 
@@ -43,7 +43,7 @@ AloneRefusesMemory = (e : MoveError) → IsMemoryOrCut (λ failed. failed ≡ No
 abbrev pub MetricMoveHasRegularPairs : Type 0
 MetricMoveHasRegularPairs =
     (m : Instance) (move : Move) (f : LabelField) (g : List ℕ) (e : MoveError) → IsInstance m
-    → IsMetric m.labels m.smooth_cost → IsLabelledBy m f → IsMoved m move f.at g (Err e)
+    → HasMetric m → IsLabelledBy m f → IsMoved m move f.at g (Err e)
     → ¬ TellsPairNotRegular e
 
 -- nor is a run
@@ -51,6 +51,6 @@ abbrev pub MetricRunHasRegularPairs : Type 0
 MetricRunHasRegularPairs =
     (m : Instance) (moves : List Move) (allowed : ℕ) (f : List ℕ) (g : LabelField)
     (e : MoveError) → IsInstance m
-    → IsMetric m.labels m.smooth_cost → IsLabelledBy m g
+    → HasMetric m → IsLabelledBy m g
     → IsRunOfCycles m moves allowed f g.at (Err e)
     → ¬ TellsPairNotRegular e

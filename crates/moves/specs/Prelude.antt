@@ -4,7 +4,7 @@ pub use Rattle.cost_store.specs.Limits.{data_limit, site_cost_limit, smooth_limi
 pub use Rattle.cost_store.specs.Posed.{IsPosed, WhereMeant, AreOfOneSize, FitsProblem}
 pub use Rattle.cost_store.specs.Promises.{Keeps, IsCost, IsMetricTable, entry_at}
 pub use Rattle.label_energies.specs.Chains.{expansions, swaps, moves_of}
-pub use Rattle.label_energies.specs.Energies.{labelling, AreLabelsFree, Instance, IsMetric}
+pub use Rattle.label_energies.specs.Energies.{labelling, AreLabelsFree, Instance, HasMetric}
 pub use Rattle.label_energies.specs.declared.change.Move.TheVariants.{Expand, Swap}
 pub use Rattle.label_energies.specs.declared.cycles.Moves.TheVariants.{Expansion}
 pub use Rattle.run_steps.specs.Bookmarks.{IsPastEnd, WasLeftAt}

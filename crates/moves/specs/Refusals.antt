@@ -1,6 +1,6 @@
 -- What may be refused over a metric.
 use Rattle.std.specs.Prelude.{◌≡◌, ◌⊎◌}
-use Rattle.label_energies.specs.Energies.{Instance, IsMetric}
+use Rattle.label_energies.specs.Energies.{Instance, HasMetric}
 use Rattle.cut_ways.specs.declared.solve_error.SolveError.{SolveError}
 use Rattle.one_move.specs.Refusals.{cut_told}
 use Rattle.one_move.specs.declared.error.MoveError.{MoveError}
@@ -13,4 +13,4 @@ IsMemoryOrCut refuses e =
 
 -- what may be refused of a problem: where its smooth costs are a metric, memory or a cut alone
 abbrev pub IsRefusalOver : Instance → (SolveError → Type 0) → MoveError → Type 0
-IsRefusalOver m refuses e = IsMetric m.labels m.smooth_cost → IsMemoryOrCut refuses e
+IsRefusalOver m refuses e = HasMetric m → IsMemoryOrCut refuses e

@@ -6,7 +6,7 @@ use Rattle.cost_store.specs.Limits.{data_energy_limit, smooth_energy_limit, labe
 use Rattle.label_energies.specs.declared.cycles.Moves.{Moves}
 use Rattle.label_energies.specs.declared.cycles.Moves.TheVariants.{Expansion, Swap}
 use Rattle.label_energies.specs.Chains.{moves_of}
-use Rattle.label_energies.specs.Energies.{Instance, AreLabelsFree, IsLabelled, IsMetric, IsRatio}
+use Rattle.label_energies.specs.Energies.{Instance, AreLabelsFree, IsLabelled, HasMetric, HasRatio}
 use Rattle.label_energies.specs.Energies.{labelling, energy, data_energy, smooth_energy}
 use Rattle.label_energies.specs.Energies.{label_energy}
 use Rattle.run_steps.specs.Problems.{IsRunOfCycles}
@@ -25,14 +25,14 @@ MayMake m Swap = AreLabelsFree m
 pub record HasBound (m : Instance) (moves : Moves) (settled : Bool) : Type 0 where
   pub expansion : moves ≡ Expansion
   pub is_settled : IsTrue settled
-  pub metric : IsMetric m.labels m.smooth_cost
+  pub metric : HasMetric m
   pub free : AreLabelsFree m
 
 -- these are the least and the greatest smooth cost of two unequal labels, and by them the labels
 -- are near the least energy: the one times theirs is at most twice the other times that of any
 -- labelling
 pub record IsNearLeast (m : Instance) (labels : List ℕ) (bound : Bound) : Type 0 where
-  pub ratio : IsRatio m.labels m.smooth_cost bound.vmin bound.vmax
+  pub ratio : HasRatio m bound.vmin bound.vmax
   pub near : (h : ℕ → ℕ) → IsLabelled m h
       → bound.vmin * energy m (labelling labels) ≤ (2 * bound.vmax) * energy m h
 

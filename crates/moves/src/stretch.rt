@@ -1,7 +1,7 @@
 //! Stretches of a run over tables of costs: at most so many of its moves, from where it was left.
 ghost use Rattle.std.specs.Prelude.{◌≡◌, ◌+◌, ◌*◌, ◌<◌, ◌≤◌, ℕ, List, IsTrue, IfErr, IfOk, IfSome};
-ghost use Rattle.std.specs.Prelude.{length, All, pos, None, Some, Ok};
-ghost use Rattle.moves.specs.Prelude.{Instance, IsMetric, data_limit, labelling as labelling_of};
+ghost use Rattle.std.specs.Prelude.{length, All, pos, None, Some, Ok, false};
+ghost use Rattle.moves.specs.Prelude.{Instance, HasMetric, data_limit, labelling as labelling_of};
 ghost use Rattle.moves.specs.Prelude.{HasCosts, IsPosed, WhereMeant, FitsProblem, Keeps, entry_at};
 ghost use Rattle.moves.specs.Prelude.{IsInstanceOf, ArePrices, IsRunRefusal, WasLeftAt, IsPastEnd};
 ghost use Rattle.moves.specs.Prelude.{AnswersStretch, moves_of};
@@ -54,6 +54,7 @@ pub fn stretch_with_table<F: Fn(u32, u32) -> i64 + Sync, H: Sharing>(
     how: &H,
 ) -> Result<Option<Stretch>, MoveError>
     requires ready { H.ready how.now }
+    requires weighted { pairs.numbered ≡ false }
     requires sites { (length request.start.at ≡ pairs.sites) × (data_cost.sites ≡ pairs.sites) }
     requires labels { data_cost.labels ≡ request.start.labels }
     requires costs { Keeps (F.pre data_cost.f) (F.post data_cost.f) data_cost.sites data_cost.labels
@@ -100,7 +101,7 @@ fn stretch_problem<F: Fn(u32, u32) -> i64 + Sync, V: Fn(u32, u32) -> i64 + Sync,
     requires posed { IsPosed F.Fn V.Fn problem.now }
     requires fits { FitsProblem problem.now request.start }
     requires known { WhereMeant F.Fn V.Fn problem.now
-        (λ m. IsMetric m.labels m.smooth_cost → IsTrue problem.now.smooth_cost.by_metric) }
+        (λ m. HasMetric m → IsTrue problem.now.smooth_cost.by_metric) }
     ensures run { WhereMeant F.Fn V.Fn problem.now (λ m. (start : List ℕ) →
         WasLeftAt m request.moves start request.start.at bookmark.mark bookmark.stamps.items
         bookmark.made.items →

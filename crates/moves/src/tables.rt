@@ -1,7 +1,7 @@
 //! Runs of moves over tables of costs.
 ghost use Rattle.std.specs.Prelude.{◌≡◌, ◌+◌, ◌*◌, ◌<◌, ◌≤◌, pos, ◌≤ℤ◌, All, IsTrue, IsNone, IfErr};
-ghost use Rattle.std.specs.Prelude.{IfOk, IfSome, Ok, length, slice_index, ℕ, List};
-ghost use Rattle.moves.specs.Prelude.{Expansion, Instance, IsMetric, data_limit, site_cost_limit};
+ghost use Rattle.std.specs.Prelude.{IfOk, IfSome, Ok, length, slice_index, ℕ, List, false};
+ghost use Rattle.moves.specs.Prelude.{Expansion, Instance, HasMetric, data_limit, site_cost_limit};
 ghost use Rattle.moves.specs.Prelude.{smooth_limit, costs_of, AreFree, AreLabelCosts, HasCosts};
 ghost use Rattle.moves.specs.Prelude.{IsPosed, WhereMeant, FitsProblem, IsCost, IsMetricTable};
 ghost use Rattle.moves.specs.Prelude.{Keeps, entry_at, IsBoundOf, IsInstanceOf, data_entry};
@@ -72,6 +72,7 @@ pub fn run_with_table<F: Fn(u32, u32) -> i64 + Sync, H: Sharing>(
     how: &H,
 ) -> Result<Run, MoveError>
     requires ready { H.ready how.now }
+    requires weighted { pairs.numbered ≡ false }
     requires sites { (length request.start.at ≡ pairs.sites) × (data_cost.sites ≡ pairs.sites) }
     requires labels { data_cost.labels ≡ request.start.labels }
     requires costs { Keeps (F.pre data_cost.f) (F.post data_cost.f) data_cost.sites data_cost.labels
@@ -126,6 +127,7 @@ pub fn run_tables<H: Sharing>(
     how: &H,
 ) -> Result<Run, MoveError>
     requires ready { H.ready how.now }
+    requires weighted { pairs.numbered ≡ false }
     requires sites { length request.start.at ≡ pairs.sites }
     requires data { (length data.now ≡ pairs.sites * request.start.labels)
         × All (λ cost. cost ≤ site_cost_limit) data.now }
@@ -173,7 +175,7 @@ fn run_problem<F: Fn(u32, u32) -> i64 + Sync, V: Fn(u32, u32) -> i64 + Sync, H: 
     requires posed { IsPosed F.Fn V.Fn problem.now }
     requires fits { FitsProblem problem.now request.start }
     requires known { WhereMeant F.Fn V.Fn problem.now
-        (λ m. IsMetric m.labels m.smooth_cost → IsTrue problem.now.smooth_cost.by_metric) }
+        (λ m. HasMetric m → IsTrue problem.now.smooth_cost.by_metric) }
     ensures run { WhereMeant F.Fn V.Fn problem.now
         (λ m. AnswersRun m request.moves request.cycles request.start.at result) }
     ensures refused { IfErr result (IsRunRefusal (H.refuses how.now)) }
@@ -207,7 +209,7 @@ pub(crate) fn end_run<F: Fn(u32, u32) -> i64 + Sync, V: Fn(u32, u32) -> i64 + Sy
     requires posed { IsPosed F.Fn V.Fn problem.now }
     requires fits { FitsProblem problem.now labelling }
     requires known { WhereMeant F.Fn V.Fn problem.now
-        (λ m. IsMetric m.labels m.smooth_cost → IsTrue problem.now.smooth_cost.by_metric) }
+        (λ m. HasMetric m → IsTrue problem.now.smooth_cost.by_metric) }
     ensures run { WhereMeant F.Fn V.Fn problem.now (λ m. (cycles : ℕ) (start : List ℕ) →
         IsRunOfCycles m (moves_of moves m.labels) cycles start labelling.at (Ok ended) →
         MayMake m moves → AnswersRun m moves cycles start (Ok result)) }

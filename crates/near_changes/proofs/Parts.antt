@@ -41,7 +41,7 @@ site_even m f g h k p (inr e) = keep_sum _ _ _ _ (ap (m.data_cost p) e.0) (ap (m
 same_cost : (m : Instance) (f g : ℕ → ℕ) (pair : Pair) → f pair.first ≡ g pair.first → f pair.second ≡ g pair.second
     → pair_cost m f pair ≡ pair_cost m g pair
 same_cost m f g pair h k =
-    ap (λ l. pair.weight * m.smooth_cost l (f pair.second)) h ∙ ap (λ l. pair.weight * m.smooth_cost (g pair.first) l) k
+    ap (λ l. m.smooth_cost pair.weight l (f pair.second)) h ∙ ap (λ l. m.smooth_cost pair.weight (g pair.first) l) k
 
 pair_even : (m : Instance) (f g h k : ℕ → ℕ) (pair : Pair) → Paired f g h k pair.first pair.second
     → pair_cost m f pair + pair_cost m k pair ≡ pair_cost m g pair + pair_cost m h pair

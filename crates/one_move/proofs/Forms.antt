@@ -35,24 +35,24 @@ use Rattle.one_move.proofs.Changes.{near_rest}
 use Rattle.one_move.proofs.OfProblem.{still_of_problem}
 
 -- what holds of the form holds of the move that the problem means, from its labels
-pub read_meant : {F V : Type 0} (f : Closure F) (v : Closure V) (problem : Problem F V) (at : List ℕ) (move : Move) (lists : FormLists) (form : SiteForm)
-    (P : Instance → List ℕ → Type 0) → WhereMeant f v problem (λ m. IsAllowed m move (labelling at)) → WhereMeant f v problem (λ m. IsReadOf m move at lists)
+pub read_meant : {F V : Type 0} (f : Closure F) (v : Closure V) (problem : Problem F V) (ends : Neighbours) (at : List ℕ) (move : Move) (lists : FormLists) (form : SiteForm)
+    (P : Instance → List ℕ → Type 0) → WhereMeant f v problem (λ m. IsAllowed m move (labelling at)) → WhereMeant f v problem (λ m. IsReadOf m move ends at lists)
     → form.at.now ≡ at → ((m : Instance) (other : Move) → m.sites ≡ problem.pairs.sites → m.pairs ≡ problem.pairs.list → IsAllowed m other (labelling at)
-    → IsReadOf m other at lists → IsFormOf m other form)
+    → IsReadOf m other ends at lists → IsFormOf m other form)
     → ((m : Instance) → IsMeant f v problem m → IsFormOf m move form → P m form.at.now) → WhereMeant f v problem (λ m. P m at)
-read_meant {F} {V} f v problem at move lists form P allowed read from forms told m meant =
+read_meant {F} {V} f v problem ends at move lists form P allowed read from forms told m meant =
     subst (P m) from (told m meant (forms m move meant.sites_are meant.pairs_are (allowed m meant) (read m meant)))
 
 -- the numbers stay where nothing is decided since
 pub still_numbers : {F V : Type 0} (f : Closure F) (v : Closure V) (problem : Problem F V) (at : List ℕ) (move : Move) (old new : Workspace) → KeepsDecided old new
     → HasNumbersOf f v problem at move old → HasNumbersOf f v problem at move new
 still_numbers {F} {V} f v problem at move old new same numbers =
-    let L : Deciding → Type 0 = λ d. AreFormLists at d.numbers in
+    let L : Deciding → Type 0 = λ d. AreFormLists problem.pairs d.ends at d.numbers in
     record {
       sites = numbers.sites;
       allowed = numbers.allowed;
       lists = subst L (sym same) numbers.lists;
-      read = λ m meant. (let R : Deciding → Type 0 = λ d. IsReadOf m move at d.numbers in subst R (sym same) (numbers.read m meant));
+      read = λ m meant. (let R : Deciding → Type 0 = λ d. IsReadOf m move d.ends at d.numbers in subst R (sym same) (numbers.read m meant));
     }
 
 -- so does the form
@@ -67,13 +67,12 @@ pub form_kept : {F V : Type 0} (f : Closure F) (v : Closure V) (problem : Proble
     → new.deciding.numbers ≡ old.deciding.numbers → IsReadMove f v problem at move old → HasFormOf f v problem at move new
 form_kept {F} {V} f v problem at move old new ends lists read =
     let E : Neighbours → Type 0 = λ e. AreBySite problem.pairs e in
-    let L : FormLists → Type 0 = λ l. AreFormLists at l in
     record {
       numbers = record {
         sites = read.numbers.sites;
         allowed = read.numbers.allowed;
-        lists = subst L (sym lists) read.numbers.lists;
-        read = λ m meant. (let R : FormLists → Type 0 = λ l. IsReadOf m move at l in subst R (sym lists) (read.numbers.read m meant));
+        lists = subst (λ (X : Type 0). X) (λ i. AreFormLists problem.pairs (sym ends i) at (sym lists i)) read.numbers.lists;
+        read = λ m meant. subst (λ (X : Type 0). X) (λ i. IsReadOf m move (sym ends i) at (sym lists i)) (read.numbers.read m meant);
       };
       by_site = subst E (sym ends) read.near.by_site;
     }

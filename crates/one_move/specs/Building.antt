@@ -93,8 +93,9 @@ pub record HasNumbersOf {F V : Type 0} (f : Closure F) (v : Closure V) (problem 
     (at : List ℕ) (move : Move) (space : Workspace) : Type 0 where
   pub sites : length at ≡ problem.pairs.sites
   pub allowed : IsAllowedFrom f v problem at move
-  pub lists : AreFormLists at space.deciding.numbers
-  pub read : WhereMeant f v problem (λ m. IsReadOf m move at space.deciding.numbers)
+  pub lists : AreFormLists problem.pairs space.deciding.ends at space.deciding.numbers
+  pub read : WhereMeant f v problem
+      (λ m. IsReadOf m move space.deciding.ends at space.deciding.numbers)
 
 -- and its pairs are by their sites, so that the form of the move can be lent of it
 pub record HasFormOf {F V : Type 0} (f : Closure F) (v : Closure V) (problem : Problem F V)

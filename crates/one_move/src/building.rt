@@ -282,7 +282,10 @@ fn build_whole<F: Fn(u32, u32) -> i64 + Sync, V: Fn(u32, u32) -> i64 + Sync>(
     ensures { IsPlainBuilding F.Fn V.Fn problem.now at.now change space.new result }
 {
     space.group(alloc, problem)?;
-    space.deciding.numbers.read(problem, at, change)?;
+    space
+        .deciding
+        .numbers
+        .read(problem, &space.deciding.ends, at, change)?;
     space.deciding.lists.listed = false;
     space.built.prepare(alloc, problem, at, change)?;
     Ok(Left::Form)

@@ -448,5 +448,5 @@ pub border_by_site : (m : Instance) (move : Move) (f : ℕ → ℕ) (choice : �
 border_by_site m move f choice set p ends pairs grouped l =
     let all = sum_is (pair_border m move f choice set p) m.pairs in
     let own = below_is_sum (degree ends p) (λ k. pair_border m move f choice set p (pair_of ends p k)) in
-    let same = site_sum (record { sites = m.sites; list = m.pairs }) ends p (λ pair. pos (pair_border m move f choice set p pair)) pairs grouped l (no_pair m move f choice set p) in
+    let same = site_sum (record { sites = m.sites; list = m.pairs; numbered = false }) ends p (λ pair. pos (pair_border m move f choice set p pair)) pairs grouped l (no_pair m move f choice set p) in
     omega (arith, ints, all, own, same)

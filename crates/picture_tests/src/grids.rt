@@ -27,9 +27,9 @@ type Came = (bool, Ended, Vec<u8>);
 fn expand_and_run<H: Sharing>(alloc: Global, how: &H) -> Result<Came, MoveError>
     requires { H.ready how.now }
 {
-    let problem = Problem {
-        pairs: Pairs::grid4(alloc, 3, 3, 1)?,
-        data_cost: DataCost::new(
+    let problem = Problem::new(
+        Pairs::grid4(alloc, 3, 3, 1)?,
+        DataCost::new(
             |site: u32, label: u32| -> i64
                 requires { site * 3 + label < 27 }
                 ensures { (pos 0 ≤ℤ result) × (result ≤ℤ pos 255) }
@@ -37,15 +37,14 @@ fn expand_and_run<H: Sharing>(alloc: Global, how: &H) -> Result<Came, MoveError>
             9,
             3,
         ),
-        smooth_cost: SmoothCost::new(
+        SmoothCost::new(
             |first: u32, second: u32| -> i64
                 requires { first * 3 + second < 9 }
                 ensures { (pos 0 ≤ℤ result) × (result ≤ℤ pos 255) }
             { i64::from(POTTS[(first * 3 + second) as usize]) },
             3,
         ),
-        label_costs: None,
-    };
+    );
     let mut labelling = Labelling::new(alloc, 9, 3)?;
     let changed = expand(alloc, &problem, &mut labelling, 1, how)?;
     let ended = run_expansion(alloc, &problem, &mut labelling, 10, how)?;

@@ -100,9 +100,9 @@ fn run_from_zero<H: Sharing>(
 ) -> Result<(Result<Ended, MoveError>, Vec<u8>), MoveError>
     requires { H.ready how.now }
 {
-    let problem = Problem {
-        pairs: Pairs::grid4(alloc, 3, 1, 1)?,
-        data_cost: DataCost::new(
+    let problem = Problem::new(
+        Pairs::grid4(alloc, 3, 1, 1)?,
+        DataCost::new(
             |site: u32, label: u32| -> i64
                 requires { site * 3 + label < 9 }
                 ensures { (pos 0 ≤ℤ result) × (result ≤ℤ pos 255) }
@@ -110,15 +110,14 @@ fn run_from_zero<H: Sharing>(
             3,
             3,
         ),
-        smooth_cost: SmoothCost::new(
+        SmoothCost::new(
             |first: u32, second: u32| -> i64
                 requires { first * 3 + second < 9 }
                 ensures { (pos 0 ≤ℤ result) × (result ≤ℤ pos 255) }
             { i64::from(POTTS[(first * 3 + second) as usize]) },
             3,
         ),
-        label_costs: None,
-    };
+    );
     let mut labelling = Labelling::new(alloc, 3, 3)?;
     let ended = run_expansion(alloc, &problem, &mut labelling, 10, how);
     let labels = Vec::from_slice(alloc, labelling.as_slice())?;

@@ -306,7 +306,7 @@ rest_stated ms sites labels data_costs smooth_costs p sized e =
       labels = labels;
       data_costs = data_costs;
       smooth_costs = smooth_costs;
-      pairs = record { sites = sites; list = list };
+      pairs = record { sites = sites; list = list; numbered = false };
       start = start;
       moves = moves;
       cycles = cycles;

@@ -1,5 +1,5 @@
 -- What each problem that is read keeps.
-use Rattle.std.specs.Prelude.{◌≡◌, ℕ, ◌*◌, ◌≤◌, List, length, All, ℤ}
+use Rattle.std.specs.Prelude.{◌≡◌, ℕ, ◌*◌, ◌≤◌, false, List, length, All, ℤ}
 use Rattle.label_field.specs.LabelFields.{AreSizes}
 use Rattle.run_options.specs.Limits.{IsSmoothCost, cycle_limit, greatest_data_cost}
 use Rattle.problem_files.specs.LabelCostFields.{AreCostsOfLabels}
@@ -21,6 +21,7 @@ pub record IsInLimits (p : Problem) : Type 0 where
   pub smooth_count : length p.smooth_costs ≡ p.labels * p.labels
   pub smooth_most : All IsSmoothCost p.smooth_costs
   pub pair_sites : p.pairs.sites ≡ p.sites
+  pub weighted : p.pairs.numbered ≡ false
   pub start_sites : length p.start.at ≡ p.sites
   pub start_labels : p.start.labels ≡ p.labels
   pub cycles_most : p.cycles ≤ cycle_limit

@@ -1,5 +1,5 @@
 -- The problem that a table names, or its first fault.
-use Rattle.std.specs.Prelude.{ℕ, ◌*◌, ℤ, List, Option, Some, None, Result, Ok, Err}
+use Rattle.std.specs.Prelude.{ℕ, ◌*◌, ℤ, false, List, Option, Some, None, Result, Ok, Err}
 use Rattle.toml.specs.Data.{Members}
 use Rattle.toml.specs.Parse.{parse_document}
 use Rattle.label_field.specs.LabelFields.{LabelField}
@@ -60,7 +60,7 @@ names_rest ms sites labels data_costs smooth_costs =
       labels = labels;
       data_costs = data_costs;
       smooth_costs = smooth_costs;
-      pairs = record { sites = sites; list = list };
+      pairs = record { sites = sites; list = list; numbered = false };
       start = start;
       moves = moves;
       cycles = cycles;

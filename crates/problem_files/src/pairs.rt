@@ -21,6 +21,7 @@ pub(crate) fn pairs_in(alloc: Global, table: &Table, sites: u32) -> Result<Pairs
     ensures ok { IfOk result (λ pairs. pairs_in (table_view table.now) sites ≡ Ok pairs.list) }
     ensures refused { IfErr result (IsFirstFault (pairs_in (table_view table.now) sites)) }
     ensures sites { IfOk result (λ pairs. pairs.sites ≡ sites) }
+    ensures weighted { IfOk result (λ pairs. pairs.numbered ≡ false) }
 {
     let mut pairs = Pairs::new(alloc, sites);
     let Some(value) = value_of(table, LabelKey::Pairs) else {
@@ -40,6 +41,7 @@ pub(crate) fn pairs_in(alloc: Global, table: &Table, sites: u32) -> Result<Pairs
 
 /// Adds the pairs that the items name to a list that has none.
 fn add_items(pairs: &mut Pairs, items: &Vec<Value>) -> Result<(), LabelFault>
+    requires weighted { pairs.old.numbered ≡ false }
     requires sites { pairs.old.sites ≤ site_limit }
     requires empty { pairs.old.list ≡ [] }
     requires room { vec_len items.now ≤ pair_limit }
@@ -48,6 +50,7 @@ fn add_items(pairs: &mut Pairs, items: &Vec<Value>) -> Result<(), LabelFault>
     ensures refused { IfErr result
         (IsFirstFault (pairs_from pairs.old.sites 0 (map view items.now.items))) }
     ensures sites { pairs.new.sites ≡ pairs.old.sites }
+    ensures weighted { pairs.new.numbered ≡ false }
 {
     for (place, item) in items.iter().enumerate() {
         add_item(pairs, place, item)?;
@@ -58,12 +61,14 @@ fn add_items(pairs: &mut Pairs, items: &Vec<Value>) -> Result<(), LabelFault>
 /// Adds the pair that the item at a place of the list names.
 #[tactic(auto, unfolding(crate::specs::PairFields::pair_at))]
 fn add_item(pairs: &mut Pairs, place: usize, item: &Value) -> Result<(), LabelFault>
+    requires weighted { pairs.old.numbered ≡ false }
     requires sites { pairs.old.sites ≤ site_limit }
     requires room { length pairs.old.list < pair_limit }
     ensures ok { OnOk result (Gains pairs.old pairs.new
         (pair_at pairs.old.sites place (view item.now))) }
     ensures refused { IfErr result (IsFirstFault (pair_at pairs.old.sites place (view item.now))) }
     ensures sites { pairs.new.sites ≡ pairs.old.sites }
+    ensures weighted { pairs.new.numbered ≡ false }
 {
     let shape = LabelFault::BadElement(LabelKey::Pairs, place);
     let Some(items) = item.as_array() else {
@@ -87,6 +92,7 @@ fn add(
     second: i64,
     weight: i64,
 ) -> Result<(), LabelFault>
+    requires weighted { pairs.old.numbered ≡ false }
     requires sites { pairs.old.sites ≤ site_limit }
     requires room { length pairs.old.list < pair_limit }
     ensures ok { OnOk result (Gains pairs.old pairs.new
@@ -94,6 +100,7 @@ fn add(
     ensures refused { IfErr result
         (IsFirstFault (pair_with pairs.old.sites place first second weight)) }
     ensures sites { pairs.new.sites ≡ pairs.old.sites }
+    ensures weighted { pairs.new.numbered ≡ false }
 {
     let Some(first) = site_of(first) else {
         return Err(LabelFault::NoSuchSite(place));

@@ -15,6 +15,8 @@ use Rattle.move_energy.specs.Choices.{bit_of, choice_at, open_at, AreOpenSites}
 use Rattle.move_energy.proofs.Listings.{chosen_below, listing_place}
 use Rattle.move_energy.proofs.Opened.{open_true}
 use Rattle.site_forms.specs.declared.lists.FormLists.{FormLists}
+use Rattle.move_energy.specs.declared.by_site.Neighbours.{Neighbours}
+use Rattle.site_forms.proofs.Taking.{pairs_near}
 use Rattle.site_forms.specs.Lists.{with_costs_at, IsReadOf, IsReadNear}
 use Rattle.persistency.specs.Fixing.{with_choices}
 use Rattle.strips.specs.Looking.{IsStageLeast}
@@ -79,16 +81,16 @@ stage_of_asked m move f choices bits asked covers stage =
     }
 
 -- what is read of a move at all sites is so at any
-pub read_everywhere : (m : Instance) (move : Move) (at : List ℕ) (lists : FormLists) → IsReadOf m move at lists → IsReadNear m move at lists []
-read_everywhere m move at lists read = record {
+pub read_everywhere : (m : Instance) (move : Move) (ends : Neighbours) (at : List ℕ) (lists : FormLists) → IsReadOf m move ends at lists → IsReadNear m move ends at lists []
+read_everywhere m move ends at lists read = record {
   asked = λ p. true;
   covers = All-nil _;
-  read = record { sites = read.sites; labels = read.labels; after = read.after; costs = read.costs; own_are = read.own_are };
+  read = record { pairs = pairs_near m (λ p. true) move ends at lists read.pairs; own_are = read.own_are };
 }
 
 -- what is read at some sites is read at none, for what is read next
-pub read_at_none : (m : Instance) (move : Move) (at : List ℕ) (lists : FormLists) (sites : List ℕ) → IsReadNear m move at lists sites → IsReadNear m move at lists []
-read_at_none m move at lists sites near = record { asked = near.asked; covers = All-nil _; read = near.read }
+pub read_at_none : (m : Instance) (move : Move) (ends : Neighbours) (at : List ℕ) (lists : FormLists) (sites : List ℕ) → IsReadNear m move ends at lists sites → IsReadNear m move ends at lists []
+read_at_none m move ends at lists sites near = record { asked = near.asked; covers = All-nil _; read = near.read }
 
 -- where the listed open sites were asked, so was each open one
 pub opened_asked : (asked : ℕ → Bool) (old new : List Choice) (opened : List ℕ) (p : ℕ) → p < length old → new ≡ old → AreOpenSites old opened

@@ -7,7 +7,7 @@ use Rattle.std.proofs.lemmas.List.{length-set, get_or-set_same, get_or-set_other
 use Rattle.std.proofs.lemmas.Grind.{get_or_default_zero}
 use Rattle.label_field.specs.PairLists.{PairList}
 use Rattle.label_energies.specs.declared.change.Move.TheVariants.{Expand}
-use Rattle.label_energies.specs.Energies.{Instance, IsInstance, IsMetric, AreLabelsFree, labelling}
+use Rattle.label_energies.specs.Energies.{Instance, IsInstance, HasMetric, AreLabelsFree, labelling}
 use Rattle.label_energies.proofs.Metric.{metric_allows}
 use Rattle.label_energies.specs.Moves.{IsAllowed, IsBest}
 use Rattle.move_energy.specs.declared.choice.Choice.{Choice}
@@ -200,7 +200,7 @@ on_ok P (Err e) h = tt
 
 -- ---- what is asked of an expansion over a metric
 
-pub metric_allowed : (m : Instance) (a k : ℕ) (f xs : List ℕ) → IsInstance m → IsMetric m.labels m.smooth_cost → a < m.labels → k ≡ m.labels → length f ≡ m.sites
+pub metric_allowed : (m : Instance) (a k : ℕ) (f xs : List ℕ) → IsInstance m → HasMetric m → a < m.labels → k ≡ m.labels → length f ≡ m.sites
     → xs ≡ f → All (λ label. label < k) xs → IsAllowed m (Expand a) (labelling f)
 metric_allowed m a k f xs pairs metric here labels size same below =
     metric_allows m (Expand a) (labelling f) pairs metric here

@@ -13,6 +13,7 @@ use Rattle.move_energy.specs.BySite.{AreBySite}
 use Rattle.move_energy.specs.Choices.{choice_at, AreOpenSites}
 use Rattle.move_energy.specs.OpenMoves.{IsAllowedFrom}
 use Rattle.site_forms.specs.declared.lists.FormLists.{FormLists}
+use Rattle.move_energy.specs.declared.by_site.Neighbours.{Neighbours}
 use Rattle.site_forms.specs.Lists.{AreFormLists, IsReadNear}
 use Rattle.site_bounds.specs.Decisions.{IsSmallestLeast}
 use Rattle.move_energy.specs.MoveValues.{move_value}
@@ -38,11 +39,12 @@ pub record IsStageReady (pairs : PairList) (space : Workspace) : Type 0 where
 
 -- the lists have the numbers of a move at these sites and maybe at others, and it is allowed
 pub record HasNumbersNear {F V : Type 0} (f : Closure F) (v : Closure V) (problem : Problem F V)
-    (at : List ℕ) (move : Move) (sites : List ℕ) (numbers : FormLists) : Type 0 where
+    (at : List ℕ) (move : Move) (sites : List ℕ) (ends : Neighbours) (numbers : FormLists)
+    : Type 0 where
   pub sites_are : length at ≡ problem.pairs.sites
   pub allowed : IsAllowedFrom f v problem at move
-  pub lists : AreFormLists at numbers
-  pub read : WhereMeant f v problem (λ m. IsReadNear m move at numbers sites)
+  pub lists : AreFormLists problem.pairs ends at numbers
+  pub read : WhereMeant f v problem (λ m. IsReadNear m move ends at numbers sites)
 
 -- the fresh sites stay as they are, and what was grouped and decided
 pub record KeepsFreshSites (old new : Workspace) : Type 0 where

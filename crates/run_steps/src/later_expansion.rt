@@ -83,7 +83,7 @@ fn begin_stages<F: Fn(u32, u32) -> i64 + Sync, V: Fn(u32, u32) -> i64 + Sync, H:
     requires stamps { length changes.now.stamps.items ≡ length at.now }
     ensures of_problem { IsOfProblem F.Fn V.Fn problem.now space.new }
     ensures numbers { OnOk result (HasNumbersNear F.Fn V.Fn problem.now at.now (Expand alpha) []
-        space.new.deciding.numbers) }
+        space.new.deciding.ends space.new.deciding.numbers) }
     ensures stage { OnOk result (IsStageReady problem.now.pairs space.new) }
     ensures fresh { WhereMeant F.Fn V.Fn problem.now
         (λ m. OnOk result (AreStageFresh m alpha at.now changes.now space.new)) }
@@ -103,7 +103,7 @@ fn begin_stages<F: Fn(u32, u32) -> i64 + Sync, V: Fn(u32, u32) -> i64 + Sync, H:
     space
         .deciding
         .numbers
-        .begin(problem, at, Move::Expand(alpha))?;
+        .begin(problem, &space.deciding.ends, at, Move::Expand(alpha))?;
     if open_apart(alloc, problem, space, at, alpha, how)? {
         return Ok(());
     }

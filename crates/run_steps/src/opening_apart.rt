@@ -94,13 +94,13 @@ pub(crate) fn open_apart<F: Fn(u32, u32) -> i64 + Sync, V: Fn(u32, u32) -> i64 +
     requires ready { H.ready how.now }
     requires asked { IsReadyMove F.Fn V.Fn problem.now at.now (Expand alpha) space.old }
     requires numbers { HasNumbersNear F.Fn V.Fn problem.now at.now (Expand alpha) []
-        space.old.deciding.numbers }
+        space.old.deciding.ends space.old.deciding.numbers }
     requires by_site { AreBySite problem.now.pairs space.old.deciding.ends }
     requires inside { All (λ p. p < problem.now.pairs.sites) space.old.stage.fresh_sites.items }
     ensures of_problem { IsOfProblem F.Fn V.Fn problem.now space.new }
     ensures by_site { AreBySite problem.now.pairs space.new.deciding.ends }
     ensures numbers { OnOk result (HasNumbersNear F.Fn V.Fn problem.now at.now (Expand alpha) []
-        space.new.deciding.numbers) }
+        space.new.deciding.ends space.new.deciding.numbers) }
     ensures fresh { space.new.stage.fresh ≡ space.old.stage.fresh }
     ensures listed { space.new.stage.fresh_sites ≡ space.old.stage.fresh_sites }
     ensures count { IfOk result (λ done. IsTrue done →
@@ -120,7 +120,7 @@ pub(crate) fn open_apart<F: Fn(u32, u32) -> i64 + Sync, V: Fn(u32, u32) -> i64 +
     space
         .deciding
         .numbers
-        .read(problem, at, Move::Expand(alpha))?;
+        .read(problem, &space.deciding.ends, at, Move::Expand(alpha))?;
     open_by_parts(alloc, problem, space, at, alpha, how, parts)?;
     Ok(true)
 }

@@ -134,11 +134,11 @@ pub(crate) fn make_stage<F: Fn(u32, u32) -> i64 + Sync, V: Fn(u32, u32) -> i64 +
     requires ready { H.ready how.now }
     requires asked { IsReadyMove F.Fn V.Fn problem.now at.now (Expand alpha) space.old }
     requires numbers { HasNumbersNear F.Fn V.Fn problem.now at.now (Expand alpha) []
-        space.old.deciding.numbers }
+        space.old.deciding.ends space.old.deciding.numbers }
     requires stage { IsStageReady problem.now.pairs space.old }
     ensures of_problem { IsOfProblem F.Fn V.Fn problem.now space.new }
     ensures numbers { HasNumbersNear F.Fn V.Fn problem.now at.now (Expand alpha) []
-        space.new.deciding.numbers }
+        space.new.deciding.ends space.new.deciding.numbers }
     ensures fresh { space.new.stage.fresh.items ≡ space.old.stage.fresh.items }
     ensures closed { WhereMeant F.Fn V.Fn problem.now (λ m. IfOk result (λ standing.
         standing ≡ Standing.Closed → EndsMove m alpha at.now space.old space.new)) }

@@ -1,9 +1,10 @@
 -- Sites that are listed among those of a list.
-use Rattle.std.proofs.Common.{◌≡◌, ◌≢◌, ℕ, zero, suc, ◌+◌, ◌<◌, Bool, true, false, cond, List, [], ◌∷◌, ◌++◌, ◌||◌, ◌==◌, not, length, get_or, take, Contains, refl, sym, ap, ◌∙◌, inl, inr, subst, arith, add-one}
+use Rattle.std.proofs.Common.{◌≡◌, ◌≢◌, ℕ, zero, suc, ◌+◌, ◌<◌, ◌≤◌, Bool, true, false, cond, List, [], ◌∷◌, ◌++◌, ◌||◌, ◌==◌, not, length, get_or, take, Contains, refl, sym, ap, ◌∙◌, inl, inr, subst, arith, add-one}
 use Rattle.std.specs.List.{filter}
+use Rattle.sums.specs.Sums.{count_if}
 use Rattle.std.specs.Prelude.{◌↔◌, IsTrue}
 use Rattle.std.proofs.lemmas.Bool.{eq-eqb}
-use Rattle.std.proofs.lemmas.List.{get_or_default}
+use Rattle.std.proofs.lemmas.List.{get_or_default, length-append}
 use Rattle.std.proofs.lemmas.List.Elements.{filter-append, All-from_get_or}
 use Rattle.std.proofs.Math.Seq.{take-suc, take-length}
 use Rattle.label_energies.specs.declared.change.Move.{Move}
@@ -14,13 +15,15 @@ use Rattle.label_energies.proofs.Reaching.{cases_one, swap_one, swap_other}
 use Rattle.move_energy.specs.BySite.{rising_sites, IsListing}
 use Rattle.move_energy.specs.declared.choice.Choice.{Choice}
 use Rattle.move_energy.specs.declared.choice.Choice.TheVariants.{Open, Zero, One}
-use Rattle.move_energy.specs.Choices.{is_open, open_at, bit_of, choice_at, AreAllOpen, AreOpenSites}
-use Rattle.move_energy.proofs.Listings.{chosen_below, listing_has, listing_place}
+use Rattle.move_energy.specs.Choices.{is_open, open_at, open_count, bit_of, choice_at, AreAllOpen, AreOpenSites}
+use Rattle.move_energy.proofs.Listings.{chosen_below, listing_has, listing_place, listing_short}
+use Rattle.move_energy.proofs.Opened.{opened_count}
 use Rattle.site_forms.specs.Lists.{CoversChanges}
 use Rattle.site_bounds.specs.declared.bounds.Bounds.{Bounds}
-use Rattle.site_bounds.specs.Listed.{changes, CoversRest}
+use Rattle.site_bounds.specs.Listed.{changes, CoversRest, CoversOpen}
 use Rattle.site_bounds.specs.Working.{StayDecided}
 use Rattle.site_bounds.proofs.Fixed.{IsFixed, fixed_site}
+use Rattle.site_bounds.proofs.Skipping.{none_open}
 
 -- ---- those of a listing that are chosen
 
@@ -65,6 +68,31 @@ listed_has chosen n sites p listed l is =
     let inside : chosen_below chosen p < length sites = omega (arith, found.0, e) in
     let k = chosen_below chosen p in
     (k, inside, get_or_default sites k p 0 inside ∙ ap (λ (xs : List ℕ). get_or xs k 0) listed ∙ found.1)
+
+-- ---- the open sites among others
+
+pub covers_open : (move : Move) (f : List ℕ) (choices : List Choice) (sites : List ℕ) → length choices ≡ length f → CoversRest move f choices sites → CoversOpen choices sites
+covers_open move f choices sites same covers = record {
+  before = covers.before;
+  listing = (let L : ℕ → Type 0 = λ n. IsListing covers.before n sites in subst L (sym same) covers.listing);
+  rest = λ p l none. none_open move (labelling f) choices p (covers.rest p (omega (arith, l, same)) none);
+}
+
+pub among_count : (choices : List Choice) (sites : List ℕ) → CoversOpen choices sites → length (filter (open_at choices) sites) ≡ open_count choices
+among_count choices sites covers =
+    opened_count choices (filter (open_at choices) sites) (chosen_listed covers.before (open_at choices) (length choices) sites _ covers.listing covers.rest refl)
+
+pub among_few : (choices : List Choice) (sites : List ℕ) → CoversOpen choices sites → length sites ≤ length choices
+among_few choices sites covers = (let e = ap (λ (xs : List ℕ). length xs) covers.listing in omega (arith, e, listing_short covers.before (length choices)))
+
+one_longer : (xs : List ℕ) (n : ℕ) (b : Bool) → length (xs ++ cond b (n ∷ []) []) ≡ length xs + count_if b 1
+one_longer xs n true = length-append xs (n ∷ [])
+one_longer xs n false = length-append xs []
+
+pub picked_count : (now : ℕ → Bool) (sites : List ℕ) (place : ℕ) (b : Bool) → place < length sites → b ≡ now (get_or sites place 0)
+    → length (filter now (take (place + 1) sites)) ≡ length (filter now (take place sites)) + count_if b 1
+picked_count now sites place b l is =
+    ap (λ (xs : List ℕ). length xs) (sym (picked_more now sites place b (filter now (take place sites)) _ l is refl refl)) ∙ one_longer (filter now (take place sites)) (get_or sites place 0) b
 
 -- ---- the sites that were open before any was decided
 
@@ -131,3 +159,6 @@ covers_changes move f choices sites opened listed =
       inside = All-from_get_or (λ p. p < length f) sites 0 (λ i l. listed_inside (open_at choices) (length f) sites i all l);
       each = λ u l moved. listed_has (open_at choices) (length f) sites u all l (is_open_of (choice_at choices u) ((opened.opened u l).1 moved));
     }
+
+pub open_covers : (choices : List Choice) (sites : List ℕ) → AreOpenSites choices sites → CoversOpen choices sites
+open_covers choices sites listed = record { before = open_at choices; listing = listed; rest = λ p l none. none }

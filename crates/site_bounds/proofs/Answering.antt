@@ -24,7 +24,7 @@ use Rattle.move_energy.proofs.Rising.{pair_rise-none}
 use Rattle.site_bounds.proofs.Seeing.{pair_rise-same}
 use Rattle.site_bounds.proofs.Spreading.{pair_in, rise_by_places, passes_of}
 use Rattle.site_bounds.proofs.Left.{left_less}
-use Rattle.site_bounds.proofs.Ranges.{called_waits, decided_waits, summed_same}
+use Rattle.site_bounds.proofs.Ranges.{called_waits, decided_waits, summed_same, marked_summed}
 use Rattle.site_bounds.proofs.Places.{partly_same}
 
 -- a pair's rise does not depend on a site that has no pair with this one
@@ -84,20 +84,13 @@ marked_decides m move f ends site value old new are b inside none opened tells m
 
 -- ---- the two ways
 
-pub answered_bounds : (site : ℕ) (beside : Bool) (old new : Bounds) → IsAnswered site beside old new → (new.least ≡ old.least) × (new.greatest ≡ old.greatest)
-answered_bounds site beside old new (inl calls) = (calls.2, calls.3)
-answered_bounds site beside old new (inr marks) = (marks.1.least, marks.1.greatest)
+pub answered_bounds : (site : ℕ) (beside : Bool) (old new : Bounds) → IsAnswered site beside old new → (new.least ≡ old.least) × (new.greatest ≡ old.greatest) × (new.summed ≡ old.summed)
+answered_bounds site beside old new (inl calls) = (calls.2, calls.3, calls.4)
+answered_bounds site beside old new (inr marks) = (marks.1.least, marks.1.greatest, marks.1.summed)
 
 pub answered_summed : (n site : ℕ) (beside : Bool) (old new : Bounds) → IsAnswered site beside old new → IsSummed n old → IsSummed n new
-answered_summed n site beside old new (inl calls) was = summed_same n old new calls.1 calls.2 calls.3 was
-answered_summed n site beside old new (inr marks) was =
-    let marked = marks.1 in
-    let count = ap (λ (v : _). length v.items) marked.least in
-    record {
-      choices = marked.count ∙ was.choices;
-      greatest = ap (λ (v : _). length v.items) marked.greatest ∙ was.greatest ∙ sym count;
-      within = omega (arith, count, was.within);
-    }
+answered_summed n site beside old new (inl calls) was = summed_same n old new calls.1 calls.2 calls.3 calls.4 was
+answered_summed n site beside old new (inr marks) was = marked_summed n site marks.0 old new marks.1 was
 
 pub answered_waits : (n site : ℕ) (beside : Bool) (old new : Bounds) → site < n → IsAnswered site beside old new → AreWaitingBut n site old → AreWaiting n new
 answered_waits n site beside old new l (inl calls) but = called_waits n site old new l calls.1 calls.2 calls.3 calls.0 but

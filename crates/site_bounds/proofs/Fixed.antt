@@ -35,7 +35,7 @@ label_any move old false false fixed = refl
 entry_any : (m : Instance) (move : Move) (f : ℕ → ℕ) (pair : Pair) (a b c d : Bool) → IsFixed move (f pair.first) → IsFixed move (f pair.second)
     → pair_entry m move f pair a b ≡ pair_entry m move f pair c d
 entry_any m move f pair a b c d first second =
-    (λ j. pair.weight * m.smooth_cost (label_any move (f pair.first) a c first j) (label_any move (f pair.second) b d second j))
+    (λ j. m.smooth_cost pair.weight (label_any move (f pair.first) a c first j) (label_any move (f pair.second) b d second j))
 
 pub fixed_regular : (m : Instance) (move : Move) (f : ℕ → ℕ) (pair : Pair) → IsFixed move (f pair.first) → IsFixed move (f pair.second) → IsRegularPair m move f pair
 fixed_regular m move f pair first second =

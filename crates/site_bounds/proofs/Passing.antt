@@ -12,7 +12,7 @@ use Rattle.label_energies.specs.Energies.{Instance}
 use Rattle.move_energy.specs.declared.choice.Choice.TheVariants.{Open}
 use Rattle.move_energy.specs.Choices.{bit_of, choice_at}
 use Rattle.site_bounds.specs.declared.bounds.Bounds.{Bounds}
-use Rattle.site_bounds.specs.Working.{bound_at, IsSummed, IsWithinRange, AreWaiting, ArePartlyDecided, PassesClosed, greatest_total}
+use Rattle.site_bounds.specs.Working.{bound_at, HasBounds, IsSummed, AreOfSites, IsWithinRange, AreWaiting, ArePartlyDecided, PassesClosed, greatest_total}
 use Rattle.site_bounds.proofs.Ranges.{below_not, tells_same}
 
 past : (k v : ℕ) → bound_at (replicate k (pos 0)) v ≡ pos 0
@@ -41,63 +41,79 @@ filled_sum xs ys k is =
     let nothing : k * unsigned_abs (pos 0) ≡ 0 = ap (λ n. k * n) none ∙ omega arith in
     ap (λ (zs : List ℤ). sum_by unsigned_abs zs) is ∙ omega (arith, all, zeros, nothing)
 
-pub passed_len : (from to : ℕ) (old new : Bounds) → length old.least.items ≡ from → PassesClosed from to old new → length new.least.items ≡ to
-passed_len from to old new was passes =
-    let len = filled_len old.least.items new.least.items (to - from) passes.least in
-    omega (arith, len, was, passes.on)
-
-pub passed_sized : (n from to : ℕ) (old new : Bounds) → length old.least.items ≡ from → PassesClosed from to old new → IsSummed n old → IsSummed n new
-passed_sized n from to old new was passes sized =
-    let least = passed_len from to old new was passes in
-    let greatest = filled_len old.greatest.items new.greatest.items (to - from) passes.greatest in
+pub passed_sized : (n to : ℕ) (old new : Bounds) → PassesClosed to old new → IsSummed n old → to < n → IsSummed n new
+passed_sized n to old new passes sized inside =
+    let least = filled_len old.least.items new.least.items passes.room.more passes.room.least in
+    let greatest = filled_len old.greatest.items new.greatest.items passes.room.more passes.room.greatest in
     record {
       choices = ap (λ (v : _). length v.items) passes.choices ∙ sized.choices;
-      greatest = omega (arith, least, greatest, was, sized.greatest, passes.on);
-      within = omega (arith, least, passes.within, sized.choices);
+      greatest = omega (arith, least, greatest, sized.greatest);
+      room = (let has = passes.room.inside (omega (arith, inside, sized.choices)) in omega (arith, has, passes.summed));
+      most = omega (arith, passes.room.most, sized.choices);
     }
 
-pub passed_bounds : (from to : ℕ) (old new : Bounds) → PassesClosed from to old new → (u : ℕ)
-    → (bound_at new.least.items u ≡ bound_at old.least.items u) × (bound_at new.greatest.items u ≡ bound_at old.greatest.items u)
-passed_bounds from to old new passes u =
-    (filled_at old.least.items new.least.items (to - from) u passes.least, filled_at old.greatest.items new.greatest.items (to - from) u passes.greatest)
+-- the next site has bounds
+pub passed_has : (n to : ℕ) (old new : Bounds) → PassesClosed to old new → IsSummed n old → to < n → HasBounds to new
+passed_has n to old new passes sized inside =
+    let least = filled_len old.least.items new.least.items passes.room.more passes.room.least in
+    let greatest = filled_len old.greatest.items new.greatest.items passes.room.more passes.room.greatest in
+    let has = passes.room.inside (omega (arith, inside, sized.choices)) in
+    (has, omega (arith, least, greatest, sized.greatest, has))
 
-pub passed_range : (from to most : ℕ) (old new : Bounds) → PassesClosed from to old new → IsWithinRange most old → IsWithinRange most new
-passed_range from to most old new passes within u =
-    let same = passed_bounds from to old new passes u in
+-- all sites have bounds
+pub passed_whole : (n : ℕ) (old new : Bounds) → PassesClosed n old new → IsSummed n old → AreOfSites n new
+passed_whole n old new passes sized =
+    let least = filled_len old.least.items new.least.items passes.room.more passes.room.least in
+    let greatest = filled_len old.greatest.items new.greatest.items passes.room.more passes.room.greatest in
+    let all = passes.room.whole (sym sized.choices) in
+    record {
+      choices = ap (λ (v : _). length v.items) passes.choices ∙ sized.choices;
+      least = all ∙ sized.choices;
+      greatest = omega (arith, least, greatest, sized.greatest, all, sized.choices);
+    }
+
+pub passed_bounds : (to : ℕ) (old new : Bounds) → PassesClosed to old new → (u : ℕ)
+    → (bound_at new.least.items u ≡ bound_at old.least.items u) × (bound_at new.greatest.items u ≡ bound_at old.greatest.items u)
+passed_bounds to old new passes u =
+    (filled_at old.least.items new.least.items passes.room.more u passes.room.least, filled_at old.greatest.items new.greatest.items passes.room.more u passes.room.greatest)
+
+pub passed_range : (to most : ℕ) (old new : Bounds) → PassesClosed to old new → IsWithinRange most old → IsWithinRange most new
+passed_range to most old new passes within u =
+    let same = passed_bounds to old new passes u in
     let a = ap unsigned_abs same.0 in
     let b = ap unsigned_abs same.1 in
     (omega (arith, a, (within u).0), omega (arith, b, (within u).1))
 
-pub passed_total : (from to : ℕ) (old new : Bounds) → PassesClosed from to old new → greatest_total new ≡ greatest_total old
-passed_total from to old new passes = filled_sum old.greatest.items new.greatest.items (to - from) passes.greatest
+pub passed_total : (to : ℕ) (old new : Bounds) → PassesClosed to old new → greatest_total new ≡ greatest_total old
+passed_total to old new passes = filled_sum old.greatest.items new.greatest.items passes.room.more passes.room.greatest
 
 -- an open one of them is one that was passed before
-earlier : (from to u : ℕ) (old new : Bounds) → PassesClosed from to old new → u < to → choice_at new.choices.items u ≡ Open → (u < from) × (choice_at old.choices.items u ≡ Open)
-earlier from to u old new passes below now =
+earlier : (to u : ℕ) (old new : Bounds) → PassesClosed to old new → u < to → choice_at new.choices.items u ≡ Open → (u < old.summed) × (choice_at old.choices.items u ≡ Open)
+earlier to u old new passes below now =
     let was = ap (λ (v : _). choice_at v.items u) (sym passes.choices) ∙ now in
-    elim (cases_lt u from) [
+    elim (cases_lt u old.summed) [
       | inl before ↦ (before, was)
       | inr after ↦ absurd (passes.closed u after below was)
     ]
 
-pub passed_waits : (from to : ℕ) (old new : Bounds) → PassesClosed from to old new → AreWaiting from old → AreWaiting to new
-passed_waits from to old new passes waiting =
+pub passed_waits : (to : ℕ) (old new : Bounds) → PassesClosed to old new → AreWaiting old.summed old → AreWaiting to new
+passed_waits to old new passes waiting =
     let items = ap (λ (v : _). v.items) passes.waiting in
     let P : List ℕ → Type 0 = λ xs. All (λ u. u < to) xs in
     record {
       sites = subst P (sym items) (λ i d l. (let h = waiting.sites i d l in omega (arith, h, passes.on)));
       each = λ u l off now tells.
-          let was = earlier from to u old new passes l now in
-          let same = passed_bounds from to old new passes u in
+          let was = earlier to u old new passes l now in
+          let same = passed_bounds to old new passes u in
           let C : List ℕ → Type 0 = λ xs. Contains xs u in
-          subst C (sym items) (waiting.each u was.0 (below_not u from was.0) was.1 (tells_same old new u same.0 same.1 tells));
+          subst C (sym items) (waiting.each u was.0 (below_not u old.summed was.0) was.1 (tells_same old new u same.0 same.1 tells));
     }
 
-pub passed_decides : (m : Instance) (move : Move) (f : ℕ → ℕ) (from to : ℕ) (old new : Bounds) → PassesClosed from to old new → ArePartlyDecided m move f from old → ArePartlyDecided m move f to new
-passed_decides m move f from to old new passes decided = record {
+pub passed_decides : (m : Instance) (move : Move) (f : ℕ → ℕ) (to : ℕ) (old new : Bounds) → PassesClosed to old new → ArePartlyDecided m move f old.summed old → ArePartlyDecided m move f to new
+passed_decides m move f to old new passes decided = record {
   decisions = decided.decisions;
   passed = decided.passed;
   shown = λ x p l. decided.shown x p l ∙ ap (λ (v : _). bit_of (choice_at v.items p) (x p)) (sym passes.choices);
-  least = λ u l now. (let was = earlier from to u old new passes l now in (passed_bounds from to old new passes u).0 ∙ decided.least u was.0 was.1);
-  greatest = λ u l now. (let was = earlier from to u old new passes l now in (passed_bounds from to old new passes u).1 ∙ decided.greatest u was.0 was.1);
+  least = λ u l now. (let was = earlier to u old new passes l now in (passed_bounds to old new passes u).0 ∙ decided.least u was.0 was.1);
+  greatest = λ u l now. (let was = earlier to u old new passes l now in (passed_bounds to old new passes u).1 ∙ decided.greatest u was.0 was.1);
 }

@@ -1,10 +1,10 @@
 -- Bounds that are written, their range, and the sites that wait.
-use Rattle.std.proofs.Common.{◌≡◌, ◌≢◌, ℕ, ◌+◌, ◌*◌, ◌<◌, ◌≤◌, Bool, List, [], ◌∷◌, ◌++◌, length, get_or, All, Contains, ℤ, pos, ◌+ℤ◌, ◌≤ℤ◌, ◌<ℤ◌, unsigned_abs, w64, to_z, of_z, refl, sym, ap, ◌∙◌, inl, inr, subst, arith}
+use Rattle.std.proofs.Common.{◌≡◌, ◌≢◌, ℕ, ◌+◌, ◌*◌, ◌<◌, ◌≤◌, Bool, List, [], ◌∷◌, length, All, Contains, ℤ, pos, ◌+ℤ◌, ◌≤ℤ◌, ◌<ℤ◌, unsigned_abs, w64, to_z, of_z, refl, sym, ap, ◌∙◌, inl, inr, subst, arith}
 use Rattle.std.specs.Prelude.{slice_set}
 use Rattle.std.specs.List.{sum_by}
-use Rattle.std.proofs.lemmas.List.Sums.{sum_by-set, sum_by_push}
-use Rattle.std.proofs.lemmas.Bool.{cases_eq, cases_lt}
-use Rattle.std.proofs.lemmas.List.{get_or-set_same, get_or-set_other, get_or_push, get_or_append_left, length-append}
+use Rattle.std.proofs.lemmas.List.Sums.{sum_by-set}
+use Rattle.std.proofs.lemmas.Bool.{cases_eq}
+use Rattle.std.proofs.lemmas.List.{get_or-set_same, get_or-set_other, length-set}
 use Rattle.std.proofs.Math.ListN.{get_or-eq_default}
 use Rattle.sums.proofs.IntegerSumLemmas.{abs-add}
 use Rattle.move_energy.specs.declared.choice.Choice.TheVariants.{Open}
@@ -65,51 +65,40 @@ raised_total site k b old new l small greatest =
 
 -- ---- bounds that are added
 
-pushed_at : {A : Type 0} (old new : List A) (x d : A) (n : ℕ) → new ≡ old ++ x ∷ [] → length old ≡ n → get_or new n d ≡ x
-pushed_at old new x d n is len = ap (λ (xs : List _). get_or xs n d) is ∙ get_or_push old x d n len
-
-pushed_before : {A : Type 0} (old new : List A) (x d : A) (n u : ℕ) → new ≡ old ++ x ∷ [] → length old ≡ n → u < n → get_or new u d ≡ get_or old u d
-pushed_before old new x d n u is len l = ap (λ (xs : List _). get_or xs u d) is ∙ get_or_append_left old (x ∷ []) d u (omega (arith, l, len))
-
-pushed_len : {A : Type 0} (old new : List A) (x : A) (n : ℕ) → new ≡ old ++ x ∷ [] → length old ≡ n → length new ≡ n + 1
-pushed_len old new x n is len = ap (λ (xs : List _). length xs) is ∙ omega (arith, length-append old (x ∷ []), len)
-
 past_end : (xs : List ℤ) (n u : ℕ) → length xs ≡ n → n ≤ u → unsigned_abs (bound_at xs u) ≡ 0
 past_end xs n u len l = ap unsigned_abs (get_or-eq_default xs (pos 0) {n = u} (omega (arith, len, l)))
 
-added_within : (old new : List ℤ) (z : ℤ) (k u most : ℕ) → length old ≡ k → new ≡ old ++ z ∷ [] → unsigned_abs z ≤ most → unsigned_abs (bound_at old u) ≤ most → unsigned_abs (bound_at new u) ≤ most
-added_within old new z k u most len is small before = elim (cases_lt u k) [
-  | inl earlier ↦ (let e = ap unsigned_abs (pushed_before old new z (pos 0) k u is len earlier) in omega (arith, e, before))
-  | inr at ↦ elim (cases_eq u k) [
-    | inl same ↦ (let e = ap unsigned_abs (ap (bound_at new) same ∙ pushed_at old new z (pos 0) k is len) in omega (arith, e, small))
-    | inr other ↦ (let e = past_end new (k + 1) u (pushed_len old new z k is len) (omega (arith, at, other)) in omega (arith, e))
-  ]
+added_within : (old new : List ℤ) (z : ℤ) (k u most : ℕ) → k < length old → new ≡ slice_set old k z → unsigned_abs z ≤ most → unsigned_abs (bound_at old u) ≤ most → unsigned_abs (bound_at new u) ≤ most
+added_within old new z k u most l is small before = elim (cases_eq u k) [
+  | inl same ↦ (let e = ap unsigned_abs (ap (bound_at new) same ∙ set_bound old new k z is l) in omega (arith, e, small))
+  | inr other ↦ (let e = ap unsigned_abs (other_bound old new k u z is other) in omega (arith, e, before))
 ]
 
 -- the bounds of a site are added
 pub record AreAdded (k : ℕ) (low high : ℤ) (old new : Bounds) : Type 0 where
-  pub least_len : length old.least.items ≡ k
-  pub greatest_len : length old.greatest.items ≡ k
-  pub least : new.least.items ≡ old.least.items ++ low ∷ []
-  pub greatest : new.greatest.items ≡ old.greatest.items ++ high ∷ []
+  pub inside : (k < length old.least.items) × (k < length old.greatest.items)
+  pub least : new.least.items ≡ slice_set old.least.items k low
+  pub greatest : new.greatest.items ≡ slice_set old.greatest.items k high
   pub choices : new.choices ≡ old.choices
   pub waiting : new.waiting ≡ old.waiting
+  pub summed : new.summed ≡ k + 1
 
-pub added_of : (k : ℕ) (low high : ℤ) (old new : Bounds) → length old.least.items ≡ k → length old.greatest.items ≡ length old.least.items → AddsBounds low high old new → AreAdded k low high old new
-added_of k low high old new count same adds = record {
-  least_len = count;
-  greatest_len = same ∙ count;
+pub added_of : (k : ℕ) (low high : ℤ) (old new : Bounds) → k < length old.least.items → k < length old.greatest.items → AddsBounds k low high old new → AreAdded k low high old new
+added_of k low high old new one two adds = record {
+  inside = (one, two);
   least = adds.least;
   greatest = adds.greatest;
   choices = adds.choices;
   waiting = adds.waiting;
+  summed = adds.summed;
 }
 
 -- all greatest ones together, with one more
 pub added_total : (k most : ℕ) (least greatest : ℤ) (old new : Bounds) → AreAdded k least greatest old new → unsigned_abs greatest ≤ most → greatest_total new ≤ greatest_total old + most
 added_total k most least greatest old new added small =
     let e = ap (λ (xs : List ℤ). sum_by unsigned_abs xs) added.greatest in
-    omega (arith, e, sum_by_push unsigned_abs old.greatest.items greatest, small)
+    let set = sum_by-set unsigned_abs old.greatest.items k greatest (pos 0) added.inside.1 in
+    omega (arith, e, set, small)
 
 pub total_same : (a b : Bounds) → b.greatest ≡ a.greatest → greatest_total b ≡ greatest_total a
 total_same a b gs = ap (λ (v : _). sum_by unsigned_abs v.items) gs
@@ -131,35 +120,37 @@ empty_range most b least greatest u =
 pub added_range : (k most : ℕ) (least greatest : ℤ) (old new : Bounds) → AreAdded k least greatest old new → unsigned_abs least ≤ most → unsigned_abs greatest ≤ most
     → IsWithinRange most old → IsWithinRange most new
 added_range k most least greatest old new added small large within u = (
-  added_within old.least.items new.least.items least k u most added.least_len added.least small ((within u).0),
-  added_within old.greatest.items new.greatest.items greatest k u most added.greatest_len added.greatest large ((within u).1),
+  added_within old.least.items new.least.items least k u most added.inside.0 added.least small ((within u).0),
+  added_within old.greatest.items new.greatest.items greatest k u most added.inside.1 added.greatest large ((within u).1),
 )
 
-pub added_summed : (n k : ℕ) (least greatest : ℤ) (old new : Bounds) → AreAdded k least greatest old new → k < n → length old.choices.items ≡ n
-    → (length new.least.items ≡ k + 1) × IsSummed n new
-added_summed n k least greatest old new added inside count =
-    let one = pushed_len old.least.items new.least.items least k added.least added.least_len in
-    let two = pushed_len old.greatest.items new.greatest.items greatest k added.greatest added.greatest_len in (
-      one,
-      record {
-        choices = ap (λ (v : _). length v.items) added.choices ∙ count;
-        greatest = two ∙ sym one;
-        within = omega (arith, one, inside);
-      },
-    )
+set_len : (old new : List ℤ) (k : ℕ) (z : ℤ) → new ≡ slice_set old k z → length new ≡ length old
+set_len old new k z is = ap (λ (xs : List ℤ). length xs) is ∙ length-set old k z
+
+pub added_summed : (n k : ℕ) (least greatest : ℤ) (old new : Bounds) → AreAdded k least greatest old new → IsSummed n old → IsSummed n new
+added_summed n k least greatest old new added was =
+    let one = set_len old.least.items new.least.items k least added.least in
+    let two = set_len old.greatest.items new.greatest.items k greatest added.greatest in
+    record {
+      choices = ap (λ (v : _). length v.items) added.choices ∙ was.choices;
+      greatest = two ∙ was.greatest ∙ sym one;
+      room = omega (arith, one, added.summed, added.inside.0);
+      most = omega (arith, one, was.most);
+    }
 
 pub least_before : (k u : ℕ) (least greatest : ℤ) (old new : Bounds) → AreAdded k least greatest old new → u < k
     → (bound_at new.least.items u ≡ bound_at old.least.items u) × (bound_at new.greatest.items u ≡ bound_at old.greatest.items u)
-least_before k u least greatest old new added l = (
-  pushed_before old.least.items new.least.items least (pos 0) k u added.least added.least_len l,
-  pushed_before old.greatest.items new.greatest.items greatest (pos 0) k u added.greatest added.greatest_len l,
-)
+least_before k u least greatest old new added l =
+    let off : u ≢ k = λ same. omega (arith, l, same) in (
+      other_bound old.least.items new.least.items k u least added.least off,
+      other_bound old.greatest.items new.greatest.items k u greatest added.greatest off,
+    )
 
 pub least_at : (k : ℕ) (least greatest : ℤ) (old new : Bounds) → AreAdded k least greatest old new
     → (bound_at new.least.items k ≡ least) × (bound_at new.greatest.items k ≡ greatest)
 least_at k least greatest old new added = (
-  pushed_at old.least.items new.least.items least (pos 0) k added.least added.least_len,
-  pushed_at old.greatest.items new.greatest.items greatest (pos 0) k added.greatest added.greatest_len,
+  set_bound old.least.items new.least.items k least added.least added.inside.0,
+  set_bound old.greatest.items new.greatest.items k greatest added.greatest added.inside.1,
 )
 
 -- ---- sites that wait
@@ -266,22 +257,45 @@ range_same a b most ls gs within u =
     let q = ap (λ (v : _). unsigned_abs (bound_at v.items u)) gs in
     (omega (arith, p, (within u).0), omega (arith, q, (within u).1))
 
-pub summed_same : (n : ℕ) (a b : Bounds) → b.choices ≡ a.choices → b.least ≡ a.least → b.greatest ≡ a.greatest → IsSummed n a → IsSummed n b
-summed_same n a b cs ls gs was =
+pub summed_same : (n : ℕ) (a b : Bounds) → b.choices ≡ a.choices → b.least ≡ a.least → b.greatest ≡ a.greatest → b.summed ≡ a.summed → IsSummed n a → IsSummed n b
+summed_same n a b cs ls gs ss was =
     let count = ap (λ (v : _). length v.items) ls in
     record {
       choices = ap (λ (v : _). length v.items) cs ∙ was.choices;
       greatest = ap (λ (v : _). length v.items) gs ∙ was.greatest ∙ sym count;
-      within = omega (arith, count, was.within);
+      room = omega (arith, count, ss, was.room);
+      most = omega (arith, count, was.most);
     }
 
-pub looking_of : (old mid new : Bounds) → mid.choices ≡ old.choices → length mid.least.items ≡ length old.least.items → length mid.greatest.items ≡ length old.greatest.items
+pub marked_summed : (n site : ℕ) (value : Bool) (old new : Bounds) → IsMarked site value old new → IsSummed n old → IsSummed n new
+marked_summed n site value old new marked was =
+    let count = ap (λ (v : _). length v.items) marked.least in
+    record {
+      choices = marked.count ∙ was.choices;
+      greatest = ap (λ (v : _). length v.items) marked.greatest ∙ was.greatest ∙ sym count;
+      room = omega (arith, count, marked.summed, was.room);
+      most = omega (arith, count, was.most);
+    }
+
+pub looked_summed : (n k : ℕ) (old new : Bounds) → IsLooking k old new → IsSummed n old → IsSummed n new
+looked_summed n k old new looking was = record {
+  choices = ap (λ (v : _). length v.items) looking.choices ∙ was.choices;
+  greatest = looking.greatest_len ∙ was.greatest ∙ sym looking.least_len;
+  room = omega (arith, looking.least_len, looking.summed, was.room);
+  most = omega (arith, looking.least_len, was.most);
+}
+
+pub summed_most : (n : ℕ) (b : Bounds) → IsSummed n b → b.summed ≤ n
+summed_most n b sized = omega (arith, sized.room, sized.most)
+
+pub looking_of : (old mid new : Bounds) → mid.choices ≡ old.choices → mid.summed ≡ old.summed → length mid.least.items ≡ length old.least.items → length mid.greatest.items ≡ length old.greatest.items
     → ((most : ℕ) → IsWithinRange most old → IsWithinRange (most + 20000000) mid) → greatest_total mid ≤ greatest_total old + 20000000 → new.choices ≡ mid.choices → new.least ≡ mid.least → new.greatest ≡ mid.greatest
-    → length new.waiting.items ≤ length old.waiting.items + 1 → IsLooking 1 old new
-looking_of old mid new mc ml mg range total nc nl ng few = record {
+    → new.summed ≡ mid.summed → length new.waiting.items ≤ length old.waiting.items + 1 → IsLooking 1 old new
+looking_of old mid new mc ms ml mg range total nc nl ng ns few = record {
   choices = nc ∙ mc;
   least_len = ap (λ (v : _). length v.items) nl ∙ ml;
   greatest_len = ap (λ (v : _). length v.items) ng ∙ mg;
+  summed = ns ∙ ms;
   waiting = few;
   range = λ most within. range_wider (most + 20000000) (most + 20000000 * 1) new (omega arith) (range_same mid new (most + 20000000) nl ng (range most within));
   total = omega (arith, total, total_same mid new ng);
@@ -292,6 +306,7 @@ looking_none b = record {
   choices = refl;
   least_len = refl;
   greatest_len = refl;
+  summed = refl;
   waiting = omega arith;
   range = λ most within. range_wider most (most + 20000000 * 1) b (omega arith) within;
   total = omega arith;

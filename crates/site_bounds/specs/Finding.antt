@@ -1,5 +1,5 @@
 -- What is kept while the sites of a move are decided, and what is known of the move afterwards.
-use Rattle.std.specs.Prelude.{◌≡◌, ℕ, ◌+◌, ◌*◌, ◌≤◌, List, length}
+use Rattle.std.specs.Prelude.{◌≡◌, ℕ, ◌+◌, ◌*◌, ◌<◌, ◌≤◌, List, [], length}
 use Rattle.label_energies.specs.declared.change.Move.{Move}
 use Rattle.label_energies.specs.Energies.{labelling}
 use Rattle.cost_store.specs.declared.problem.Problem.{Problem}
@@ -7,7 +7,8 @@ use Rattle.cost_store.specs.Posed.{Closure, IsPosed, IsAsked, WhereMeant}
 use Rattle.move_energy.specs.declared.by_site.Neighbours.{Neighbours}
 use Rattle.move_energy.specs.BySite.{AreBySite}
 use Rattle.move_energy.specs.Choices.{choice_at}
-use Rattle.move_energy.specs.Limits.{surplus_limit}
+use Rattle.move_energy.specs.declared.choice.Choice.TheVariants.{Open}
+use Rattle.move_energy.specs.Limits.{surplus_limit, weights_limit}
 use Rattle.move_energy.specs.Weights.{AreWeights}
 use Rattle.move_energy.specs.Ends.{rise_limit}
 use Rattle.site_forms.specs.declared.numbers.SiteForm.{SiteForm}
@@ -18,6 +19,7 @@ use Rattle.site_bounds.specs.declared.sites.Deciding.{Deciding}
 use Rattle.site_bounds.specs.Decided.{KnowsSites}
 use Rattle.site_bounds.specs.Working.{IsSummed, IsWithinRange, open_ends, budget_of, greatest_total}
 use Rattle.site_bounds.specs.Working.{summed_count, AreWaiting, ArePartlyDecided, StayDecided}
+use Rattle.site_bounds.specs.Working.{AreOfSites, CanDecide}
 
 -- how many ends lie at open sites: those that may still be looked at
 abbrev pub ends_left : SiteForm → Bounds → ℕ
@@ -46,6 +48,36 @@ pub record SumsSite (form : SiteForm) (site : ℕ) (old new : Bounds) : Type 0 w
   pub decided : WhereRead form (λ m move f.
       ArePartlyDecided m move f site old → ArePartlyDecided m move f (site + 1) new)
 
+-- the next open site is summed, and no site waits then
+pub record SumsNext (form : SiteForm) (site : ℕ) (old new : Bounds) : Type 0 where
+  pub summed : summed_count new ≡ site + 1
+  pub budget : IsInBudget form new
+  pub waiting : AreWaiting (site + 1) new
+  pub none : new.waiting.items ≡ []
+  pub closed : StayDecided old new
+  pub total : total_left form new ≤ total_left form old + rise_limit form.ends.now site
+  pub decided : WhereRead form (λ m move f.
+      ArePartlyDecided m move f (summed_count old) old → ArePartlyDecided m move f (site + 1) new)
+
+-- all sites are passed, of which those behind the last summed one are closed
+pub record EndsSites (form : SiteForm) (old new : Bounds) : Type 0 where
+  pub sized : AreOfSites (length form.at.now) new
+  pub waiting : AreWaiting (length form.at.now) new
+  pub same : (new.waiting ≡ old.waiting) × (new.choices ≡ old.choices)
+  pub total : greatest_total new ≡ greatest_total old
+  pub decided : WhereRead form (λ m move f. ArePartlyDecided m move f (summed_count old) old
+      → ArePartlyDecided m move f (length form.at.now) new)
+
+-- all sites are summed or closed, and none that is left can be told
+pub record DecidesSites (form : SiteForm) (old new : Bounds) : Type 0 where
+  pub sized : AreOfSites (length form.at.now) new
+  pub total : greatest_total new ≤ weights_limit
+  pub none : (u : ℕ) → u < length form.at.now → choice_at new.choices.items u ≡ Open
+      → ¬ CanDecide new u
+  pub closed : StayDecided old new
+  pub decided : WhereRead form (λ m move f. ArePartlyDecided m move f 0 old
+      → ArePartlyDecided m move f (length form.at.now) new)
+
 -- the move is asked of a posed problem, and these are the neighbours of its sites
 pub record IsAskedBySite {F V : Type 0} (f : Closure F) (v : Closure V) (problem : Problem F V)
     (at : List ℕ) (move : Move) (ends : Neighbours) : Type 0 where
@@ -60,5 +92,5 @@ pub record KnowsMove {F V : Type 0} (f : Closure F) (v : Closure V) (problem : P
   pub sites : KnowsSites move at room
   pub weights : WhereMeant f v problem (λ m. AreWeights m move (labelling at)
       (choice_at room.bounds.choices.items) room.bounds.greatest.items)
-  pub lists : AreFormLists at room.numbers
-  pub read : WhereMeant f v problem (λ m. IsReadOf m move at room.numbers)
+  pub lists : AreFormLists problem.pairs room.ends at room.numbers
+  pub read : WhereMeant f v problem (λ m. IsReadOf m move room.ends at room.numbers)

@@ -7,3 +7,4 @@ pub mod Listed
 pub mod Parts
 pub mod Laws
 pub mod Prelude
+pub mod Swapped

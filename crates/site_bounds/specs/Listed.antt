@@ -2,6 +2,7 @@
 use Rattle.std.specs.Prelude.{◌≡◌, ◌↔◌, ◌==◌, ◌||◌, ℕ, ◌*◌, ◌<◌, ◌≤◌, Bool, false, not, IsTrue}
 use Rattle.std.specs.Prelude.{List, [], length}
 use Rattle.label_energies.specs.declared.change.Move.{Move}
+use Rattle.label_energies.specs.declared.change.Move.TheVariants.{Expand, Swap}
 use Rattle.label_energies.specs.Energies.{labelling}
 use Rattle.label_energies.specs.Moves.{label_after}
 use Rattle.move_energy.specs.BySite.{IsListing}
@@ -41,12 +42,23 @@ pub record CoversRest (move : Move) (f : List ℕ) (choices : List Choice)
   pub rest : (p : ℕ) → p < length f → before p ≡ false
       → changes move (labelling f) choices p ≡ false
 
--- the open sites are counted; where they are an eighth of all at most, they are listed, and so are
--- the sites whose labels can still become others
+-- the sites are listed, and among them is each open one
+pub record CoversOpen (choices : List Choice) (sites : List ℕ) : Type 0 where
+  pub before : ℕ → Bool
+  pub listing : IsListing before (length choices) sites
+  pub rest : (p : ℕ) → p < length choices → before p ≡ false → open_at choices p ≡ false
+
+-- the sites of a move are listed where at most one in so many is open
+abbrev pub listed_share : Move → ℕ
+listed_share (Expand alpha) = 8
+listed_share (Swap alpha beta) = 2
+
+-- the open sites are counted; where they are few, they are listed, and so are the sites whose
+-- labels can still become others
 pub record AreListed (move : Move) (f : ℕ → ℕ) (choices : List Choice)
     (lists : Lists) : Type 0 where
   pub count : lists.count ≡ open_count choices
-  pub few : IsTrue lists.listed ↔ (lists.count * 8 ≤ length choices)
+  pub few : IsTrue lists.listed ↔ (lists.count * listed_share move ≤ length choices)
   pub opened : IsTrue lists.listed → AreOpenSites choices lists.opened.items
   pub changing : IsTrue lists.listed → IsListing (changes move f choices)
       (length choices) lists.changing.items

@@ -4,13 +4,14 @@ pub use Rattle.cost_store.specs.Posed.{IsPosed, WhereMeant, IsAsked}
 pub use Rattle.site_bounds.specs.Decided.{IsDecidedMove}
 pub use Rattle.site_bounds.specs.Decisions.{Passes}
 pub use Rattle.site_bounds.specs.Finding.{IsInBudget, SumsSite, IsAskedBySite, KnowsMove, ends_left}
-pub use Rattle.site_bounds.specs.Finding.{total_left}
-pub use Rattle.site_bounds.specs.Listed.{AreListsEmpty}
+pub use Rattle.site_bounds.specs.Finding.{total_left, SumsNext, EndsSites, DecidesSites}
+pub use Rattle.site_bounds.specs.Listed.{AreListsEmpty, CoversOpen}
 pub use Rattle.site_bounds.specs.Parts.{ArePassedChoices, site_weight, KeepsKnown, KeepsPassed}
 pub use Rattle.site_bounds.specs.Parts.{IsSwept}
 pub use Rattle.site_bounds.specs.Working.{CanDecide, AreOfNoSites, HasBounds, summed_count}
 pub use Rattle.site_bounds.specs.Working.{AreOfSites}
-pub use Rattle.site_bounds.specs.Working.{HasSummed, IsAnswered, AddsBounds, PassesClosed}
+pub use Rattle.site_bounds.specs.Working.{IsAnswered, AddsBounds, AreClosed, MakesRoom}
+pub use Rattle.site_bounds.specs.Working.{PassesClosed}
 pub use Rattle.site_bounds.specs.Working.{AreUndecided, AreUnsummed, AreWaiting, ArePartlyDecided}
 pub use Rattle.site_bounds.specs.Working.{greatest_total, TellsValue, IsMarked, IsSummed}
 pub use Rattle.site_bounds.specs.Working.{IsWithinRange, AreWaitingBut, SeesPair, IsLooking, Shifts}

@@ -1,6 +1,6 @@
 -- What is kept while sites are decided.
 use Rattle.std.specs.Prelude.{◌≡◌, ◌≢◌, ◌⊎◌, ℕ, ◌+◌, ◌-◌, ◌*◌, ◌<◌, ◌≤◌, Bool, true, false, List}
-use Rattle.std.specs.Prelude.{[], ◌∷◌, ◌++◌, length, replicate, slice_index_or, slice_set}
+use Rattle.std.specs.Prelude.{◌++◌, length, replicate, slice_index_or, slice_set}
 use Rattle.std.specs.Prelude.{unsigned_abs, ◌^◌, ℤ, pos, ◌+ℤ◌, ◌-ℤ◌, ◌≤ℤ◌, ◌<ℤ◌}
 use Rattle.std.specs.List.{All, Contains, sum_by}
 use Rattle.sums.specs.Sums.{sum_below, count_if}
@@ -48,6 +48,7 @@ pub record RaisesBounds (site : ℕ) (low high : ℤ) (old new : Bounds) : Type 
   pub greatest : new.greatest.items
       ≡ slice_set old.greatest.items site (bound_at old.greatest.items site +ℤ high)
   pub same : (new.choices ≡ old.choices) × (new.waiting ≡ old.waiting)
+      × (new.summed ≡ old.summed)
 
 -- the bounds of a site tell that it has this value
 abbrev pub TellsValue : Bounds → ℕ → Bool → Type 0
@@ -58,15 +59,16 @@ TellsValue b u true = bound_at b.greatest.items u <ℤ pos 0
 abbrev pub CanDecide : Bounds → ℕ → Type 0
 CanDecide b u = TellsValue b u false ⊎ TellsValue b u true
 
--- how many sites were summed: those that have bounds
+-- so many sites were passed: each was summed, or closed
 abbrev pub summed_count : Bounds → ℕ
-summed_count b = length b.least.items
+summed_count b = b.summed
 
 -- a choice of each of n sites, and two bounds of each that was summed
 pub record IsSummed (n : ℕ) (b : Bounds) : Type 0 where
   pub choices : length b.choices.items ≡ n
   pub greatest : length b.greatest.items ≡ length b.least.items
-  pub within : length b.least.items ≤ n
+  pub room : b.summed ≤ length b.least.items
+  pub most : length b.least.items ≤ n
 
 -- a choice and two bounds of each of n sites
 pub record AreOfSites (n : ℕ) (b : Bounds) : Type 0 where
@@ -77,6 +79,7 @@ pub record AreOfSites (n : ℕ) (b : Bounds) : Type 0 where
 -- there are no sites, and none waits
 pub record AreOfNoSites (b : Bounds) : Type 0 where
   pub sized : AreOfSites 0 b
+  pub summed : b.summed ≡ 0
   pub none : length b.waiting.items ≡ 0
 
 -- exactly the sites that the move can change are open, the others are at 0, none was summed, and
@@ -85,6 +88,7 @@ pub record AreUndecided (move : Move) (f : List ℕ) (b : Bounds) : Type 0 where
   pub opened : AreAllOpen move f b.choices.items
   pub least : length b.least.items ≡ 0
   pub greatest : length b.greatest.items ≡ 0
+  pub summed : b.summed ≡ 0
   pub none : length b.waiting.items ≡ 0
 
 -- there is a choice of each of n sites, none was summed, and none waits
@@ -92,11 +96,8 @@ pub record AreUnsummed (n : ℕ) (b : Bounds) : Type 0 where
   pub choices : length b.choices.items ≡ n
   pub least : length b.least.items ≡ 0
   pub greatest : length b.greatest.items ≡ 0
+  pub summed : b.summed ≡ 0
   pub none : length b.waiting.items ≡ 0
-
--- the first n sites were summed
-abbrev pub HasSummed : ℕ → Bounds → Type 0
-HasSummed n b = (length b.least.items ≡ n) × (length b.greatest.items ≡ n)
 
 -- no bound is larger
 abbrev pub IsWithinRange : ℕ → Bounds → Type 0
@@ -134,21 +135,33 @@ pub record ArePartlyDecided (m : Instance) (move : Move) (f : ℕ → ℕ) (k : 
       ≡ rise (move_value m move f) u (with_decisions decisions (λ v. false))
 
 -- these are the bounds of one site more
-pub record AddsBounds (low high : ℤ) (old new : Bounds) : Type 0 where
-  pub least : new.least.items ≡ old.least.items ++ low ∷ []
-  pub greatest : new.greatest.items ≡ old.greatest.items ++ high ∷ []
+pub record AddsBounds (site : ℕ) (low high : ℤ) (old new : Bounds) : Type 0 where
+  pub least : new.least.items ≡ slice_set old.least.items site low
+  pub greatest : new.greatest.items ≡ slice_set old.greatest.items site high
   pub choices : new.choices ≡ old.choices
   pub waiting : new.waiting ≡ old.waiting
+  pub summed : new.summed ≡ site + 1
 
--- the sites from one on, before another, are closed and have the bounds 0; the other one is open,
--- if it is a site
-pub record PassesClosed (from to : ℕ) (old new : Bounds) : Type 0 where
-  pub on : from ≤ to
+-- no site from one on, before another, is open
+abbrev pub AreClosed : ℕ → ℕ → Bounds → Type 0
+AreClosed from to b = (u : ℕ) → from ≤ u → u < to → choice_at b.choices.items u ≢ Open
+
+-- there is room for the bounds of a site, if it is one, else for those of all; new ones are 0
+pub record MakesRoom (site : ℕ) (old new : Bounds) : Type 0 where
+  pub more : ℕ
+  pub least : new.least.items ≡ old.least.items ++ replicate more (pos 0)
+  pub greatest : new.greatest.items ≡ old.greatest.items ++ replicate more (pos 0)
+  pub inside : site < length old.choices.items → site < length new.least.items
+  pub most : length new.least.items ≤ length old.choices.items
+  pub whole : site ≡ length old.choices.items → length new.least.items ≡ length old.choices.items
+
+-- the closed sites before one are passed, and there is room for its bounds
+pub record PassesClosed (to : ℕ) (old new : Bounds) : Type 0 where
+  pub on : old.summed ≤ to
   pub within : to ≤ length old.choices.items
-  pub closed : (u : ℕ) → from ≤ u → u < to → choice_at old.choices.items u ≢ Open
-  pub opened : to < length old.choices.items → choice_at old.choices.items to ≡ Open
-  pub least : new.least.items ≡ old.least.items ++ replicate (to - from) (pos 0)
-  pub greatest : new.greatest.items ≡ old.greatest.items ++ replicate (to - from) (pos 0)
+  pub closed : AreClosed old.summed to old
+  pub room : MakesRoom to old new
+  pub summed : new.summed ≡ to
   pub choices : new.choices ≡ old.choices
   pub waiting : new.waiting ≡ old.waiting
 
@@ -166,6 +179,7 @@ pub record IsMarked (site : ℕ) (value : Bool) (old new : Bounds) : Type 0 wher
   pub least : new.least ≡ old.least
   pub greatest : new.greatest ≡ old.greatest
   pub waiting : new.waiting ≡ old.waiting
+  pub summed : new.summed ≡ old.summed
 
 -- by how much a pair's rise at site u changes where another site gets this value
 abbrev pub pair_change : Instance → Move → (ℕ → ℕ) → ℕ → ℕ → Bool → Pair → (ℕ → Bool) → ℤ
@@ -222,7 +236,7 @@ pub record CallsUp (site : ℕ) (old new : Bounds) : Type 0 where
 abbrev pub IsAnswered : ℕ → Bool → Bounds → Bounds → Type 0
 IsAnswered site beside old new =
     (CallsUp site old new × (new.choices ≡ old.choices) × (new.least ≡ old.least)
-    × (new.greatest ≡ old.greatest))
+    × (new.greatest ≡ old.greatest) × (new.summed ≡ old.summed))
     ⊎ ((value : Bool) × IsMarked site value old new × TellsValue old site value × (beside ≡ false))
 
 -- the choices stay, no bound grows by more than a surplus for each, nor all greatest ones together,
@@ -231,6 +245,7 @@ pub record IsLooking (more : ℕ) (old new : Bounds) : Type 0 where
   pub choices : new.choices ≡ old.choices
   pub least_len : length new.least.items ≡ length old.least.items
   pub greatest_len : length new.greatest.items ≡ length old.greatest.items
+  pub summed : new.summed ≡ old.summed
   pub waiting : length new.waiting.items ≤ length old.waiting.items + more
   pub range : (most : ℕ) → IsWithinRange most old → IsWithinRange (most + surplus_limit * more) new
   pub total : greatest_total new ≤ greatest_total old + surplus_limit * more

@@ -19,6 +19,8 @@ pub struct Bounds {
     /// One of each site that was summed. Once the sites are decided, those of the open ones are
     /// their weights in the energy.
     pub greatest: Vec<i64>,
+    /// The sites before this one are summed or closed.
+    pub(crate) summed: usize,
     pub(crate) waiting: Vec<u32>,
 }
 
@@ -41,6 +43,7 @@ impl Bounds {
             choices: Vec::new(alloc),
             least: Vec::new(alloc),
             greatest: Vec::new(alloc),
+            summed: 0,
             waiting: Vec::new(alloc),
         }
     }
@@ -69,7 +72,7 @@ impl Bounds {
     pub(crate) fn call_up(&mut self, site: u32) -> Result<(), AllocError>
         requires { HasBounds site self.old }
         ensures same { (self.new.choices ≡ self.old.choices) × (self.new.least ≡ self.old.least)
-            × (self.new.greatest ≡ self.old.greatest) }
+            × (self.new.greatest ≡ self.old.greatest) × (self.new.summed ≡ self.old.summed) }
         ensures calls { OnOk result (CallsUp site self.old self.new) }
     {
         if self.can_decide(site as usize) {

@@ -7,6 +7,7 @@ pub mod laws;
 mod lists;
 mod own_bounds;
 mod sites;
+mod swapped;
 mod sweeps;
 mod waiting_sites;
 

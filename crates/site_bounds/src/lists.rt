@@ -4,8 +4,9 @@ ghost use Rattle.std.specs.Prelude.{false, length, OnOk, OnErr};
 ghost use Rattle.label_energies.specs.Energies.{labelling};
 ghost use Rattle.label_energies.specs.Moves.{IsSwap};
 ghost use Rattle.label_field.specs.Limits.{site_limit};
-ghost use Rattle.move_energy.specs.Choices.{open_count, is_open, AreOpenSites};
-ghost use Rattle.site_bounds.specs.Listed.{can_become_other, changes};
+ghost use Rattle.move_energy.specs.Choices.{open_count, is_open};
+ghost use Rattle.site_bounds.specs.Listed.{can_become_other, changes, listed_share};
+ghost use Rattle.site_bounds.specs.Listed.{CoversOpen};
 ghost use Rattle.site_bounds.specs.Listed.{AreListed, AreListedBelow, AreListsEmpty, CoversRest};
 
 use label_energies::Move;
@@ -15,13 +16,16 @@ use std::alloc::{AllocError, Global};
 /// So many sites are looked over at once for one to list.
 const BLOCK: usize = 32;
 
-/// The sites are listed where at most one in so many is open.
+/// The sites of an expansion are listed where at most one in so many is open.
 const LISTED_SHARE: usize = 8;
 
-/// How many sites are open, and where they are at most an eighth of all (`listed`) the rising lists
-/// of the open ones and of those whose labels can still change: the open ones, and those that were
-/// decided to get another label than they have. The lists keep their memory for the next move, at
-/// most 4.5 bytes a site.
+/// Those of a swap, which are listed among the sites that it can change.
+const SWAPPED_SHARE: usize = 2;
+
+/// How many sites are open, and where they are few (`listed`) the rising lists of the open ones and
+/// of those whose labels can still change: the open ones, and those that were decided to get
+/// another label than they have. Few are at most an eighth of all sites in an expansion, and half
+/// in a swap. The lists keep their memory for the next move, at most 6 bytes a site.
 #[derive(Drop)]
 pub struct Lists {
     pub count: usize,
@@ -42,6 +46,31 @@ fn count_open(choices: &[Choice]) -> usize
         }
     }
     count
+}
+
+/// How many choices are open, where each open site is among these.
+fn count_among(choices: &[Choice], sites: &[u32]) -> usize
+    requires among { CoversOpen choices.now sites.now }
+    ensures count { result ≡ open_count choices.now }
+    ensures few { result ≤ length choices.now }
+{
+    let mut count = 0usize;
+    for place in 0..sites.len() {
+        if choices[sites[place] as usize].is_open() {
+            count += 1;
+        }
+    }
+    count
+}
+
+/// The sites of a move are listed where at most one in so many is open.
+fn share_of(change: Move) -> usize
+    ensures { result ≡ listed_share change }
+{
+    match change {
+        Move::Expand(_) => LISTED_SHARE,
+        Move::Swap(_, _) => SWAPPED_SHARE,
+    }
 }
 
 /// Whether the label of a site can still become another.
@@ -67,23 +96,11 @@ fn has_change(at: &[u8], change: Move, choices: &[Choice], from: usize, to: usiz
 }
 
 /// Adds a site to a list where it is chosen.
-fn add_chosen(list: &mut Vec<u32>, site: u32, chosen: bool) -> Result<(), AllocError>
+pub(crate) fn add_chosen(list: &mut Vec<u32>, site: u32, chosen: bool) -> Result<(), AllocError>
     ensures { OnOk result (list.new.items ≡ list.old.items ++ cond chosen (site ∷ []) []) }
 {
     if chosen {
         list.push(site)?;
-    }
-    Ok(())
-}
-
-/// Lists the open sites.
-pub(crate) fn list_open(list: &mut Vec<u32>, choices: &[Choice]) -> Result<(), AllocError>
-    requires { length choices.now ≤ site_limit }
-    ensures { OnOk result (AreOpenSites choices.now list.new.items) }
-{
-    list.clear();
-    for site in 0..choices.len() {
-        add_chosen(list, site as u32, choices[site].is_open())?;
     }
     Ok(())
 }
@@ -197,7 +214,7 @@ impl Lists {
         ensures refused { OnErr result (self.new.listed ≡ self.old.listed) }
     {
         self.count = count_open(choices);
-        let few = self.count * LISTED_SHARE <= choices.len();
+        let few = self.count * share_of(change) <= choices.len();
         if few {
             self.list(at, change, choices)?;
         }
@@ -206,7 +223,7 @@ impl Lists {
     }
 
     /// The same. Of a swap, each site that it could change is among these: then no other is looked
-    /// at for a list.
+    /// at.
     pub(crate) fn fill_rest(
         &mut self,
         at: &[u8],
@@ -222,8 +239,8 @@ impl Lists {
         let Move::Swap(_, _) = change else {
             return self.fill(at, change, choices);
         };
-        self.count = count_open(choices);
-        let few = self.count * LISTED_SHARE <= choices.len();
+        self.count = count_among(choices, swapped);
+        let few = self.count * share_of(change) <= choices.len();
         if few {
             self.list_among(at, change, choices, swapped)?;
         }

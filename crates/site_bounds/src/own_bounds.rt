@@ -1,20 +1,26 @@
 //! The sites of a move one after another: each is summed, and decided at once where its bounds tell
 //! its value.
 ghost use Rattle.std.specs.Prelude.{◌≡◌, ◌≢◌, ◌<◌, ◌≤◌, ◌+◌, ◌-◌, ◌↔◌, ◌++◌, ℕ, pos, replicate};
-ghost use Rattle.std.specs.Prelude.{length, OnOk, IfOk};
-ghost use Rattle.site_bounds.specs.Prelude.{weights_limit, labelling, Open, One, choice_at};
-ghost use Rattle.site_bounds.specs.Prelude.{Changes};
-ghost use Rattle.site_bounds.specs.Prelude.{IsOverPairs, WhereRead, IsInBudget, SumsSite};
-ghost use Rattle.site_bounds.specs.Prelude.{summed_count, CanDecide, AreOfSites, AreOfNoSites};
-ghost use Rattle.site_bounds.specs.Prelude.{HasBounds, HasSummed, IsAnswered, AddsBounds};
-ghost use Rattle.site_bounds.specs.Prelude.{PassesClosed, AreUndecided, AreUnsummed, AreWaiting};
-ghost use Rattle.site_bounds.specs.Prelude.{ArePartlyDecided, greatest_total, StayDecided};
+ghost use Rattle.std.specs.Prelude.{length, OnOk};
+ghost use Rattle.site_bounds.specs.Prelude.{labelling, Open, One, choice_at};
+ghost use Rattle.site_bounds.specs.Prelude.{Changes, CoversOpen, AreOpenSites, site_limit};
+ghost use Rattle.site_bounds.specs.Prelude.{label_limit};
+ghost use Rattle.label_energies.specs.declared.change.Move.TheVariants.{Swap};
+ghost use Rattle.site_bounds.specs.Prelude.{IsOverPairs, IsInBudget, SumsSite};
+ghost use Rattle.site_bounds.specs.Prelude.{summed_count, AreOfNoSites};
+ghost use Rattle.site_bounds.specs.Prelude.{HasBounds, IsAnswered, AddsBounds, AreClosed};
+ghost use Rattle.site_bounds.specs.Prelude.{MakesRoom, PassesClosed, AreUndecided, AreUnsummed};
+ghost use Rattle.site_bounds.specs.Prelude.{AreWaiting, SumsNext, EndsSites, DecidesSites};
 
 use crate::Bounds;
+use crate::swapped::{list_swapped, mark_open};
 use label_energies::Move;
 use move_energy::Choice;
 use site_forms::{SiteForm, site_rises};
 use std::alloc::AllocError;
+
+/// The bounds of so many sites get room at once.
+const BLOCK: usize = 4096;
 
 /// What is known of a site before anything is summed. Where the move cannot change its label its
 /// value makes no difference, and is 0.
@@ -75,6 +81,7 @@ impl Bounds {
         self.least.reserve(sites)?;
         self.greatest.clear();
         self.greatest.reserve(sites)?;
+        self.summed = 0;
         self.waiting.clear();
         Ok(())
     }
@@ -89,27 +96,67 @@ impl Bounds {
         Ok(())
     }
 
-    /// Passes over the closed sites from one on: their bounds are 0. It answers which site is the
-    /// next, or how many there are.
-    fn pass_closed(&mut self, from: usize) -> Result<usize, AllocError>
-        requires from { from ≤ length self.old.choices.items }
-        requires summed { HasSummed from self.old }
-        ensures { IfOk result (λ to. PassesClosed from to self.old self.new) }
+    /// Opens the sites that a swap can change, and lists them. The others are at 0, and none is
+    /// summed.
+    pub(crate) fn open_swapped(
+        &mut self,
+        swapped: &mut Vec<u32>,
+        at: &[u8],
+        alpha: u32,
+        beta: u32,
+    ) -> Result<(), AllocError>
+        requires small { length at.now ≤ site_limit }
+        requires labels { (alpha < label_limit) × (beta < label_limit) }
+        ensures undecided { OnOk result (AreUndecided (Swap alpha beta) at.now self.new) }
+        ensures listed { OnOk result (AreOpenSites self.new.choices.items swapped.new.items) }
     {
-        let next = next_open(&self.choices, from);
-        fill_up(&mut self.least, next)?;
-        fill_up(&mut self.greatest, next)?;
-        Ok(next)
+        list_swapped(swapped, at, alpha as u8, beta as u8)?;
+        self.clear(at.len())?;
+        self.choices.resize(at.len(), Choice::Zero)?;
+        mark_open(&mut self.choices, swapped);
+        Ok(())
     }
 
-    /// Adds the bounds of the next site.
-    fn add_bounds(&mut self, least: i64, greatest: i64) -> Result<(), AllocError>
-        ensures adds { OnOk result (AddsBounds least greatest self.old self.new) }
-        ensures same { self.new.choices ≡ self.old.choices }
+    /// Makes room for the bounds of a site, and of some behind it: all are 0.
+    #[inline]
+    fn make_room(&mut self, site: usize) -> Result<(), AllocError>
+        requires site { site ≤ length self.old.choices.items }
+        requires sized { (length self.old.greatest.items ≡ length self.old.least.items)
+            × (length self.old.least.items ≤ length self.old.choices.items) }
+        ensures room { OnOk result (MakesRoom site self.old self.new) }
+        ensures same { (self.new.choices ≡ self.old.choices)
+            × (self.new.waiting ≡ self.old.waiting) × (self.new.summed ≡ self.old.summed) }
     {
-        self.least.push(least)?;
-        self.greatest.push(greatest)?;
+        if site < self.least.len() {
+            return Ok(());
+        }
+        let count = site + BLOCK.min(self.choices.len() - site);
+        fill_up(&mut self.least, count)?;
+        fill_up(&mut self.greatest, count)
+    }
+
+    /// Passes over the closed sites before one.
+    #[inline]
+    fn pass_to(&mut self, to: usize) -> Result<(), AllocError>
+        requires to { (summed_count self.old ≤ to) × (to ≤ length self.old.choices.items) }
+        requires closed { AreClosed (summed_count self.old) to self.old }
+        requires sized { (length self.old.greatest.items ≡ length self.old.least.items)
+            × (length self.old.least.items ≤ length self.old.choices.items) }
+        ensures { OnOk result (PassesClosed to self.old self.new) }
+    {
+        self.make_room(to)?;
+        self.summed = to;
         Ok(())
+    }
+
+    /// Writes the bounds of the next site.
+    fn add_bounds(&mut self, site: usize, least: i64, greatest: i64)
+        requires site { HasBounds site self.old }
+        ensures { AddsBounds site least greatest self.old self.new }
+    {
+        self.least[site] = least;
+        self.greatest[site] = greatest;
+        self.summed = site + 1;
     }
 
     /// Decides the site that was summed last if its bounds tell its value and no open site before
@@ -135,14 +182,43 @@ impl Bounds {
     fn sum_site(&mut self, form: &SiteForm, site: u32) -> Result<(), AllocError>
         requires over { IsOverPairs form.now }
         requires site { (site < length form.now.at.now) × (summed_count self.old ≡ site) }
+        requires bounds { HasBounds site self.old }
         requires opened { choice_at self.old.choices.items site ≡ Open }
         requires budget { IsInBudget form.now self.old }
         requires waiting { AreWaiting site self.old }
         ensures { OnOk result (SumsSite form.now site self.old self.new) }
     {
         let rises = site_rises(form, &self.choices, site);
-        self.add_bounds(rises.least, rises.greatest)?;
+        self.add_bounds(site as usize, rises.least, rises.greatest);
         self.answer(site, rises.beside)
+    }
+
+    /// Sums the next open site, decides it if its bounds tell its value, and so all sites whose
+    /// values then can be told among those that were summed before.
+    #[inline(always)]
+    fn sum_next(&mut self, form: &SiteForm, site: u32) -> Result<(), AllocError>
+        requires over { IsOverPairs form.now }
+        requires site { (site < length form.now.at.now) × (summed_count self.old ≤ site) }
+        requires closed { AreClosed (summed_count self.old) site self.old }
+        requires opened { choice_at self.old.choices.items site ≡ Open }
+        requires budget { IsInBudget form.now self.old }
+        requires waiting { AreWaiting (summed_count self.old) self.old }
+        ensures { OnOk result (SumsNext form.now site self.old self.new) }
+    {
+        self.pass_to(site as usize)?;
+        self.sum_site(form, site)?;
+        self.decide_waiting(form)
+    }
+
+    /// Passes over the closed sites behind the last open one.
+    fn pass_rest(&mut self, form: &SiteForm) -> Result<(), AllocError>
+        requires budget { IsInBudget form.now self.old }
+        requires within { summed_count self.old ≤ length form.now.at.now }
+        requires closed { AreClosed (summed_count self.old) (length form.now.at.now) self.old }
+        requires waiting { AreWaiting (summed_count self.old) self.old }
+        ensures { OnOk result (EndsSites form.now self.old self.new) }
+    {
+        self.pass_to(form.at.len())
     }
 
     /// Sums the sites one after another, but those that are decided already. Each whose bounds tell
@@ -151,26 +227,34 @@ impl Bounds {
     pub(crate) fn decide_sites(&mut self, form: &SiteForm) -> Result<(), AllocError>
         requires over { IsOverPairs form.now }
         requires unsummed { AreUnsummed (length form.now.at.now) self.old }
-        ensures sized { OnOk result (AreOfSites (length form.now.at.now) self.new) }
-        ensures total { OnOk result (greatest_total self.new ≤ weights_limit) }
-        ensures none { OnOk result ((u : ℕ) → u < length form.now.at.now →
-            choice_at self.new.choices.items u ≡ Open → ¬ CanDecide self.new u) }
-        ensures closed { OnOk result (StayDecided self.old self.new) }
-        ensures decided { OnOk result (WhereRead form.now (λ m move f.
-            ArePartlyDecided m move f 0 self.old →
-            ArePartlyDecided m move f (length form.now.at.now) self.new)) }
+        ensures { OnOk result (DecidesSites form.now self.old self.new) }
     {
         let sites = form.at.len();
         let mut site = 0usize;
         while site < sites {
-            let next = self.pass_closed(site)?;
+            let next = next_open(&self.choices, site);
             if next == sites {
-                return Ok(());
+                return self.pass_rest(form);
             }
-            self.sum_site(form, next as u32)?;
-            self.decide_waiting(form)?;
+            self.sum_next(form, next as u32)?;
             site = next + 1;
         }
-        Ok(())
+        self.pass_rest(form)
+    }
+
+    /// The same, where each open site is among these: no other is looked at.
+    pub(crate) fn decide_among(&mut self, form: &SiteForm, sites: &[u32]) -> Result<(), AllocError>
+        requires over { IsOverPairs form.now }
+        requires unsummed { AreUnsummed (length form.now.at.now) self.old }
+        requires among { CoversOpen self.old.choices.items sites.now }
+        ensures { OnOk result (DecidesSites form.now self.old self.new) }
+    {
+        for place in 0..sites.len() {
+            let site = sites[place];
+            if self.choices[site as usize].is_open() {
+                self.sum_next(form, site)?;
+            }
+        }
+        self.pass_rest(form)
     }
 }

@@ -6,14 +6,16 @@ ghost use Rattle.site_bounds.specs.Prelude.{KnowsMove, AreListsEmpty, AreFormLis
 ghost use Rattle.site_bounds.specs.Prelude.{ArePassedChoices, AreOfNoSites, IsAllowed};
 ghost use Rattle.site_bounds.specs.Prelude.{KnowsCosts, HasNoCosts, label_limit, site_limit};
 ghost use Rattle.site_bounds.specs.Prelude.{IsSwap, AreOpenSites, IsPosed, IsAsked};
+ghost use Rattle.site_bounds.specs.Prelude.{IsOverPairs, AreUnsummed, DecidesSites, AreUndecided};
+ghost use Rattle.label_energies.specs.Moves.{IsMoveOf};
+ghost use Rattle.site_forms.specs.Lists.{CoversChanges};
 
-use crate::lists::list_open;
 use crate::{Bounds, Lists};
 use cost_store::Problem;
 use label_energies::Move;
 use label_field::Pairs;
 use move_energy::{BuildError, Choice, Neighbours, group_pairs, test_terms};
-use site_forms::FormLists;
+use site_forms::{FormLists, SiteForm};
 use std::alloc::{AllocError, Global};
 
 /// The neighbours of each site by a list of pairs, made once a run, and the room in which the sites
@@ -28,34 +30,66 @@ pub struct Deciding {
     swapped: Vec<u32>,
 }
 
-/// Reads the costs of a move whose sites are open. Of a swap, which can change few of the sites,
-/// these are listed first, and no other is looked at.
-fn read_costs<F: Fn(u32, u32) -> i64 + Sync, V: Fn(u32, u32) -> i64 + Sync>(
-    numbers: &mut FormLists,
+/// Opens the sites that a move can change. Those of a swap, which can be few, are listed.
+fn open_move(
+    bounds: &mut Bounds,
     swapped: &mut Vec<u32>,
-    problem: &Problem<F, V>,
     at: &[u8],
     change: Move,
-    choices: &[Choice],
+) -> Result<(), AllocError>
+    requires small { length at.now ≤ site_limit }
+    requires labels { IsMoveOf label_limit change }
+    ensures undecided { OnOk result (AreUndecided change at.now bounds.new) }
+    ensures listed { OnOk result
+        (IsSwap change → AreOpenSites bounds.new.choices.items swapped.new.items) }
+{
+    match change {
+        Move::Expand(_) => bounds.open_sites(at, change),
+        Move::Swap(alpha, beta) => bounds.open_swapped(swapped, at, alpha, beta),
+    }
+}
+
+/// Reads the costs of a move. Of a swap, whose sites are listed, no other is looked at.
+fn read_costs<F: Fn(u32, u32) -> i64 + Sync, V: Fn(u32, u32) -> i64 + Sync>(
+    numbers: &mut FormLists,
+    swapped: &[u32],
+    problem: &Problem<F, V>,
+    ends: &Neighbours,
+    at: &[u8],
+    change: Move,
 ) -> Result<(), AllocError>
     requires posed { IsPosed F.Fn V.Fn problem.now }
     requires asked { IsAsked problem.now at.now change }
+    requires by_site { AreBySite problem.now.pairs ends.now }
     requires few { problem.now.data_cost.labels ≤ label_limit }
-    requires small { length at.now ≤ site_limit }
     requires known { KnowsCosts F.Fn V.Fn problem.now numbers.old }
-    requires opened { AreAllOpen change at.now choices.now }
+    requires covers { IsSwap change → CoversChanges change at.now swapped.now }
     ensures known { KnowsCosts F.Fn V.Fn problem.now numbers.new }
-    ensures lists { OnOk result (AreFormLists at.now numbers.new) }
+    ensures lists { OnOk result (AreFormLists problem.now.pairs ends.now at.now numbers.new) }
     ensures read { OnOk result (WhereMeant F.Fn V.Fn problem.now
-        (λ m. IsReadOf m change at.now numbers.new)) }
-    ensures listed { OnOk result (IsSwap change → AreOpenSites choices.now swapped.new.items) }
+        (λ m. IsReadOf m change ends.now at.now numbers.new)) }
 {
     match change {
-        Move::Expand(_) => numbers.read(problem, at, change),
-        Move::Swap(_, _) => {
-            list_open(swapped, choices)?;
-            numbers.read_among(problem, at, change, swapped)
-        }
+        Move::Expand(_) => numbers.read(problem, ends, at, change),
+        Move::Swap(_, _) => numbers.read_among(problem, ends, at, change, swapped),
+    }
+}
+
+/// Decides the open sites of a move. Of a swap, of which they are listed, no other is looked at.
+fn decide_open(
+    bounds: &mut Bounds,
+    form: &SiteForm,
+    change: Move,
+    swapped: &[u32],
+) -> Result<(), AllocError>
+    requires over { IsOverPairs form.now }
+    requires unsummed { AreUnsummed (length form.now.at.now) bounds.old }
+    requires listed { IsSwap change → AreOpenSites bounds.old.choices.items swapped.now }
+    ensures { OnOk result (DecidesSites form.now bounds.old bounds.new) }
+{
+    match change {
+        Move::Expand(_) => bounds.decide_sites(form),
+        Move::Swap(_, _) => bounds.decide_among(form, swapped),
     }
 }
 
@@ -100,12 +134,13 @@ impl Deciding {
     /// sites do. Refused: the first pair whose term is not regular; smooth costs that were stored
     /// as a metric are not tested, since a metric makes no other term.
     ///
-    /// Sites that the move cannot change are `Zero` from the beginning. It looks at the pairs of
-    /// each other site once, and once more where it decides the site (Iyer, Jegelka, Bilmes, ICML
-    /// 2013). A site that it decides as soon as it is summed is not looked at again if none of its
-    /// neighbours before it is open. Then `bounds.greatest` says of each open site by how much the
-    /// energy rises where it turns to 1 while every other open site is at 0; `lists` has how many
-    /// sites are open, and lists them where they are few; `numbers` has the costs of the move.
+    /// Sites that the move cannot change are `Zero` from the beginning. Those that a swap can
+    /// change are listed, and then no other is looked at. It looks at the pairs of each site that
+    /// the move can change once, and once more where it decides the site (Iyer, Jegelka, Bilmes,
+    /// ICML 2013). A site that it decides as soon as it is summed is not looked at again if none of
+    /// its neighbours before it is open. Then `bounds.greatest` says of each open site by how much
+    /// the energy rises where it turns to 1 while every other open site is at 0; `lists` has how
+    /// many sites are open, and lists them where they are few; `numbers` has the costs of the move.
     /// Where it refuses, nothing is listed, and no more is said of `bounds` and `lists`.
     pub fn decide<F: Fn(u32, u32) -> i64 + Sync, V: Fn(u32, u32) -> i64 + Sync>(
         &mut self,
@@ -125,17 +160,17 @@ impl Deciding {
     {
         self.lists.listed = false;
         test_terms(problem, at, change)?;
-        self.bounds.open_sites(at, change)?;
+        open_move(&mut self.bounds, &mut self.swapped, at, change)?;
         read_costs(
             &mut self.numbers,
-            &mut self.swapped,
+            &self.swapped,
             problem,
+            &self.ends,
             at,
             change,
-            &self.bounds.choices,
         )?;
         let form = self.numbers.form(&problem.pairs, &self.ends, at);
-        self.bounds.decide_sites(&form)?;
+        decide_open(&mut self.bounds, &form, change, &self.swapped)?;
         self.lists
             .fill_rest(at, change, &self.bounds.choices, &self.swapped)?;
         Ok(())
@@ -156,9 +191,10 @@ impl Deciding {
         ensures costs { KnowsCosts F.Fn V.Fn problem.now self.new.numbers }
         ensures listed { self.new.lists.listed ≡ false }
         ensures opened { OnOk result (AreAllOpen change at.now self.new.bounds.choices.items) }
-        ensures lists { OnOk result (AreFormLists at.now self.new.numbers) }
+        ensures lists { OnOk result
+            (AreFormLists problem.now.pairs self.new.ends at.now self.new.numbers) }
         ensures read { WhereMeant F.Fn V.Fn problem.now (λ m. OnOk result
-            (IsAllowed m change (labelling at.now) × IsReadOf m change at.now
+            (IsAllowed m change (labelling at.now) × IsReadOf m change self.new.ends at.now
             self.new.numbers)) }
         ensures passed { WhereMeant F.Fn V.Fn problem.now (λ m. OnOk result
             (ArePassedChoices m change (labelling at.now)
@@ -168,14 +204,14 @@ impl Deciding {
     {
         self.lists.listed = false;
         test_terms(problem, at, change)?;
-        self.bounds.open_sites(at, change)?;
+        open_move(&mut self.bounds, &mut self.swapped, at, change)?;
         read_costs(
             &mut self.numbers,
-            &mut self.swapped,
+            &self.swapped,
             problem,
+            &self.ends,
             at,
             change,
-            &self.bounds.choices,
         )?;
         Ok(())
     }

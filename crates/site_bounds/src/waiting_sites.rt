@@ -57,7 +57,7 @@ impl Bounds {
         ensures sized { (length self.new.least.items ≡ length self.old.least.items)
             × (length self.new.greatest.items ≡ length self.old.greatest.items) }
         ensures same { (self.new.choices ≡ self.old.choices)
-            × (self.new.waiting ≡ self.old.waiting) }
+            × (self.new.waiting ≡ self.old.waiting) × (self.new.summed ≡ self.old.summed) }
     {
         self.raise(
             site,
@@ -92,7 +92,7 @@ impl Bounds {
         ensures { IsTrue result ↔
             ((site < summed_count self.now) × (choice_at self.now.choices.items site ≡ Open)) }
     {
-        (site as usize) < self.least.len() && self.choices[site as usize].is_open()
+        (site as usize) < self.summed && self.choices[site as usize].is_open()
     }
 
     /// Sees the pair at a place of a site with the site's value. A neighbour that was not summed

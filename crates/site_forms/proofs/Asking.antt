@@ -15,15 +15,17 @@ use Rattle.site_forms.specs.Lists.{AreCostsSmall, GetsCostOf, KnowsCosts, HasNoC
 apart_places : (a b one other : ℕ) → b < 256 → other < 256 → a * 256 + b ≡ one * 256 + other → (a ≡ one) × (b ≡ other)
 apart_places a b one other l h same = (omega (arith, l, h, same), omega (arith, l, h, same))
 
-pub written_cost : (m : Instance) (one other place cost : ℕ) (old : List ℕ) → other < 256 → place ≡ one * 256 + other → place < length old → cost ≡ m.smooth_cost one other
+pub written_cost : (m : Instance) (one other place cost : ℕ) (old : List ℕ) → other < 256 → place ≡ one * 256 + other → place < length old
+    → ((weight : ℕ) → weight * cost ≡ m.smooth_cost weight one other)
     → GetsCostOf m one other old (slice_set old place cost)
 written_cost m one other place cost old h at inside is = record {
-  cost = ap (slice_index (slice_set old place cost)) (sym at) ∙ get_or-set_same old place cost 0 inside ∙ is;
+  cost = λ w. ap (λ k. w * slice_index (slice_set old place cost) k) (sym at) ∙ ap (λ c. w * c) (get_or-set_same old place cost 0 inside) ∙ is w;
   kept = λ a b l had. elim (cases_eq (a * 256 + b) place) [
     | inl same ↦
         let both = apart_places a b one other l h (same ∙ at) in
-        ap (slice_index (slice_set old place cost)) same ∙ get_or-set_same old place cost 0 inside ∙ is ∙ (λ i. m.smooth_cost (sym both.0 i) (sym both.1 i))
-    | inr off ↦ get_or-set_other old place (a * 256 + b) cost 0 off ∙ had
+        λ w. ap (λ k. w * slice_index (slice_set old place cost) k) same ∙ ap (λ c. w * c) (get_or-set_same old place cost 0 inside)
+        ∙ is w ∙ (λ i. m.smooth_cost w (sym both.0 i) (sym both.1 i))
+    | inr off ↦ λ w. ap (λ c. w * c) (get_or-set_other old place (a * 256 + b) cost 0 off) ∙ had w
   ];
 }
 

@@ -9,3 +9,4 @@ pub mod Filling
 pub mod Asking
 pub mod Taking
 pub mod Near
+pub mod ByPlace

@@ -54,7 +54,7 @@ form_tells m move f ends pairs by_site u x inside =
     sym (risen_all m move f ends u x pairs by_site inside)
     ∙ ap (λ z. data_rise m move f u +ℤ z)
     (int_sum_below-same (degree ends u) (λ i. pair_rise m move f u x (pair_of ends u i)) (λ i. place_rise (move_form m move f ends) x u (neighbours_start ends u + i))
-    (λ i l. sym (place_is m move f ends u (neighbours_start ends u + i) x (pair_has (IsPair m.sites) (record { sites = m.sites; list = m.pairs }) ends u i pairs by_site inside l))))
+    (λ i l. sym (place_is m move f ends u (neighbours_start ends u + i) x (pair_has (IsPair m.sites) (record { sites = m.sites; list = m.pairs; numbered = false }) ends u i pairs by_site inside l))))
 
 -- of a regular term
 first_falls : (a b c d : ℕ) → a + d ≤ b + c → (pos d -ℤ pos b) ≤ℤ (pos c -ℤ pos a)
@@ -69,7 +69,7 @@ pub places_fall : (m : Instance) (move : Move) (f : ℕ → ℕ) (ends : Neighbo
     → neighbours_start ends u ≤ place → place < neighbours_start ends (u + 1) → end_rise_at m move f ends true u place ≤ℤ end_rise_at m move f ends false u place
 places_fall m move f ends u place pairs by_site allowed inside from to =
     from_falls m move f (is_first ends u place) u (neighbour_at ends place) (weight_at ends place)
-    (beside_has (IsRegularPair m move f) (record { sites = m.sites; list = m.pairs }) ends u place allowed by_site inside from to)
+    (beside_has (IsRegularPair m move f) (record { sites = m.sites; list = m.pairs; numbered = false }) ends u place allowed by_site inside from to)
 
 pub form_difference : (m : Instance) (move : Move) (f : ℕ → ℕ) (ends : Neighbours) → IsInstance m → AreNeighboursOf m ends → (x : ℕ → Bool)
     → form_value (move_form m move f ends) x ≡ move_value m move f x -ℤ move_value m move f (λ p. false)

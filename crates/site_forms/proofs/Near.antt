@@ -8,6 +8,7 @@ use Rattle.label_energies.specs.declared.change.Move.{Move}
 use Rattle.label_energies.specs.Energies.{Instance, labelling}
 use Rattle.label_energies.specs.Moves.{label_after}
 use Rattle.move_energy.specs.MoveValues.{data_rise}
+use Rattle.move_energy.specs.declared.by_site.Neighbours.{Neighbours}
 use Rattle.site_forms.specs.Fields.{own_at}
 use Rattle.site_forms.specs.declared.lists.FormLists.{FormLists}
 use Rattle.site_forms.specs.Lists.{with_costs_at, AreRisesNear, CoversChanges, IsReadNear, IsReadOf}
@@ -77,11 +78,9 @@ near_rise m move at asked sites u l covers all =
       | inr other ↦ rise_by_asked m move f asked (λ _. true) u (All-contains (λ p. asked p ≡ true) sites u all (covers.each u l other))
     ]
 
-pub all_read : (m : Instance) (move : Move) (at : List ℕ) (lists : FormLists) (sites : List ℕ) → CoversChanges move at sites → IsReadNear m move at lists sites → IsReadOf m move at lists
-all_read m move at lists sites covers near = record {
-  sites = near.read.sites;
-  labels = near.read.labels;
-  after = near.read.after;
-  costs = near.read.costs;
+pub all_read : (m : Instance) (move : Move) (ends : Neighbours) (at : List ℕ) (lists : FormLists) (sites : List ℕ) → CoversChanges move at sites → IsReadNear m move ends at lists sites
+    → IsReadOf m move ends at lists
+all_read m move ends at lists sites covers near = record {
+  pairs = (let read = near.read.pairs in record { sites = read.sites; labels = read.labels; after = read.after; costs = read.costs; rises = read.rises });
   own_are = λ u l. near.read.own_are u l ∙ near_rise m move at near.asked sites u l covers near.covers;
 }

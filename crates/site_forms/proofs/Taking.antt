@@ -11,9 +11,10 @@ use Rattle.move_energy.proofs.Values.{label_below}
 use Rattle.move_energy.specs.MoveValues.{data_rise}
 use Rattle.move_energy.specs.declared.rises.EndRises.{EndRises}
 use Rattle.site_forms.specs.declared.smooth_costs.AskedCosts.{AskedCosts}
-use Rattle.site_forms.specs.Fields.{own_at, IsMadeLabel, AreReadOf, HaveRowsOf, AreSymmetric, AreUnitRises, unit_rises_at, AreReadableLists}
+use Rattle.site_forms.specs.Fields.{own_at, IsMadeLabel, AreRisesRead, HaveRowsOf, AreSymmetric, AreUnitRises, unit_rises_at, AreReadableLists}
+use Rattle.move_energy.specs.declared.by_site.Neighbours.{Neighbours}
 use Rattle.site_forms.specs.declared.lists.FormLists.{FormLists}
-use Rattle.site_forms.specs.Lists.{was_asked, AreAskedCosts, AreMadeAsked, AreCostsSmall, IsReadNear}
+use Rattle.site_forms.specs.Lists.{was_asked, AreAskedCosts, AreMadeAsked, AreMoveLabels, AreCostsSmall, ArePairsRead, with_costs_at, IsReadNear}
 use Rattle.site_forms.proofs.Entries.{site_label_within, label_within}
 
 pub some_label : (k : ℕ) (move : Move) → IsMoveOf k move → 0 < k
@@ -27,13 +28,11 @@ made_was_asked : (move : Move) (at : List ℕ) (label : ℕ) (asked : AskedCosts
 made_was_asked move at label asked each made =
     ap (was_asked asked) (made.3 ∙ ap (λ old. label_after move old made.1) (sym made.2.2)) ∙ each made.2.0 made.1 made.2.1
 
-pub read_of : {F V : Type 0} (f : Closure F) (v : Closure V) (problem : Problem F V) (at : List ℕ) (move : Move) (m : Instance) (own : List ℤ) (stays turns : List ℕ) (asked : AskedCosts)
-    → IsMeant f v problem m → IsAsked problem at move → AreAskedCosts f v problem asked → AreMadeAsked move at asked
-    → ((old : ℕ) → old < problem.data_cost.labels → slice_index stays old ≡ label_after move old false)
-    → ((old : ℕ) → old < problem.data_cost.labels → slice_index turns old ≡ label_after move old true)
-    → ((u : ℕ) → u < length at → own_at own u ≡ data_rise m move (labelling at) u)
-    → AreReadOf m move own at stays turns asked.costs.items
-read_of {F} {V} f v problem at move m own stays turns asked meant is known made low high rises =
+pub read_of : {F V : Type 0} (f : Closure F) (v : Closure V) (problem : Problem F V) (ends : Neighbours) (at : List ℕ) (move : Move) (m : Instance) (lists : FormLists)
+    → IsMeant f v problem m → IsAsked problem at move → AreAskedCosts f v problem lists.smooth → AreMoveLabels problem.data_cost.labels move lists
+    → (lists.listed ≡ false → AreMadeAsked move at lists.smooth) → (lists.listed ≡ true → AreRisesRead m move ends at lists.rises.items)
+    → ArePairsRead m move ends at lists
+read_of {F} {V} f v problem ends at move m lists meant is known become made rises =
     let labels : problem.data_cost.labels ≡ m.labels = sym meant.labels_are in
     let L : ℕ → Type 0 = λ n. All (λ l. l < n) at in
     let M : ℕ → Type 0 = λ n. IsMoveOf n move in
@@ -42,12 +41,23 @@ read_of {F} {V} f v problem at move m own stays turns asked meant is known made 
     record {
       sites = is.sites ∙ sym meant.sites_are;
       labels = within;
-      after = λ old l. (let below : old < problem.data_cost.labels = omega (arith, l, labels) in (low old below, high old below));
-      costs = λ one other a b.
+      after = λ old l. (let below : old < problem.data_cost.labels = omega (arith, l, labels) in (become.stays_are old below, become.turns_are old below));
+      costs = λ weighted one other w a b.
           known.costs m meant one other (made_within m.labels move at one of within a) (made_within m.labels move at other of within b)
-          (made_was_asked move at one asked made a) (made_was_asked move at other asked made b);
-      own_are = rises;
+          (made_was_asked move at one lists.smooth (made weighted) a) (made_was_asked move at other lists.smooth (made weighted) b) w;
+      rises = rises;
     }
+
+-- lists of labels that stay as they were
+pub become_still : (labels : ℕ) (move : Move) (old new : FormLists) → new.stays ≡ old.stays → new.turns ≡ old.turns → AreMoveLabels labels move old → AreMoveLabels labels move new
+become_still labels move old new low high are = record {
+  stays_len = ap (λ (v : _). length v.items) low ∙ are.stays_len;
+  turns_len = ap (λ (v : _). length v.items) high ∙ are.turns_len;
+  stays_are = λ l below. ap (λ (v : _). slice_index v.items l) low ∙ are.stays_are l below;
+  turns_are = λ l below. ap (λ (v : _). slice_index v.items l) high ∙ are.turns_are l below;
+  stays_below = λ l. (let e = ap (λ (v : _). slice_index v.items l) low in let b = are.stays_below l in omega (arith, e, b));
+  turns_below = λ l. (let e = ap (λ (v : _). slice_index v.items l) high in let b = are.turns_below l in omega (arith, e, b));
+}
 
 -- lists of labels below k have rows in the costs of k labels
 pub rows_within : (k : ℕ) (list smooth : List ℕ) → ((old : ℕ) → slice_index list old < k) → k * 256 ≤ length smooth → HaveRowsOf list smooth
@@ -76,29 +86,16 @@ lists_of labels own at stays turns smooth symmetric few table within most own_le
   rises = λ yes first one other a b. rises yes first one other (site_label_within at labels one within a) (site_label_within at labels other within b);
 }
 
+-- what was read of pairs does not hang on what labels cost sites
+pub pairs_near : (m : Instance) (asked : ℕ → Bool) (move : Move) (ends : Neighbours) (at : List ℕ) (lists : FormLists) → ArePairsRead m move ends at lists
+    → ArePairsRead (with_costs_at asked m) move ends at lists
+pairs_near m asked move ends at lists read = record { sites = read.sites; labels = read.labels; after = read.after; costs = read.costs; rises = read.rises }
+
 -- so of lists that have no own rise yet
-pub begun_of : {F V : Type 0} (f : Closure F) (v : Closure V) (problem : Problem F V) (at : List ℕ) (move : Move) (m : Instance) (lists : FormLists)
-    → IsMeant f v problem m → IsAsked problem at move → AreAskedCosts f v problem lists.smooth → AreMadeAsked move at lists.smooth
-    → ((old : ℕ) → old < problem.data_cost.labels → slice_index lists.stays.items old ≡ label_after move old false)
-    → ((old : ℕ) → old < problem.data_cost.labels → slice_index lists.turns.items old ≡ label_after move old true)
-    → ((u : ℕ) → own_at lists.own.items u ≡ pos 0)
-    → IsReadNear m move at lists []
-begun_of {F} {V} f v problem at move m lists meant is known made low high zeros =
-    let labels : problem.data_cost.labels ≡ m.labels = sym meant.labels_are in
-    let L : ℕ → Type 0 = λ n. All (λ l. l < n) at in
-    let M : ℕ → Type 0 = λ n. IsMoveOf n move in
-    let within = subst L labels is.labels in
-    let of = subst M labels is.move_of in
-    record {
-      asked = λ p. false;
-      covers = All-nil _;
-      read = record {
-        sites = is.sites ∙ sym meant.sites_are;
-        labels = within;
-        after = λ old l. (let below : old < problem.data_cost.labels = omega (arith, l, labels) in (low old below, high old below));
-        costs = λ one other a b.
-            known.costs m meant one other (made_within m.labels move at one of within a) (made_within m.labels move at other of within b)
-            (made_was_asked move at one lists.smooth made a) (made_was_asked move at other lists.smooth made b);
-        own_are = λ u l. zeros u;
-      };
-    }
+pub begun_of : (m : Instance) (move : Move) (ends : Neighbours) (at : List ℕ) (lists : FormLists) → ArePairsRead m move ends at lists
+    → ((u : ℕ) → own_at lists.own.items u ≡ pos 0) → IsReadNear m move ends at lists []
+begun_of m move ends at lists read zeros = record {
+  asked = λ p. false;
+  covers = All-nil _;
+  read = record { pairs = pairs_near m (λ p. false) move ends at lists read; own_are = λ u l. zeros u };
+}

@@ -6,12 +6,12 @@ use Rattle.label_field.specs.Limits.{site_limit, label_limit, weight_limit}
 use Rattle.label_energies.specs.declared.change.Move.{Move}
 use Rattle.label_energies.specs.Energies.{Instance, labelling}
 use Rattle.label_energies.specs.Moves.{label_after}
-use Rattle.cost_store.specs.Limits.{site_cost_limit}
+use Rattle.cost_store.specs.Limits.{site_cost_limit, pair_cost_limit}
 use Rattle.move_energy.specs.declared.by_site.Neighbours.{Neighbours}
-use Rattle.move_energy.specs.BySite.{neighbours_start, neighbour_at, weight_at}
+use Rattle.move_energy.specs.BySite.{neighbours_start, neighbour_at, weight_at, is_first}
 use Rattle.move_energy.specs.MoveValues.{data_rise}
 use Rattle.move_energy.specs.declared.rises.EndRises.{EndRises}
-use Rattle.move_energy.specs.Rising.{entry_place, table_labels}
+use Rattle.move_energy.specs.Rising.{entry_place, table_labels, AreRises}
 
 -- what a pair of weight 1 costs by a table of costs, whose first end, or its second, has the one
 -- label and its other end the other
@@ -66,8 +66,7 @@ IsMadeLabel move at label =
 abbrev pub own_at : List ℤ → ℕ → ℤ
 own_at own u = slice_index_or own u (pos 0)
 
--- the places of n sites: those of a site stand together, and at each is a site, with the weight of
--- a pair
+-- the places of n sites: those of a site stand together, and at each is a site
 pub record ArePlaces (n : ℕ) (ends : Neighbours) : Type 0 where
   pub few_sites : n ≤ site_limit
   pub starts_len : length ends.starts.items ≡ n + 1
@@ -78,8 +77,21 @@ pub record ArePlaces (n : ℕ) (ends : Neighbours) : Type 0 where
   pub few_places : length ends.heads.items ≤ 8388608
   pub inside : (u place : ℕ) → u < n → neighbours_start ends u ≤ place
       → place < neighbours_start ends (u + 1) → neighbour_at ends place < n
-  pub weights : (u place : ℕ) → u < n → neighbours_start ends u ≤ place
-      → place < neighbours_start ends (u + 1) → weight_at ends place ≤ weight_limit
+
+-- the weights there are in their limit
+abbrev pub AreLight : ℕ → Neighbours → Type 0
+AreLight n ends = (u place : ℕ) → u < n → neighbours_start ends u ≤ place
+    → place < neighbours_start ends (u + 1) → weight_at ends place ≤ weight_limit
+
+-- none of the rises is larger than a pair's cost
+abbrev pub AreRisesSmall : List EndRises → Type 0
+AreRisesSmall rises = (place : ℕ) → (unsigned_abs (rises_in rises place).low ≤ pair_cost_limit)
+    × (unsigned_abs (rises_in rises place).high ≤ pair_cost_limit)
+
+-- a list has two rises for each place, none of them large
+pub record AreListedRises (ends : Neighbours) (rises : List EndRises) : Type 0 where
+  pub size : length rises ≡ length ends.heads.items
+  pub small : AreRisesSmall rises
 
 -- what the neighbours say of all places at once
 pub record AreFlagsOf (ends : Neighbours) (rising even : Bool) (weight : ℕ) : Type 0 where
@@ -108,20 +120,45 @@ pub record AreReadableLists (own : List ℤ) (at stays turns smooth : List ℕ) 
       → IsSiteLabel at other
       → AreUnitRises stays turns smooth first own other (unit_rises_at table first own other)
 
--- the lists are of these sites and their places
+-- the lists are of these sites and their places: what a pair rises by is told by its weight and the
+-- labels of its ends, or else listed at each place
 pub record AreReadable (ends : Neighbours) (own : List ℤ) (at stays turns smooth : List ℕ)
-    (symmetric few : Bool) (table : List EndRises) : Type 0 where
+    (symmetric few : Bool) (table : List EndRises) (listed : Bool) (rises : List EndRises)
+    : Type 0 where
   pub places : ArePlaces (length at) ends
   pub numbers : AreReadableLists own at stays turns smooth symmetric few table
+  pub light : listed ≡ false → AreLight (length at) ends
+  pub by_place : listed ≡ true → AreListedRises ends rises
 
--- they were read of a move from these labels: what each label becomes, what the labels that the
--- move makes cost beside one another, and what each site's own rise is
-pub record AreReadOf (m : Instance) (move : Move) (own : List ℤ) (at stays turns smooth : List ℕ)
+-- what the labels that a move makes cost beside one another was read of it
+abbrev pub AreCostsRead : Instance → Move → List ℕ → List ℕ → Type 0
+AreCostsRead m move at smooth =
+    (one other weight : ℕ) → IsMadeLabel move at one → IsMadeLabel move at other
+    → weight * slice_index smooth (one * label_limit + other) ≡ m.smooth_cost weight one other
+
+-- what the pair at a place of a site rises by was read of it
+abbrev pub AreRisesOf : Instance → Move → Neighbours → List ℕ → ℕ → ℕ → EndRises → Type 0
+AreRisesOf m move ends at u place rises =
+    AreRises m move (weight_at ends place) (is_first ends u place) (labelling at u)
+    (labelling at (neighbour_at ends place)) rises
+
+-- so it was at each place of the first n sites
+abbrev pub AreRisesBelow : ℕ → Instance → Move → Neighbours → List ℕ → List EndRises → Type 0
+AreRisesBelow n m move ends at rises =
+    (u place : ℕ) → u < n → neighbours_start ends u ≤ place
+    → place < neighbours_start ends (u + 1)
+    → AreRisesOf m move ends at u place (rises_in rises place)
+
+-- and of all
+abbrev pub AreRisesRead : Instance → Move → Neighbours → List ℕ → List EndRises → Type 0
+AreRisesRead m move ends at rises = AreRisesBelow (length at) m move ends at rises
+
+-- the lists were read of a move from these labels: what each label becomes, and what each site's
+-- own rise is
+pub record AreReadOf (m : Instance) (move : Move) (own : List ℤ) (at stays turns : List ℕ)
     : Type 0 where
   pub sites : length at ≡ m.sites
   pub labels : All (λ label. label < m.labels) at
   pub after : (old : ℕ) → old < m.labels → (slice_index stays old ≡ label_after move old false)
       × (slice_index turns old ≡ label_after move old true)
-  pub costs : (one other : ℕ) → IsMadeLabel move at one → IsMadeLabel move at other
-      → slice_index smooth (one * label_limit + other) ≡ m.smooth_cost one other
   pub own_are : (u : ℕ) → u < length at → own_at own u ≡ data_rise m move (labelling at) u

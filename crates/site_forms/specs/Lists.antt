@@ -1,18 +1,22 @@
 -- The lists of which a form is lent.
 use Rattle.std.specs.Prelude.{◌≡◌, ℕ, ◌+◌, ◌*◌, ◌<◌, ◌≤◌, Bool, true, false, cond, ℤ, List, []}
-use Rattle.std.specs.Prelude.{length}
+use Rattle.std.specs.Prelude.{length, unsigned_abs}
 use Rattle.std.specs.Prelude.{slice_index, slice_index_or}
 use Rattle.std.specs.List.{All, Contains}
 use Rattle.label_field.specs.Limits.{label_limit}
+use Rattle.label_field.specs.PairLists.{PairList}
 use Rattle.label_energies.specs.declared.change.Move.{Move}
 use Rattle.label_energies.specs.declared.change.Move.TheVariants.{Expand, Swap}
 use Rattle.label_energies.specs.Energies.{Instance, labelling}
 use Rattle.label_energies.specs.Moves.{label_after}
+use Rattle.cost_store.specs.Limits.{site_cost_limit}
 use Rattle.cost_store.specs.declared.problem.Problem.{Problem}
 use Rattle.cost_store.specs.Posed.{Closure, WhereMeant}
+use Rattle.move_energy.specs.declared.by_site.Neighbours.{Neighbours}
 use Rattle.move_energy.specs.Choices.{Changes}
 use Rattle.move_energy.specs.MoveValues.{data_rise}
 use Rattle.site_forms.specs.Fields.{AreReadableLists, AreReadOf, AreSymmetric, own_at}
+use Rattle.site_forms.specs.Fields.{AreListedRises, AreCostsRead, AreRisesRead}
 use Rattle.site_forms.specs.declared.lists.FormLists.{FormLists}
 use Rattle.site_forms.specs.declared.smooth_costs.AskedCosts.{AskedCosts}
 
@@ -26,10 +30,11 @@ was_asked asked label = slice_index_or asked.labels.items label false
 abbrev pub AreCostsSmall : List ℕ → Type 0
 AreCostsSmall costs = (place : ℕ) → slice_index costs place ≤ 10000
 
--- the list has what the two labels cost a pair of weight 1
+-- the list has what the two labels cost a pair of weight 1: a pair costs its weight times that
 abbrev pub HasCostOf : Instance → List ℕ → ℕ → ℕ → Type 0
 HasCostOf m costs one other =
-    slice_index costs (one * label_limit + other) ≡ m.smooth_cost one other
+    (weight : ℕ) → weight * slice_index costs (one * label_limit + other)
+    ≡ m.smooth_cost weight one other
 
 -- each such cost that the list had, it has
 abbrev pub KeepsCostsOf : Instance → List ℕ → List ℕ → Type 0
@@ -72,6 +77,17 @@ abbrev pub AreMoveLabelsAsked : Move → AskedCosts → Type 0
 AreMoveLabelsAsked (Expand a) asked = was_asked asked a ≡ true
 AreMoveLabelsAsked (Swap a b) asked = (was_asked asked a ≡ true) × (was_asked asked b ≡ true)
 
+-- the lists have what each of so many labels becomes by a move
+pub record AreMoveLabels (labels : ℕ) (move : Move) (lists : FormLists) : Type 0 where
+  pub stays_len : length lists.stays.items ≡ label_limit
+  pub turns_len : length lists.turns.items ≡ label_limit
+  pub stays_are : (old : ℕ) → old < labels
+      → slice_index lists.stays.items old ≡ label_after move old false
+  pub turns_are : (old : ℕ) → old < labels
+      → slice_index lists.turns.items old ≡ label_after move old true
+  pub stays_below : (old : ℕ) → slice_index lists.stays.items old < labels
+  pub turns_below : (old : ℕ) → slice_index lists.turns.items old < labels
+
 -- each label that the move makes of a site's was asked
 abbrev pub AreMadeAsked : Move → List ℕ → AskedCosts → Type 0
 AreMadeAsked move at asked =
@@ -88,15 +104,47 @@ KnowsCosts {F} {V} f v problem lists = AreAskedCosts f v problem lists.smooth
 abbrev pub HasNoCosts : FormLists → Type 0
 HasNoCosts lists = (lists.smooth.labels.items ≡ []) × (lists.smooth.costs.items ≡ [])
 
--- the lists have numbers for each site, label and two labels, none of them large
-abbrev pub AreFormLists : List ℕ → FormLists → Type 0
-AreFormLists at lists = AreReadableLists lists.own.items at lists.stays.items lists.turns.items
+-- the lists have numbers for each site, label and two labels, none of them large; and, where the
+-- pairs are numbered, for each place
+pub record AreFormLists (pairs : PairList) (ends : Neighbours) (at : List ℕ) (lists : FormLists)
+    : Type 0 where
+  pub numbers : AreReadableLists lists.own.items at lists.stays.items lists.turns.items
+      lists.smooth.costs.items lists.smooth.symmetric lists.few lists.table.items
+  pub kind : lists.listed ≡ pairs.numbered
+  pub by_place : lists.listed ≡ true → AreListedRises ends lists.rises.items
+
+-- with own rises that are not large they have numbers for each site too
+abbrev pub AreLabelLists : List ℕ → FormLists → Type 0
+AreLabelLists at lists =
+    (own : List ℤ) → length own ≡ length at
+    → ((u : ℕ) → unsigned_abs (own_at own u) ≤ site_cost_limit)
+    → AreReadableLists own at lists.stays.items lists.turns.items
     lists.smooth.costs.items lists.smooth.symmetric lists.few lists.table.items
 
--- they were read of a move from these labels
-abbrev pub IsReadOf : Instance → Move → List ℕ → FormLists → Type 0
-IsReadOf m move at lists = AreReadOf m move lists.own.items at lists.stays.items
-    lists.turns.items lists.smooth.costs.items
+-- the same but for the own rises
+pub record ArePairLists (pairs : PairList) (ends : Neighbours) (at : List ℕ) (lists : FormLists)
+    : Type 0 where
+  pub numbers : AreLabelLists at lists
+  pub kind : lists.listed ≡ pairs.numbered
+  pub by_place : lists.listed ≡ true → AreListedRises ends lists.rises.items
+
+-- of a move from these labels what its labels become, and what pairs cost, was read
+pub record ArePairsRead (m : Instance) (move : Move) (ends : Neighbours) (at : List ℕ)
+    (lists : FormLists) : Type 0 where
+  pub sites : length at ≡ m.sites
+  pub labels : All (λ label. label < m.labels) at
+  pub after : (old : ℕ) → old < m.labels
+      → (slice_index lists.stays.items old ≡ label_after move old false)
+      × (slice_index lists.turns.items old ≡ label_after move old true)
+  pub costs : lists.listed ≡ false → AreCostsRead m move at lists.smooth.costs.items
+  pub rises : lists.listed ≡ true → AreRisesRead m move ends at lists.rises.items
+
+-- and what labels cost the sites
+pub record IsReadOf (m : Instance) (move : Move) (ends : Neighbours) (at : List ℕ)
+    (lists : FormLists) : Type 0 where
+  pub pairs : ArePairsRead m move ends at lists
+  pub own_are : (u : ℕ) → u < length at
+      → own_at lists.own.items u ≡ data_rise m move (labelling at) u
 
 -- ---- at some sites alone
 
@@ -120,11 +168,11 @@ pub record AreRisesNear (m : Instance) (move : Move) (at : List ℕ) (own : List
       → own_at own u ≡ data_rise (with_costs_at asked m) move (labelling at) u
 
 -- the lists were read of a move from these labels, at these sites and maybe at others
-pub record IsReadNear (m : Instance) (move : Move) (at : List ℕ) (lists : FormLists)
-    (sites : List ℕ) : Type 0 where
+pub record IsReadNear (m : Instance) (move : Move) (ends : Neighbours) (at : List ℕ)
+    (lists : FormLists) (sites : List ℕ) : Type 0 where
   pub asked : ℕ → Bool
   pub covers : All (λ p. asked p ≡ true) sites
-  pub read : IsReadOf (with_costs_at asked m) move at lists
+  pub read : IsReadOf (with_costs_at asked m) move ends at lists
 
 -- these are sites, and each site that the move can change is one of them
 pub record CoversChanges (move : Move) (at sites : List ℕ) : Type 0 where

@@ -15,7 +15,8 @@ use Rattle.move_energy.specs.declared.choice.Choice.{Choice}
 use Rattle.move_energy.specs.declared.rises.EndRises.{EndRises}
 use Rattle.move_energy.specs.declared.rises.SiteRises.{SiteRises}
 use Rattle.site_forms.specs.Forms.{Form, TellsRises}
-use Rattle.site_forms.specs.Fields.{table_cost, own_at, AreReadOf}
+use Rattle.site_forms.specs.Fields.{table_cost, own_at, rises_in, AreReadOf, AreCostsRead}
+use Rattle.site_forms.specs.Fields.{AreRisesRead}
 use Rattle.site_forms.specs.declared.numbers.SiteForm.{SiteForm}
 
 -- the label that a site of this label gets by its value
@@ -32,10 +33,20 @@ end_rise_by form weight first own other bit =
     (label_by form other bit))
 
 -- the same of the pair that a site has at a place
-abbrev pub rise_at_place : SiteForm → Bool → ℕ → ℕ → ℤ
-rise_at_place form bit u place =
+abbrev pub rise_by_labels : SiteForm → Bool → ℕ → ℕ → ℤ
+rise_by_labels form bit u place =
     end_rise_by form (weight_at form.ends.now place) (is_first form.ends.now u place)
     (labelling form.at.now u) (labelling form.at.now (neighbour_at form.ends.now place)) bit
+
+-- as it is listed at the place
+abbrev pub listed_rise : SiteForm → Bool → ℕ → ℤ
+listed_rise form bit place =
+    cond bit (rises_in form.rises.now place).high (rises_in form.rises.now place).low
+
+-- in the one way or the other
+abbrev pub rise_at_place : SiteForm → Bool → ℕ → ℕ → ℤ
+rise_at_place form bit u place =
+    cond form.listed (listed_rise form bit place) (rise_by_labels form bit u place)
 
 -- what the numbers are
 abbrev pub form_of : SiteForm → Form
@@ -59,6 +70,13 @@ pub record AreEndRises (form : SiteForm) (weight : ℕ) (first : Bool) (own othe
     (rises : EndRises) : Type 0 where
   pub low : rises.low ≡ end_rise_by form weight first own other false
   pub high : rises.high ≡ end_rise_by form weight first own other true
+  pub low_small : unsigned_abs rises.low ≤ pair_cost_limit
+  pub high_small : unsigned_abs rises.high ≤ pair_cost_limit
+
+-- the same of the pair that a site has at a place
+pub record AreRisesAt (form : SiteForm) (u place : ℕ) (rises : EndRises) : Type 0 where
+  pub low : rises.low ≡ rise_at_place form false u place
+  pub high : rises.high ≡ rise_at_place form true u place
   pub low_small : unsigned_abs rises.low ≤ pair_cost_limit
   pub high_small : unsigned_abs rises.high ≤ pair_cost_limit
 
@@ -90,7 +108,8 @@ pub record IsFormOf (m : Instance) (move : Move) (form : SiteForm) : Type 0 wher
   pub by_site : AreNeighboursOf m form.ends.now
   pub allowed : IsAllowed m move (labelling form.at.now)
   pub read : AreReadOf m move form.own.now form.at.now form.stays.now form.turns.now
-      form.smooth.now
+  pub costs : form.listed ≡ false → AreCostsRead m move form.at.now form.smooth.now
+  pub rises : form.listed ≡ true → AreRisesRead m move form.ends.now form.at.now form.rises.now
 
 -- this holds of each move of which they were read
 abbrev pub WhereRead : SiteForm → (Instance → Move → (ℕ → ℕ) → Type 0) → Type 0

@@ -1,6 +1,6 @@
 //! The door: the costs of a move, read once into lists. Only this file asks a problem for costs.
 ghost use Rattle.std.specs.Prelude.{◌≡◌, ◌⊎◌, ◌<◌, ◌≤◌, ℕ, length, slice_index, OnOk};
-ghost use Rattle.std.specs.Prelude.{true, unsigned_abs, Bool, ◌+◌, ◌*◌, pos, [], All};
+ghost use Rattle.std.specs.Prelude.{true, false, unsigned_abs, Bool, ◌+◌, ◌*◌, pos, [], All};
 ghost use Rattle.label_field.specs.Limits.{label_limit};
 ghost use Rattle.label_energies.specs.Energies.{labelling, Instance};
 ghost use Rattle.label_energies.specs.Moves.{IsMoveOf, label_after, IsAllowed};
@@ -14,8 +14,13 @@ ghost use Rattle.site_forms.specs.Fields.{own_at, unit_rise, AreUnitRises, rises
 ghost use Rattle.site_forms.specs.Fields.{unit_rises_at, HaveRowsOf};
 ghost use Rattle.site_forms.specs.Lists.{AreFormLists, IsReadOf, KnowsCosts, HasNoCosts};
 ghost use Rattle.site_forms.specs.Lists.{AreCostsSmall, AreRisesNear, IsReadNear, CoversChanges};
+ghost use Rattle.site_forms.specs.Lists.{HasCostRoom, AreMadeAsked, AreMoveLabels, ArePairLists};
+ghost use Rattle.site_forms.specs.Lists.{ArePairsRead};
+ghost use Rattle.label_field.specs.PairLists.{PairList};
+ghost use Rattle.move_energy.specs.declared.by_site.Neighbours.{Neighbours as NeighbourLists};
 ghost use Rattle.site_forms.specs.Numbers.{IsFormOf, IsOverPairs};
 
+use crate::by_place::list_rises;
 use crate::numbers::SiteForm;
 use crate::reading::{smooth_of, table_place};
 use crate::smooth_costs::AskedCosts;
@@ -34,7 +39,7 @@ const ENTRIES: usize = 8192;
 
 /// The lists of a form. They keep their memory from move to move: 4 bytes a site, 512 a label, and
 /// 64 KB where there are at most 64 labels. They keep the smooth costs too, so that a run asks each
-/// two labels once.
+/// two labels once. Where each pair has costs of its own, they take 16 bytes a pair.
 #[derive(Drop)]
 pub struct FormLists {
     own: Vec<i32>,
@@ -43,6 +48,9 @@ pub struct FormLists {
     smooth: AskedCosts,
     few: bool,
     table: Vec<EndRises>,
+    /// Whether the rises of pairs are listed by place, since each pair has costs of its own.
+    listed: bool,
+    rises: Vec<EndRises>,
 }
 
 /// Whether a move over so many sites has a table of rises: where there are few labels for it, and
@@ -250,6 +258,8 @@ impl FormLists {
             smooth: AskedCosts::empty(alloc),
             few: false,
             table: Vec::new(alloc),
+            listed: false,
+            rises: Vec::new(alloc),
         }
     }
 
@@ -262,7 +272,7 @@ impl FormLists {
             × HaveRowsOf self.old.turns.items self.old.smooth.costs.items }
         requires small { AreCostsSmall self.old.smooth.costs.items }
         ensures same { (self.new.stays ≡ self.old.stays) × (self.new.turns ≡ self.old.turns)
-            × (self.new.smooth ≡ self.old.smooth) }
+            × (self.new.smooth ≡ self.old.smooth) × (self.new.listed ≡ self.old.listed) }
         ensures few { self.new.few ≡ true → labels ≤ table_labels }
         ensures count { OnOk result (self.new.few ≡ true → length self.new.table.items ≡ 8192) }
         ensures rises { OnOk result (self.new.few ≡ true → (first : Bool) (own other : ℕ) →
@@ -285,10 +295,8 @@ impl FormLists {
         Ok(())
     }
 
-    /// Reads the costs of a move from these labels: of each site how much more the move's label
-    /// costs it, and what each two labels that are in use cost a pair. Two labels that an earlier
-    /// move asked are not asked again. It refuses only where memory runs out.
-    pub fn read<F: Fn(u32, u32) -> i64 + Sync, V: Fn(u32, u32) -> i64 + Sync>(
+    /// Lists what the labels of a move become, and makes room for its pairs' costs.
+    fn begin_pairs<F: Fn(u32, u32) -> i64 + Sync, V: Fn(u32, u32) -> i64 + Sync>(
         &mut self,
         problem: &Problem<F, V>,
         at: &[u8],
@@ -299,15 +307,71 @@ impl FormLists {
         requires few { problem.now.data_cost.labels ≤ label_limit }
         requires known { KnowsCosts F.Fn V.Fn problem.now self.old }
         ensures known { KnowsCosts F.Fn V.Fn problem.now self.new }
-        ensures lists { OnOk result (AreFormLists at.now self.new) }
-        ensures read { OnOk result (WhereMeant F.Fn V.Fn problem.now
-            (λ m. IsReadOf m change at.now self.new)) }
+        ensures room { OnOk result (HasCostRoom problem.now.data_cost.labels self.new.smooth) }
+        ensures made { OnOk result
+            (problem.now.pairs.numbered ≡ false → AreMadeAsked change at.now self.new.smooth) }
+        ensures labels { OnOk result
+            (AreMoveLabels problem.now.data_cost.labels change self.new) }
     {
         let labels = problem.data_cost.labels;
-        self.smooth.ask_all(problem, at, change)?;
+        if problem.pairs.are_numbered() {
+            self.smooth.make_room(problem)?;
+        } else {
+            self.smooth.ask_all(problem, at, change)?;
+        }
         list_labels(&mut self.stays, change, false, labels)?;
-        list_labels(&mut self.turns, change, true, labels)?;
-        self.make_table(labels, at.len())?;
+        list_labels(&mut self.turns, change, true, labels)
+    }
+
+    /// Reads what the labels of a move become, and what pairs cost in it: what each two labels in
+    /// use cost a pair of weight 1, where two that an earlier move asked are not asked again; or
+    /// what each pair rises by, where each has costs of its own.
+    fn read_pairs<F: Fn(u32, u32) -> i64 + Sync, V: Fn(u32, u32) -> i64 + Sync>(
+        &mut self,
+        problem: &Problem<F, V>,
+        ends: &Neighbours,
+        at: &[u8],
+        change: Move,
+    ) -> Result<(), AllocError>
+        requires posed { IsPosed F.Fn V.Fn problem.now }
+        requires asked { IsAsked problem.now at.now change }
+        requires by_site { AreBySite problem.now.pairs ends.now }
+        requires few { problem.now.data_cost.labels ≤ label_limit }
+        requires known { KnowsCosts F.Fn V.Fn problem.now self.old }
+        ensures known { KnowsCosts F.Fn V.Fn problem.now self.new }
+        ensures lists { OnOk result (ArePairLists problem.now.pairs ends.now at.now self.new) }
+        ensures read { OnOk result (WhereMeant F.Fn V.Fn problem.now
+            (λ m. ArePairsRead m change ends.now at.now self.new)) }
+    {
+        self.begin_pairs(problem, at, change)?;
+        self.listed = problem.pairs.are_numbered();
+        if self.listed {
+            self.few = false;
+            return list_rises(&mut self.rises, problem, ends, at, change);
+        }
+        self.make_table(problem.data_cost.labels, at.len())
+    }
+
+    /// Reads the costs of a move from these labels: of each site how much more the move's label
+    /// costs it, and what pairs cost. It refuses only where memory runs out.
+    pub fn read<F: Fn(u32, u32) -> i64 + Sync, V: Fn(u32, u32) -> i64 + Sync>(
+        &mut self,
+        problem: &Problem<F, V>,
+        ends: &Neighbours,
+        at: &[u8],
+        change: Move,
+    ) -> Result<(), AllocError>
+        requires posed { IsPosed F.Fn V.Fn problem.now }
+        requires asked { IsAsked problem.now at.now change }
+        requires by_site { AreBySite problem.now.pairs ends.now }
+        requires few { problem.now.data_cost.labels ≤ label_limit }
+        requires known { KnowsCosts F.Fn V.Fn problem.now self.old }
+        ensures known { KnowsCosts F.Fn V.Fn problem.now self.new }
+        ensures lists { OnOk result (AreFormLists problem.now.pairs ends.now at.now self.new) }
+        ensures read { OnOk result (WhereMeant F.Fn V.Fn problem.now
+            (λ m. IsReadOf m change ends.now at.now self.new)) }
+    {
+        self.read_pairs(problem, ends, at, change)?;
         list_own_rises(&mut self.own, problem, at, change)
     }
 
@@ -316,23 +380,21 @@ impl FormLists {
     pub fn begin<F: Fn(u32, u32) -> i64 + Sync, V: Fn(u32, u32) -> i64 + Sync>(
         &mut self,
         problem: &Problem<F, V>,
+        ends: &Neighbours,
         at: &[u8],
         change: Move,
     ) -> Result<(), AllocError>
         requires posed { IsPosed F.Fn V.Fn problem.now }
         requires asked { IsAsked problem.now at.now change }
+        requires by_site { AreBySite problem.now.pairs ends.now }
         requires few { problem.now.data_cost.labels ≤ label_limit }
         requires known { KnowsCosts F.Fn V.Fn problem.now self.old }
         ensures known { KnowsCosts F.Fn V.Fn problem.now self.new }
-        ensures lists { OnOk result (AreFormLists at.now self.new) }
+        ensures lists { OnOk result (AreFormLists problem.now.pairs ends.now at.now self.new) }
         ensures read { OnOk result (WhereMeant F.Fn V.Fn problem.now
-            (λ m. IsReadNear m change at.now self.new [])) }
+            (λ m. IsReadNear m change ends.now at.now self.new [])) }
     {
-        let labels = problem.data_cost.labels;
-        self.smooth.ask_all(problem, at, change)?;
-        list_labels(&mut self.stays, change, false, labels)?;
-        list_labels(&mut self.turns, change, true, labels)?;
-        self.make_table(labels, at.len())?;
+        self.read_pairs(problem, ends, at, change)?;
         clear_rises(&mut self.own, at.len())
     }
 
@@ -346,13 +408,15 @@ impl FormLists {
     )
         requires posed { IsPosed F.Fn V.Fn problem.now }
         requires asked { IsAsked problem.now at.now change }
-        requires lists { AreFormLists at.now self.old }
+        requires count { length self.old.own.items ≡ length at.now }
+        requires small { (u : ℕ) → unsigned_abs (own_at self.old.own.items u) ≤ site_cost_limit }
         requires inside { All (λ p. p < length at.now) sites.now }
         ensures smooth { self.new.smooth ≡ self.old.smooth }
-        ensures lists { AreFormLists at.now self.new }
-        ensures read { WhereMeant F.Fn V.Fn problem.now
-            (λ m. IsReadNear m change at.now self.old [] →
-            IsReadNear m change at.now self.new sites.now) }
+        ensures lists { (pairs : PairList) (ends : NeighbourLists) →
+            AreFormLists pairs ends at.now self.old → AreFormLists pairs ends at.now self.new }
+        ensures read { WhereMeant F.Fn V.Fn problem.now (λ m. (ends : NeighbourLists) →
+            IsReadNear m change ends at.now self.old [] →
+            IsReadNear m change ends at.now self.new sites.now) }
     {
         add_own_rises(self.own.as_mut_slice(), problem, at, change, sites);
     }
@@ -362,28 +426,30 @@ impl FormLists {
     pub fn read_among<F: Fn(u32, u32) -> i64 + Sync, V: Fn(u32, u32) -> i64 + Sync>(
         &mut self,
         problem: &Problem<F, V>,
+        ends: &Neighbours,
         at: &[u8],
         change: Move,
         sites: &[u32],
     ) -> Result<(), AllocError>
         requires posed { IsPosed F.Fn V.Fn problem.now }
         requires asked { IsAsked problem.now at.now change }
+        requires by_site { AreBySite problem.now.pairs ends.now }
         requires few { problem.now.data_cost.labels ≤ label_limit }
         requires known { KnowsCosts F.Fn V.Fn problem.now self.old }
         requires covers { CoversChanges change at.now sites.now }
         ensures known { KnowsCosts F.Fn V.Fn problem.now self.new }
-        ensures lists { OnOk result (AreFormLists at.now self.new) }
+        ensures lists { OnOk result (AreFormLists problem.now.pairs ends.now at.now self.new) }
         ensures read { OnOk result (WhereMeant F.Fn V.Fn problem.now
-            (λ m. IsReadOf m change at.now self.new)) }
+            (λ m. IsReadOf m change ends.now at.now self.new)) }
     {
-        self.begin(problem, at, change)?;
+        self.begin(problem, ends, at, change)?;
         self.read_sites(problem, at, change, sites);
         Ok(())
     }
 
     /// The form that the lists tell, of these labels and of the neighbours by these pairs.
     pub fn form<'a>(&'a self, pairs: &'a Pairs, ends: &'a Neighbours, at: &'a [u8]) -> SiteForm<'a>
-        requires lists { AreFormLists at.now self.now }
+        requires lists { AreFormLists pairs.now ends.now at.now self.now }
         requires sites { length at.now ≡ pairs.now.sites }
         requires by_site { AreBySite pairs.now ends.now }
         ensures at { result.at.now ≡ at.now }
@@ -392,7 +458,7 @@ impl FormLists {
         ensures over { IsOverPairs result }
         ensures of { (m : Instance) (move : AnyMove) → m.sites ≡ pairs.now.sites →
             m.pairs ≡ pairs.now.list → IsAllowed m move (labelling at.now) →
-            IsReadOf m move at.now self.now → IsFormOf m move result }
+            IsReadOf m move ends.now at.now self.now → IsFormOf m move result }
     {
         pairs.keeps();
         SiteForm {
@@ -406,6 +472,8 @@ impl FormLists {
             symmetric: self.smooth.symmetric,
             few: self.few,
             table: &self.table,
+            listed: self.listed,
+            rises: &self.rises,
             rising: ends.rising,
             even: ends.even,
             weight: ends.weight,

@@ -10,7 +10,7 @@ ghost use Rattle.move_energy.specs.Choices.{choice_at};
 ghost use Rattle.move_energy.specs.Assignments.{rise};
 ghost use Rattle.move_energy.specs.Ends.{decided_or, AvoidsSite, HasNoneBefore, rise_limit};
 ghost use Rattle.site_forms.specs.Forms.{place_rise};
-ghost use Rattle.site_forms.specs.Numbers.{form_of, Tells, IsSitePlace, AreEndRises};
+ghost use Rattle.site_forms.specs.Numbers.{form_of, Tells, IsSitePlace, AreRisesAt};
 ghost use Rattle.site_forms.specs.Numbers.{AreSiteRises};
 
 use crate::ends::{head_at, is_first_end, weight_beside, weight_read};
@@ -29,12 +29,11 @@ pub(crate) fn place_rises<const FEW: bool>(
     weight: u32,
 ) -> EndRises
     requires way { FEW ≡ form.now.few }
+    requires by_labels { form.now.listed ≡ false }
     requires place { IsSitePlace form.now site place }
     requires head { head ≡ neighbour_at form.now.ends.now place }
     requires weight { weight ≡ weight_of form.now.ends.now place }
-    ensures { AreEndRises form.now (weight_of form.now.ends.now place)
-        (is_first_of form.now.ends.now site place) (labelling form.now.at.now site)
-        (labelling form.now.at.now (neighbour_at form.now.ends.now place)) result }
+    ensures { AreRisesAt form.now site place result }
 {
     end_rises::<FEW>(
         form,
@@ -45,13 +44,24 @@ pub(crate) fn place_rises<const FEW: bool>(
     )
 }
 
+/// The same, where the rises are listed by place.
+#[inline]
+pub(crate) fn listed_rises(form: &SiteForm, site: u32, place: u32) -> EndRises
+    requires listed { form.now.listed ≡ true }
+    requires place { IsSitePlace form.now site place }
+    ensures { AreRisesAt form.now site place result }
+{
+    form.rises[place as usize]
+}
+
 /// The same, for who reads few places: what the form says of all is asked at each.
 pub fn rises_of_place(form: &SiteForm, site: u32, place: u32) -> EndRises
     requires place { IsSitePlace form.now site place }
-    ensures { AreEndRises form.now (weight_of form.now.ends.now place)
-        (is_first_of form.now.ends.now site place) (labelling form.now.at.now site)
-        (labelling form.now.at.now (neighbour_at form.now.ends.now place)) result }
+    ensures { AreRisesAt form.now site place result }
 {
+    if form.listed {
+        return listed_rises(form, site, place);
+    }
     let head = head_at(form, site, place);
     let weight = weight_read(form, site, place);
     if form.few {
@@ -61,16 +71,38 @@ pub fn rises_of_place(form: &SiteForm, site: u32, place: u32) -> EndRises
     }
 }
 
+/// The same, where what the form says of all places is a const parameter.
+#[inline]
+fn rises_here<const LISTED: bool, const FEW: bool, const EVEN: bool>(
+    form: &SiteForm,
+    site: u32,
+    place: u32,
+    head: u32,
+) -> EndRises
+    requires kind { LISTED ≡ form.now.listed }
+    requires way { (FEW ≡ form.now.few) × (EVEN ≡ form.now.even) }
+    requires place { IsSitePlace form.now site place }
+    requires head { head ≡ neighbour_at form.now.ends.now place }
+    ensures { AreRisesAt form.now site place result }
+{
+    if LISTED {
+        return listed_rises(form, site, place);
+    }
+    let weight = weight_beside::<EVEN>(form, site, place);
+    place_rises::<FEW>(form, site, place, head, weight)
+}
+
 /// The rises of a site as far as the neighbour at a place goes, at least and at most, by what is
 /// known of the neighbour.
 #[inline]
-fn rises_at<const FEW: bool, const EVEN: bool>(
+fn rises_at<const LISTED: bool, const FEW: bool, const EVEN: bool>(
     form: &SiteForm,
     known: &[Choice],
     site: u32,
     place: u32,
     head: u32,
 ) -> Rises
+    requires kind { LISTED ≡ form.now.listed }
     requires way { (FEW ≡ form.now.few) × (EVEN ≡ form.now.even) }
     requires known { length known.now ≡ length form.now.at.now }
     requires place { IsSitePlace form.now site place }
@@ -82,8 +114,7 @@ fn rises_at<const FEW: bool, const EVEN: bool>(
     ensures small { (unsigned_abs result.least ≤ pair_cost_limit)
         × (unsigned_abs result.greatest ≤ pair_cost_limit) }
 {
-    let weight = weight_beside::<EVEN>(form, site, place);
-    let rises = place_rises::<FEW>(form, site, place, head, weight);
+    let rises = rises_here::<LISTED, FEW, EVEN>(form, site, place, head);
     rises_beside(rises, known[head as usize])
 }
 
@@ -128,11 +159,12 @@ fn either(one: bool, other: bool) -> bool
 /// The rises of a site by what is known of its neighbours, summed place by place. What the form
 /// says of all places is a const parameter, so that the loop does not ask for it at each.
 #[inline]
-fn sum_rises<const FEW: bool, const EVEN: bool>(
+fn sum_rises<const LISTED: bool, const FEW: bool, const EVEN: bool>(
     form: &SiteForm,
     known: &[Choice],
     site: u32,
 ) -> SiteRises
+    requires kind { LISTED ≡ form.now.listed }
     requires way { (FEW ≡ form.now.few) × (EVEN ≡ form.now.even) }
     requires known { length known.now ≡ length form.now.at.now }
     requires site { site < length form.now.at.now }
@@ -143,7 +175,7 @@ fn sum_rises<const FEW: bool, const EVEN: bool>(
     let mut beside = false;
     for place in start(form, site)..start(form, site + 1) {
         let head = head_at(form, site, place);
-        let rises = rises_at::<FEW, EVEN>(form, known, site, place, head);
+        let rises = rises_at::<LISTED, FEW, EVEN>(form, known, site, place, head);
         least += rises.least;
         greatest += rises.greatest;
         beside = either(beside, meets_open(form, known, site, place, head));
@@ -155,6 +187,22 @@ fn sum_rises<const FEW: bool, const EVEN: bool>(
     }
 }
 
+/// The same, where whether the rises are listed by place is a const parameter.
+#[inline]
+fn sum_by_kind<const LISTED: bool>(form: &SiteForm, known: &[Choice], site: u32) -> SiteRises
+    requires kind { LISTED ≡ form.now.listed }
+    requires known { length known.now ≡ length form.now.at.now }
+    requires site { site < length form.now.at.now }
+    ensures { AreSiteRises form.now known.now site result }
+{
+    match (form.few, form.even) {
+        (true, true) => sum_rises::<LISTED, true, true>(form, known, site),
+        (true, false) => sum_rises::<LISTED, true, false>(form, known, site),
+        (false, true) => sum_rises::<LISTED, false, true>(form, known, site),
+        (false, false) => sum_rises::<LISTED, false, false>(form, known, site),
+    }
+}
+
 /// By how much the value rises where a site turns, at least and at most, by what is known of its
 /// neighbours; and whether one of them before it is open.
 #[inline]
@@ -163,12 +211,10 @@ pub fn site_rises(form: &SiteForm, known: &[Choice], site: u32) -> SiteRises
     requires site { site < length form.now.at.now }
     ensures { AreSiteRises form.now known.now site result }
 {
-    match (form.few, form.even) {
-        (true, true) => sum_rises::<true, true>(form, known, site),
-        (true, false) => sum_rises::<true, false>(form, known, site),
-        (false, true) => sum_rises::<false, true>(form, known, site),
-        (false, false) => sum_rises::<false, false>(form, known, site),
+    if form.listed {
+        return sum_by_kind::<true>(form, known, site);
     }
+    sum_by_kind::<false>(form, known, site)
 }
 
 /// By how much the value rises where a site turns, at least and at most, by what is known of its

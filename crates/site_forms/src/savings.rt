@@ -7,12 +7,12 @@ ghost use Rattle.site_forms.specs.Numbers.{WhereRead, IsSitePlace};
 
 use crate::ends::weight_read;
 use crate::numbers::SiteForm;
-use crate::rises::place_rises;
+use crate::rises::{listed_rises, place_rises};
 use move_energy::saving_of;
 
 /// The surplus of the pair that a site has with the neighbour at a place: by how much its costs at
 /// 01 and 10 are together above those at 00 and 11.
-#[inline]
+#[inline(always)]
 pub fn saving_beside(form: &SiteForm, site: u32, place: u32, head: u32) -> i64
     requires place { IsSitePlace form.now site place }
     requires head { head ≡ neighbour_at form.now.ends.now place }
@@ -20,6 +20,9 @@ pub fn saving_beside(form: &SiteForm, site: u32, place: u32, head: u32) -> i64
         ≡ surplus_of (pair_table m move f (pair_beside form.now.ends.now site place))) }
     ensures range { unsigned_abs result ≤ surplus_limit }
 {
+    if form.listed {
+        return saving_of(listed_rises(form, site, place));
+    }
     let weight = weight_read(form, site, place);
     if form.few {
         return saving_of(place_rises::<true>(form, site, place, head, weight));

@@ -58,9 +58,11 @@ fn cost_of<F: Fn(u32, u32) -> i64 + Sync, V: Fn(u32, u32) -> i64 + Sync>(
     other: u32,
 ) -> u16
     requires posed { IsPosed F.Fn V.Fn problem.now }
+    requires weighted { problem.now.pairs.numbered ≡ false }
     requires labels { (one < problem.now.data_cost.labels)
         × (other < problem.now.data_cost.labels) }
-    ensures cost { WhereMeant F.Fn V.Fn problem.now (λ m. result ≡ m.smooth_cost one other) }
+    ensures cost { WhereMeant F.Fn V.Fn problem.now
+        (λ m. (weight : ℕ) → weight * result ≡ m.smooth_cost weight one other) }
     ensures small { result ≤ 10000 }
 {
     problem.smooth_cost.cost(one, other) as u16
@@ -74,6 +76,7 @@ fn ask_cost<F: Fn(u32, u32) -> i64 + Sync, V: Fn(u32, u32) -> i64 + Sync>(
     other: u32,
 ) -> u16
     requires posed { IsPosed F.Fn V.Fn problem.now }
+    requires weighted { problem.now.pairs.numbered ≡ false }
     requires few { problem.now.data_cost.labels ≤ label_limit }
     requires labels { (one < problem.now.data_cost.labels)
         × (other < problem.now.data_cost.labels) }
@@ -98,6 +101,7 @@ fn ask_both<F: Fn(u32, u32) -> i64 + Sync, V: Fn(u32, u32) -> i64 + Sync>(
     other: u32,
 ) -> bool
     requires posed { IsPosed F.Fn V.Fn problem.now }
+    requires weighted { problem.now.pairs.numbered ≡ false }
     requires few { problem.now.data_cost.labels ≤ label_limit }
     requires labels { (label < problem.now.data_cost.labels)
         × (other < problem.now.data_cost.labels) }
@@ -127,6 +131,7 @@ fn ask_beside<F: Fn(u32, u32) -> i64 + Sync, V: Fn(u32, u32) -> i64 + Sync>(
     label: u32,
 ) -> bool
     requires posed { IsPosed F.Fn V.Fn problem.now }
+    requires weighted { problem.now.pairs.numbered ≡ false }
     requires few { problem.now.data_cost.labels ≤ label_limit }
     requires label { label < problem.now.data_cost.labels }
     requires room { (length labels.now ≡ label_limit)
@@ -181,7 +186,7 @@ impl AskedCosts {
     }
 
     /// Makes room for the labels of the problem.
-    fn make_room<F: Fn(u32, u32) -> i64 + Sync, V: Fn(u32, u32) -> i64 + Sync>(
+    pub(crate) fn make_room<F: Fn(u32, u32) -> i64 + Sync, V: Fn(u32, u32) -> i64 + Sync>(
         &mut self,
         problem: &Problem<F, V>,
     ) -> Result<(), AllocError>
@@ -201,6 +206,7 @@ impl AskedCosts {
         label: u32,
     )
         requires posed { IsPosed F.Fn V.Fn problem.now }
+        requires weighted { problem.now.pairs.numbered ≡ false }
         requires few { problem.now.data_cost.labels ≤ label_limit }
         requires label { label < problem.now.data_cost.labels }
         requires room { HasCostRoom problem.now.data_cost.labels self.old }
@@ -221,6 +227,7 @@ impl AskedCosts {
         label: u32,
     )
         requires posed { IsPosed F.Fn V.Fn problem.now }
+        requires weighted { problem.now.pairs.numbered ≡ false }
         requires few { problem.now.data_cost.labels ≤ label_limit }
         requires label { label < problem.now.data_cost.labels }
         requires room { HasCostRoom problem.now.data_cost.labels self.old }
@@ -241,6 +248,7 @@ impl AskedCosts {
         at: &[u8],
     )
         requires posed { IsPosed F.Fn V.Fn problem.now }
+        requires weighted { problem.now.pairs.numbered ≡ false }
         requires few { problem.now.data_cost.labels ≤ label_limit }
         requires labels { All (λ label. label < problem.now.data_cost.labels) at.now }
         requires room { HasCostRoom problem.now.data_cost.labels self.old }
@@ -265,6 +273,7 @@ impl AskedCosts {
         change: Move,
     )
         requires posed { IsPosed F.Fn V.Fn problem.now }
+        requires weighted { problem.now.pairs.numbered ≡ false }
         requires few { problem.now.data_cost.labels ≤ label_limit }
         requires change { IsMoveOf problem.now.data_cost.labels change }
         requires room { HasCostRoom problem.now.data_cost.labels self.old }
@@ -290,6 +299,7 @@ impl AskedCosts {
         change: Move,
     ) -> Result<(), AllocError>
         requires posed { IsPosed F.Fn V.Fn problem.now }
+        requires weighted { problem.now.pairs.numbered ≡ false }
         requires few { problem.now.data_cost.labels ≤ label_limit }
         requires asked { IsAsked problem.now at.now change }
         requires known { AreAskedCosts F.Fn V.Fn problem.now self.old }

@@ -21,19 +21,19 @@ weighed_more f list now i x is here =
 pub weighed_all : (f : Pair → Pair) (list : List Pair) (n : ℕ) → length list ≤ n → map f (take n list) ++ drop n list ≡ map f list
 weighed_all f list n all = rw (take_all n list all, drop_all n list all) (append-nil (map f list))
 
-abbrev pub listed : ℕ → List Pair → PairList
-listed sites list = record { sites = sites; list = list }
+abbrev pub listed : PairList → List Pair → PairList
+listed pairs list = record { sites = pairs.sites; list = list; numbered = pairs.numbered }
 
 -- the pair at the next place gets its weight
-pub weighed_step : (weight : Pair → ℕ) (sites : ℕ) (list : List Pair) (now new : PairList) (i : ℕ) (x : Pair) (w : ℕ)
-    → now ≡ listed sites (map (with_weight weight) (take i list) ++ drop i list) → slice_get now.list i ≡ Some x
+pub weighed_step : (weight : Pair → ℕ) (pairs now new : PairList) (i : ℕ) (x : Pair) (w : ℕ)
+    → now ≡ listed pairs (map (with_weight weight) (take i pairs.list) ++ drop i pairs.list) → slice_get now.list i ≡ Some x
     → IfSome (slice_get now.list i) (λ pair. new ≡ record now { list = slice_set now.list i (record pair { weight = w }) }) → w ≡ weight x
-    → new ≡ listed sites (map (with_weight weight) (take (i + 1) list) ++ drop (i + 1) list)
-weighed_step weight sites list now new i x w is here set w_is =
-    let P : List Pair → PairList = λ xs. listed now.sites xs in
-    let done : new ≡ listed now.sites (slice_set now.list i (record x { weight = w })) = rw here at set in
-    let W : ℕ → PairList = λ n. listed now.sites (slice_set now.list i (record x { weight = n })) in
-    let lists : slice_set now.list i (with_weight weight x) ≡ map (with_weight weight) (take (i + 1) list) ++ drop (i + 1) list =
-    weighed_more (with_weight weight) list now.list i x (ap (λ (q : PairList). q.list) is) here in
-    let same : now.sites ≡ sites = ap (λ (q : PairList). q.sites) is in
-    done ∙ ap W w_is ∙ ap P lists ∙ ap (λ n. listed n (map (with_weight weight) (take (i + 1) list) ++ drop (i + 1) list)) same
+    → new ≡ listed pairs (map (with_weight weight) (take (i + 1) pairs.list) ++ drop (i + 1) pairs.list)
+weighed_step weight pairs now new i x w is here set w_is =
+    let P : List Pair → PairList = λ xs. listed now xs in
+    let done : new ≡ listed now (slice_set now.list i (record x { weight = w })) = rw here at set in
+    let W : ℕ → PairList = λ n. listed now (slice_set now.list i (record x { weight = n })) in
+    let all : List Pair = map (with_weight weight) (take (i + 1) pairs.list) ++ drop (i + 1) pairs.list in
+    let lists : slice_set now.list i (with_weight weight x) ≡ all =
+    weighed_more (with_weight weight) pairs.list now.list i x (ap (λ (q : PairList). q.list) is) here in
+    done ∙ ap W w_is ∙ ap P lists ∙ ap (λ (q : PairList). listed q all) is

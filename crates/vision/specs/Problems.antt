@@ -4,7 +4,7 @@ use Rattle.std.specs.Prelude.{◌≡◌, ℕ, ◌+◌, ◌-◌, ◌*◌, ◌<◌
 use Rattle.std.specs.Prelude.{map, slice_index, unwrap_or, if◌then◌else◌}
 use Rattle.label_field.specs.declared.pair.Pair.{Pair}
 use Rattle.label_field.specs.Grids.{grid, steps4, steps8, column, distance}
-use Rattle.label_energies.specs.Energies.{Instance}
+use Rattle.label_energies.specs.Energies.{Instance, times_weight}
 use Rattle.run_options.specs.declared.shape.Shape.TheVariants.{Potts}
 use Rattle.run_options.specs.Shapes.{shape_cost}
 use Rattle.run_options.specs.declared.options.Neighbours.{Neighbours}
@@ -30,7 +30,7 @@ restore_problem o p = record {
   sites = p.width * p.height;
   labels = p.maxval + 1;
   data_cost = λ site label. distance (sample p site) label;
-  smooth_cost = shape_cost o.smooth o.trunc;
+  smooth_cost = times_weight (shape_cost o.smooth o.trunc);
   pairs = pairs_of_picture o.neighbours o.weight p;
   label_cost = λ label. unwrap_or o.label_cost 0;
 }
@@ -61,7 +61,7 @@ stereo_problem o left right = record {
   sites = left.width * left.height;
   labels = o.labels;
   data_cost = shift_cost o.cap left right;
-  smooth_cost = shape_cost o.smooth o.trunc;
+  smooth_cost = times_weight (shape_cost o.smooth o.trunc);
   pairs = pairs_of_picture o.neighbours o.weight left;
   label_cost = λ label. 0;
 }
@@ -94,7 +94,7 @@ segment_problem o p seeds = record {
   sites = p.width * p.height;
   labels = 2;
   data_cost = λ site label. part_cost o (sample p site) (sample seeds site) label;
-  smooth_cost = shape_cost Potts 1;
+  smooth_cost = times_weight (shape_cost Potts 1);
   pairs = map (with_weight (edge_weight o p)) (pairs_of_picture o.neighbours 0 p);
   label_cost = λ label. 0;
 }

@@ -1,7 +1,7 @@
 //! The run of a problem of labels over the pixels of a picture, and the picture that it makes.
 ghost use Rattle.std.specs.Prelude.{◌≡◌, ◌↔◌, ℕ, ◌+◌, ◌*◌, ◌<◌, ◌≤◌, pos, ◌≤ℤ◌, ◌+ℤ◌, All, IfOk};
 ghost use Rattle.std.specs.Prelude.{IfErr, IfSome, IsTrue, MatchResult, OnOk, length, unwrap_or};
-ghost use Rattle.std.specs.Prelude.{if◌then◌else◌};
+ghost use Rattle.std.specs.Prelude.{if◌then◌else◌, false};
 ghost use Rattle.byte_streams.specs.Streams.{Stops, Takes};
 ghost use Rattle.label_field.specs.Limits.{label_limit};
 ghost use Rattle.label_energies.specs.Energies.{Instance};
@@ -58,6 +58,7 @@ pub(crate) fn run_job<F: Fn(u32, u32) -> i64 + Sync, H: Sharing>(
     how: &H,
 ) -> Result<Finished, VisionError>
     requires ready { H.ready how.now }
+    requires weighted { pairs.numbered ≡ false }
     requires sites { (data_cost.sites ≡ picture.now.width * picture.now.height)
         × (pairs.sites ≡ picture.now.width * picture.now.height) }
     requires labels { (1 ≤ data_cost.labels) × (data_cost.labels ≤ label_limit) }

@@ -1,5 +1,5 @@
 //! The pairs of pixels of a picture.
-ghost use Rattle.std.specs.Prelude.{◌≡◌, ◌≤◌, ◌*◌, IfOk, map};
+ghost use Rattle.std.specs.Prelude.{◌≡◌, ◌≤◌, ◌*◌, IfOk, map, false};
 ghost use Rattle.run_options.specs.Ranges.{AreSegmentOptions};
 ghost use Rattle.label_field.specs.Limits.{weight_limit};
 ghost use Rattle.label_field.specs.PairLists.{IsPair};
@@ -21,6 +21,7 @@ pub(crate) fn pairs_of(
     ensures { IfOk result (λ pairs. pairs ≡ record {
       sites = picture.now.width * picture.now.height;
       list = pairs_of_picture neighbours weight picture.now;
+      numbered = false;
     }) }
 {
     let _samples = picture.samples();
@@ -41,6 +42,7 @@ pub(crate) fn edge_pairs(
       sites = picture.now.width * picture.now.height;
       list = map (with_weight (edge_weight options.now picture.now))
           (pairs_of_picture options.now.neighbours 0 picture.now);
+      numbered = false;
     }) }
 {
     let mut pairs = pairs_of(alloc, picture, options.neighbours, 0)?;
@@ -51,6 +53,7 @@ pub(crate) fn edge_pairs(
 /// Gives each pair of pixels the weight of its edge.
 fn weigh(pairs: &mut Pairs, picture: &Image, options: &SegmentOptions)
     requires options { AreSegmentOptions options.now }
+    requires weighted { pairs.old.numbered ≡ false }
     requires sites { pairs.old.sites ≡ picture.now.width * picture.now.height }
     ensures { pairs.new ≡ record pairs.old {
       list = map (with_weight (edge_weight options.now picture.now)) pairs.old.list;

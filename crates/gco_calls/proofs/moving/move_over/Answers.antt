@@ -42,8 +42,13 @@ returns-clause-moved g c =
       data_are = λ a b z la lb ans.
           cost_of_entry (pos 10000000) (map value c.args.data.now) c.args.ready.pairs.sites c.args.ready.start.labels (length-map c.args.data.now value ∙ c.requires.data.0) c.requires.data.1 a b la
           (below_along b _ _ lb labels) z (smooth_along (map value c.args.data.now) a b z _ _ labels ans);
-      smooth_are = λ a b z la lb ans.
-          cost_of_entry (pos 10000) (map value c.args.smooth.now) c.args.ready.start.labels c.args.ready.start.labels (length-map c.args.smooth.now value ∙ c.requires.smooth.0) c.requires.smooth.1 a b
-          (below_along a _ _ la labels) (below_along b _ _ lb labels) z (smooth_along (map value c.args.smooth.now) a b z _ _ labels ans);
+      smooth_are = λ weights. record {
+        table = cost_in c.args.ready.start.labels (map value c.args.smooth.now);
+        answers = λ a b z la lb ans.
+            cost_of_entry (pos 10000) (map value c.args.smooth.now) c.args.ready.start.labels c.args.ready.start.labels (length-map c.args.smooth.now value ∙ c.requires.smooth.0) c.requires.smooth.1 a b
+            (below_along a _ _ la labels) (below_along b _ _ lb labels) z (smooth_along (map value c.args.smooth.now) a b z _ _ labels ans);
+        weighted = λ weight a b. refl;
+      };
+      by_pair = λ numbered. absurd (cc (numbered, c.requires.weighted));
       costs_are = record { each = λ label below. refl };
     }))

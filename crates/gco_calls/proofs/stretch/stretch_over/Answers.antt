@@ -29,6 +29,8 @@ returns-clause-stretch g c =
       data_are = rw c.new-data_cost.ensures.stored (λ a b z la lb is.
           cost_of_entry (pos 10000000) (map g.N.Number.value c.args.data.now) c.args.ready.pairs.sites c.args.ready.start.labels (length-map c.args.data.now g.N.Number.value ∙ c.requires.data.0) c.requires.data.1 a b la lb z
           (smooth_along (map g.N.Number.value c.args.data.now) a b z _ _ c.labels-labels.ensures.value is));
+      table = cost_in c.args.ready.start.labels c.args.smooth.now;
+      weighted = λ weight a b. refl;
       smooth_are = table_of_costs (pos 10000) c.args.smooth.now c.args.ready.start.labels c.requires.smooth.0 c.requires.smooth.1;
     })
     (record { each = λ label below. refl })

@@ -1,6 +1,6 @@
 use Rattle.std.proofs.Common.{arith, ◌*◌, length, ap}
 use Rattle.std.proofs.lemmas.List.Elements.{All-same}
-use Rattle.label_field.specs.PairLists.{IsPair}
+use Rattle.label_field.specs.PairLists.{IsWeightedPair}
 use Rattle.label_field.specs.Grids.{pairs_of_steps}
 use Rattle.label_field.proofs.GridSteps.{front_more, length-front, front_are}
 use Rattle.label_field.proofs.grid.grid.Goals as goal
@@ -19,6 +19,6 @@ of_list-requires-clause-count c =
 
 pub of_list-requires-clause-pairs : goal.of_list-requires-clause-pairs
 of_list-requires-clause-pairs c =
-    All-same (IsPair (c.args.image.width * c.args.image.height)) _ _ c.loop-site.invariant
+    All-same (IsWeightedPair (c.args.image.width * c.args.image.height)) _ _ c.loop-site.invariant
     (front_are c.args.image.width c.args.image.height c.args.weight c.args.steps.now 0 c.loop-site.site
     c.args.image.fits c.requires.steps.forward c.requires.weight (omega (arith, c.loop-site.auto.site-end)))

@@ -8,6 +8,6 @@ abbrev pub invariant-loop-place : goal.invariant-loop-place
 invariant-loop-place g l = record {
   len : vec_len l.costs ≡ l.place;
   room : vec_capacity l.costs ≡ l.count;
-  each : (m : Instance) → IsMeant g.F.Fn g.V.Fn l.problem m → (j : ℕ) → j < l.place
-      → slice_index l.costs.items j ≡ parts * m.smooth_cost (j / l.labels) (j % l.labels);
+  each : (m : Instance) → IsMeant g.F.Fn g.V.Fn l.problem m → (j weight : ℕ) → j < l.place
+      → weight * slice_index l.costs.items j ≡ parts * m.smooth_cost weight (j / l.labels) (j % l.labels);
 }

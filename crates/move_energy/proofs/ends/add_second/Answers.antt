@@ -14,9 +14,9 @@ returns-clause-adds g c =
     let stays : FitsSigned w64 c.pair_cost-stays.result = record { sfits = c.pair_cost-stays.type_inv } in
     let turns : FitsSigned w64 c.pair_cost-turns.result = record { sfits = c.pair_cost-turns.type_inv } in
     λ m answers.
-    one_adds a.form.now c.add_one.new.self a.end.variable (λ (b : Bool). a.weight * m.smooth_cost a.other (label_after a.change a.end.label b)) _ _
-    (to_z-of_z w64 c.pair_cost-stays.result stays ∙ c.pair_cost-stays.ensures.cost m answers ∙ ap (λ l. pos (a.weight * m.smooth_cost a.other l)) c.label.ensures)
-    (to_z-of_z w64 c.pair_cost-turns.result turns ∙ c.pair_cost-turns.ensures.cost m answers ∙ ap (λ l. pos (a.weight * m.smooth_cost a.other l)) c.label-2.ensures)
+    one_adds a.form.now c.add_one.new.self a.end.variable (λ (b : Bool). m.smooth_cost a.weight a.other (label_after a.change a.end.label b)) _ _
+    (to_z-of_z w64 c.pair_cost-stays.result stays ∙ c.pair_cost-stays.ensures.cost m answers ∙ ap (λ l. pos (m.smooth_cost a.weight a.other l)) c.label.ensures)
+    (to_z-of_z w64 c.pair_cost-turns.result turns ∙ c.pair_cost-turns.ensures.cost m answers ∙ ap (λ l. pos (m.smooth_cost a.weight a.other l)) c.label-2.ensures)
     c.add_one.ensures.value
 
 pub pair_cost-stays-requires-clause-weight : goal.pair_cost-stays-requires-clause-weight

@@ -1,5 +1,6 @@
 use Rattle.std.proofs.Common.{◌∙◌, ◌*◌, refl, sym, pos}
 use Rattle.cost_store.specs.Limits.{site_cost_limit}
+use Rattle.cost_store.specs.Promises.{cost_in}
 use Rattle.moves.specs.Instances.{instance_of}
 use Rattle.cost_store.specs.LabelCosts.{costs_of}
 use Rattle.moves.proofs.Entries.{table_of_costs}
@@ -21,6 +22,8 @@ returns-clause-run g c =
       labels_are = refl;
       pairs_are = refl;
       data_are = rw c.new-data_cost.ensures.stored (λ a b z la lb is. data_along c.args.data.now a b z _ _ c.labels-labels.ensures.value is);
+      table = cost_in c.args.request.start.labels c.args.smooth.now;
+      weighted = λ weight a b. refl;
       smooth_are = table_of_costs (pos 10000) c.args.smooth.now c.args.request.start.labels c.requires.smooth.0 c.requires.smooth.1;
     })
     (record { each = λ label below. refl })
@@ -33,6 +36,8 @@ returns-clause-bounded g c =
       labels_are = refl;
       pairs_are = refl;
       data_are = rw c.new-data_cost.ensures.stored (λ a b z la lb is. data_along c.args.data.now a b z _ _ c.labels-labels.ensures.value is);
+      table = cost_in c.args.request.start.labels c.args.smooth.now;
+      weighted = λ weight a b. refl;
       smooth_are = table_of_costs (pos 10000) c.args.smooth.now c.args.request.start.labels c.requires.smooth.0 c.requires.smooth.1;
     })
     (record { each = λ label below. refl })
@@ -45,6 +50,8 @@ returns-clause-over_metric g c =
       labels_are = refl;
       pairs_are = refl;
       data_are = rw c.new-data_cost.ensures.stored (λ a b z la lb is. data_along c.args.data.now a b z _ _ c.labels-labels.ensures.value is);
+      table = cost_in c.args.request.start.labels c.args.smooth.now;
+      weighted = λ weight a b. refl;
       smooth_are = table_of_costs (pos 10000) c.args.smooth.now c.args.request.start.labels c.requires.smooth.0 c.requires.smooth.1;
     })
     (record { each = λ label below. refl })

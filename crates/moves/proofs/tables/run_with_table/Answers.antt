@@ -22,7 +22,8 @@ run_problem-requires-clause-posed g c = λ lives within.
     let A : ℕ → Type 0 = λ k. AreLabelCosts k c.args.prices.label_costs in
     record {
       costs = c.requires.costs;
-      smooth = c.with_metric.ensures.keeps;
+      smooth = λ weights. c.with_metric.ensures.keeps;
+      by_pair = λ numbered. absurd (cc (numbered, c.requires.weighted));
       pairs = c.keeps.ensures;
       data_sites = c.requires.sites.1;
       smooth_labels = rw c.with_metric.ensures.stored (c.labels-labels.ensures.value ∙ sym c.requires.labels);
@@ -39,7 +40,8 @@ run_problem-requires-clause-known g c = λ lives within.
     rw c.with_metric.ensures.stored
     (λ m meant metric. c.requires.prices.known.1 (subst T labels
     (table_metric m c.labels-labels.result c.args.data_cost.labels c.args.prices.smooth.now c.labels-labels.ensures.sizes.1
-    (c.requires.prices.size ∙ (λ i. sym labels i * sym labels i)) meant.labels_are (c.requires.labels ∙ sym labels) meant.smooth_are metric)))
+    (c.requires.prices.size ∙ (λ i. sym labels i * sym labels i)) meant.labels_are (c.requires.labels ∙ sym labels)
+    (meant.smooth_are c.requires.weighted).table (meant.smooth_are c.requires.weighted).weighted (meant.smooth_are c.requires.weighted).answers metric)))
 
 pub returns-clause-run : goal.returns-clause-run
 returns-clause-run g c = λ m is has.
@@ -50,8 +52,13 @@ returns-clause-run g c = λ m is has.
       labels_are = is.labels_are ∙ sym c.requires.labels;
       pairs_are = is.pairs_are;
       data_are = λ a b z la lb ans. is.data_are a b z la (below_along b _ _ lb c.requires.labels) ans;
-      smooth_are = λ a b z la lb ans. smooth_along c.args.prices.smooth.now a b z _ _ labels ans
-          ∙ is.smooth_are.each a b (below_along a _ _ la c.requires.labels) (below_along b _ _ lb c.requires.labels);
+      smooth_are = λ weights. record {
+        table = is.table;
+        answers = λ a b z la lb ans. smooth_along c.args.prices.smooth.now a b z _ _ labels ans
+            ∙ is.smooth_are.each a b (below_along a _ _ la c.requires.labels) (below_along b _ _ lb c.requires.labels);
+        weighted = is.weighted;
+      };
+      by_pair = λ numbered. absurd (cc (numbered, c.requires.weighted));
       costs_are = has;
     }))
 
@@ -64,8 +71,13 @@ returns-clause-metric g c = λ metric m is has.
       labels_are = is.labels_are ∙ sym c.requires.labels;
       pairs_are = is.pairs_are;
       data_are = λ a b z la lb ans. is.data_are a b z la (below_along b _ _ lb c.requires.labels) ans;
-      smooth_are = λ a b z la lb ans. smooth_along c.args.prices.smooth.now a b z _ _ labels ans
-          ∙ is.smooth_are.each a b (below_along a _ _ la c.requires.labels) (below_along b _ _ lb c.requires.labels);
+      smooth_are = λ weights. record {
+        table = is.table;
+        answers = λ a b z la lb ans. smooth_along c.args.prices.smooth.now a b z _ _ labels ans
+            ∙ is.smooth_are.each a b (below_along a _ _ la c.requires.labels) (below_along b _ _ lb c.requires.labels);
+        weighted = is.weighted;
+      };
+      by_pair = λ numbered. absurd (cc (numbered, c.requires.weighted));
       costs_are = has;
     }))
 
@@ -78,12 +90,17 @@ returns-clause-over_metric g c = λ m is has.
       labels_are = is.labels_are ∙ sym c.requires.labels;
       pairs_are = is.pairs_are;
       data_are = λ a b z la lb ans. is.data_are a b z la (below_along b _ _ lb c.requires.labels) ans;
-      smooth_are = λ a b z la lb ans. smooth_along c.args.prices.smooth.now a b z _ _ labels ans
-          ∙ is.smooth_are.each a b (below_along a _ _ la c.requires.labels) (below_along b _ _ lb c.requires.labels);
+      smooth_are = λ weights. record {
+        table = is.table;
+        answers = λ a b z la lb ans. smooth_along c.args.prices.smooth.now a b z _ _ labels ans
+            ∙ is.smooth_are.each a b (below_along a _ _ la c.requires.labels) (below_along b _ _ lb c.requires.labels);
+        weighted = is.weighted;
+      };
+      by_pair = λ numbered. absurd (cc (numbered, c.requires.weighted));
       costs_are = has;
     }))
 
 pub returns-clause-bounded : goal.returns-clause-bounded
 returns-clause-bounded g c = λ m is has.
     bound_small m (pos 10000) c.args.request.start.labels c.args.prices.smooth.now c.args.request.moves c.args.request.cycles c.args.request.start.at c.run_problem.result
-    is.labels_are c.requires.prices.range is.smooth_are (omega (arith, ints)) (returns-clause-run g c m is has)
+    is.labels_are c.requires.prices.range is.table is.weighted is.smooth_are (omega (arith, ints)) (returns-clause-run g c m is has)

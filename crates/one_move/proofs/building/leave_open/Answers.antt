@@ -40,7 +40,7 @@ returns-clause-left g c =
     let left = c.in_ok-left.left in
     record {
       sized = c.in_ok-left.ensures.sized;
-      tells = read_meant _ _ a.problem.now a.at.now a.change a.space.now.deciding.numbers c.form-form.result (λ m f. TellsLeft m a.change (labelling f) choices new left)
+      tells = read_meant _ _ a.problem.now a.space.now.deciding.ends a.at.now a.change a.space.now.deciding.numbers c.form-form.result (λ m f. TellsLeft m a.change (labelling f) choices new left)
           w.read.numbers.allowed w.read.numbers.read from c.form-form.ensures.of
           (λ m meant is.
           let W : List ℤ → Type 0 = λ ws. AreWeights m a.change (labelling a.at.now) (choice_at choices) ws in

@@ -25,7 +25,7 @@ returns-then-space-clause-left g c =
     let left = c.in_ok-left.left in
     record {
       sized = c.in_ok-left.ensures.sized;
-      tells = read_meant _ _ a.problem.now a.at.now a.change a.space.now.deciding.numbers c.form-form.result (λ m f. TellsLeft m a.change (labelling f) choices new left)
+      tells = read_meant _ _ a.problem.now a.space.now.deciding.ends a.at.now a.change a.space.now.deciding.numbers c.form-form.result (λ m f. TellsLeft m a.change (labelling f) choices new left)
           numbers.allowed numbers.read c.form-form.ensures.at c.form-form.ensures.of
           (λ m meant is.
           let T : List Choice → Type 0 = λ cs. TellsLeft m a.change (labelling c.form-form.result.at.now) cs new left in
@@ -53,7 +53,7 @@ returns-clause-left g c =
     let left = c.in_ok-rest.rest in
     record {
       sized = c.in_ok-rest.ensures.sized;
-      tells = read_meant _ _ a.problem.now a.at.now a.change a.space.now.deciding.numbers c.form-form.result (λ m f. TellsLeft m a.change (labelling f) choices new left)
+      tells = read_meant _ _ a.problem.now a.space.now.deciding.ends a.at.now a.change a.space.now.deciding.numbers c.form-form.result (λ m f. TellsLeft m a.change (labelling f) choices new left)
           numbers.allowed numbers.read c.form-form.ensures.at c.form-form.ensures.of
           (λ m meant is.
           let T : List Choice → Type 0 = λ cs. TellsLeft m a.change (labelling c.form-form.result.at.now) cs new left in

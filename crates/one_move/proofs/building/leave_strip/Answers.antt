@@ -51,7 +51,7 @@ returns-then-space-clause-left g c =
     let left = c.in_ok-left.left in
     record {
       sized = c.in_ok-left.ensures.sized;
-      tells = read_meant _ _ a.problem.now a.at.now a.change a.space.now.deciding.numbers c.form-form.result (λ m f. TellsLeft m a.change (labelling f) choices new left)
+      tells = read_meant _ _ a.problem.now a.space.now.deciding.ends a.at.now a.change a.space.now.deciding.numbers c.form-form.result (λ m f. TellsLeft m a.change (labelling f) choices new left)
           numbers.allowed numbers.read from c.form-form.ensures.of
           (λ m meant is.
           let F : List ℕ → Type 0 = λ f. AreWeights m a.change (labelling f) (choice_at c.deref.result.now) c.deref-2.result.now in
@@ -70,7 +70,7 @@ returns-then-space-clause-agree g c =
     let old = a.space.now.built.variables.choices.items in
     let new = c.close_in.new.variables.choices.items in
     let start = c.deref.ensures.value ∙ ap (λ (v : _). v.items) c.swap.ensures.x_after in
-    read_meant _ _ a.problem.now a.at.now a.change a.space.now.deciding.numbers c.form-form.result
+    read_meant _ _ a.problem.now a.space.now.deciding.ends a.at.now a.change a.space.now.deciding.numbers c.form-form.result
     (λ m f. Agree m.sites (move_value m a.change (labelling f)) (choice_at old) → Agree m.sites (move_value m a.change (labelling f)) (choice_at new))
     numbers.allowed numbers.read form.at form.of
     (λ m meant is agree.
@@ -95,7 +95,7 @@ returns-clause-left g c =
     let left = c.in_ok-left.left in
     record {
       sized = c.in_ok-left.ensures.sized;
-      tells = read_meant _ _ a.problem.now a.at.now a.change a.space.now.deciding.numbers c.form-form.result (λ m f. TellsLeft m a.change (labelling f) choices new left)
+      tells = read_meant _ _ a.problem.now a.space.now.deciding.ends a.at.now a.change a.space.now.deciding.numbers c.form-form.result (λ m f. TellsLeft m a.change (labelling f) choices new left)
           numbers.allowed numbers.read from c.form-form.ensures.of
           (λ m meant is.
           let F : List ℕ → Type 0 = λ f. AreWeights m a.change (labelling f) (choice_at c.deref.result.now) c.deref-2.result.now in
@@ -114,7 +114,7 @@ returns-clause-agree g c =
     let old = a.space.now.built.variables.choices.items in
     let new = c.close_in.new.variables.choices.items in
     let start = c.deref.ensures.value ∙ ap (λ (v : _). v.items) c.swap.ensures.x_after in
-    read_meant _ _ a.problem.now a.at.now a.change a.space.now.deciding.numbers c.form-form.result
+    read_meant _ _ a.problem.now a.space.now.deciding.ends a.at.now a.change a.space.now.deciding.numbers c.form-form.result
     (λ m f. Agree m.sites (move_value m a.change (labelling f)) (choice_at old) → Agree m.sites (move_value m a.change (labelling f)) (choice_at new))
     numbers.allowed numbers.read form.at form.of
     (λ m meant is agree.

@@ -12,6 +12,7 @@ returns-clause-limits c = record {
   smooth_count = c.requires.costs.smooth_count;
   smooth_most = c.requires.costs.smooth_most;
   pair_sites = c.in_ok-pairs.ensures.sites;
+  weighted = c.in_ok-pairs.ensures.weighted;
   start_sites = c.in_ok-start.ensures.sizes.0;
   start_labels = c.in_ok-start.ensures.sizes.1;
   cycles_most = (c.in_ok-cycles.ensures.range (omega arith, omega arith)).1;

@@ -8,6 +8,9 @@ use Rattle.program_tasks.proofs.label.run_named.Goals as goal
 pub run_tables-requires-clause-sites : goal.run_tables-requires-clause-sites
 run_tables-requires-clause-sites g c = c.requires.limits.start_sites ∙ sym c.requires.limits.pair_sites
 
+pub run_tables-requires-clause-weighted : goal.run_tables-requires-clause-weighted
+run_tables-requires-clause-weighted g c = c.requires.limits.weighted
+
 pub run_tables-requires-clause-data : goal.run_tables-requires-clause-data
 run_tables-requires-clause-data g c =
     let limits = c.requires.limits in

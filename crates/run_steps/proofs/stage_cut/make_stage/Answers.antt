@@ -1,4 +1,4 @@
-use Rattle.std.proofs.Common.{◌≡◌, ◌<◌, ◌∙◌, length, All, List, ℕ, Bool, true, false, sym, subst, arith}
+use Rattle.std.proofs.Common.{◌≡◌, ◌<◌, ◌∙◌, length, All, [], List, ℕ, Bool, true, false, sym, subst, arith}
 use Rattle.label_energies.specs.declared.change.Move.TheVariants.{Expand}
 use Rattle.label_energies.specs.Energies.{labelling}
 use Rattle.move_energy.specs.declared.choice.Choice.{Choice}
@@ -9,7 +9,9 @@ use Rattle.move_energy.specs.MoveValues.{move_value}
 use Rattle.persistency.specs.Fixing.{AreLeastZeros}
 use Rattle.near_changes.specs.Looking.{is_marked, IsClosedIn}
 use Rattle.site_forms.specs.Lists.{with_costs_at}
-use Rattle.run_steps.proofs.Asked.{stage_of_asked, opened_asked}
+use Rattle.run_steps.proofs.Asked.{stage_of_asked, opened_asked, read_at_none}
+use Rattle.site_bounds.specs.declared.sites.Deciding.{Deciding}
+use Rattle.run_steps.specs.Stages.{HasNumbersNear}
 use Rattle.run_steps.proofs.Stages.{closed_ends, next_zeros}
 use Rattle.run_steps.proofs.stage_cut.make_stage.Goals as goal
 
@@ -27,7 +29,7 @@ returns-in-Ok-clause-closed g c = λ m meant is changed was fresh zeros.
     let pairs = c.args.problem.now.pairs in
     let choices = c.cut_stage.new.built.variables.choices.items in
     let numbers = c.requires.numbers in
-    let near = c.read_sites.ensures.read m meant (numbers.read m meant) in
+    let near = c.read_sites.ensures.read m meant c.args.space.now.deciding.ends (numbers.read m meant) in
     let asked = with_costs_at near.asked m in
     let form = c.form-form.ensures.of asked (Expand a) meant.sites_are meant.pairs_are (numbers.allowed m meant) near.read in
     let L : List ℕ → Type 0 = λ f. IsStageLeast asked (Expand a) (labelling f) choices c.in_ok-bits.bits.items in
@@ -49,7 +51,7 @@ returns-in-Ok-clause-zeros g c = λ m meant is zeros.
     let at = c.args.at.now in
     let choices = c.cut_stage.new.built.variables.choices.items in
     let numbers = c.requires.numbers in
-    let near = c.read_sites.ensures.read m meant (numbers.read m meant) in
+    let near = c.read_sites.ensures.read m meant c.args.space.now.deciding.ends (numbers.read m meant) in
     let asked = with_costs_at near.asked m in
     let form = c.form-form.ensures.of asked (Expand a) meant.sites_are meant.pairs_are (numbers.allowed m meant) near.read in
     let L : List ℕ → Type 0 = λ f. IsStageLeast asked (Expand a) (labelling f) choices c.in_ok-bits.bits.items in
@@ -62,3 +64,41 @@ returns-in-Ok-clause-zeros g c = λ m meant is zeros.
     (c.requires.numbers.allowed m meant) least
     (λ p l zero. subst (λ (bits : List Bool). value_of choices bits p ≡ false) c.deref-3.ensures.value (c.in-Ok.ensures.zeros is p (omega (arith, l, meant.sites_are)) zero))
     (subst Z (sym c.in_ok-bits.ensures.kept) zeros)
+
+pub form-form-requires-clause-lists : goal.form-form-requires-clause-lists
+form-form-requires-clause-lists g c = c.read_sites.ensures.lists c.args.problem.now.pairs c.args.space.now.deciding.ends c.requires.numbers.lists
+
+pub returns-in_err-bits-clause-numbers : goal.returns-in_err-bits-clause-numbers
+returns-in_err-bits-clause-numbers g c =
+    let numbers = c.requires.numbers in
+    let ends = c.args.space.now.deciding.ends in
+    record {
+      sites_are = numbers.sites_are;
+      allowed = numbers.allowed;
+      lists = c.read_sites.ensures.lists c.args.problem.now.pairs ends numbers.lists;
+      read = λ m meant. read_at_none m (Expand c.args.alpha) ends c.args.at.now _ _ (c.read_sites.ensures.read m meant ends (numbers.read m meant));
+    }
+
+pub returns-in-Ok-clause-numbers : goal.returns-in-Ok-clause-numbers
+returns-in-Ok-clause-numbers g c =
+    let numbers = c.requires.numbers in
+    let ends = c.args.space.now.deciding.ends in
+    let D : Deciding → Type 0 = λ d. HasNumbersNear g.F.Fn g.V.Fn c.args.problem.now c.args.at.now (Expand c.args.alpha) [] d.ends d.numbers in
+    subst D (sym c.in-Ok.ensures.same) (record {
+      sites_are = numbers.sites_are;
+      allowed = numbers.allowed;
+      lists = c.read_sites.ensures.lists c.args.problem.now.pairs ends numbers.lists;
+      read = λ m meant. read_at_none m (Expand c.args.alpha) ends c.args.at.now _ _ (c.read_sites.ensures.read m meant ends (numbers.read m meant));
+    })
+
+pub returns-clause-numbers : goal.returns-clause-numbers
+returns-clause-numbers g c =
+    let numbers = c.requires.numbers in
+    let ends = c.args.space.now.deciding.ends in
+    let D : Deciding → Type 0 = λ d. HasNumbersNear g.F.Fn g.V.Fn c.args.problem.now c.args.at.now (Expand c.args.alpha) [] d.ends d.numbers in
+    subst D (sym c.in-Err.ensures.same) (record {
+      sites_are = numbers.sites_are;
+      allowed = numbers.allowed;
+      lists = c.read_sites.ensures.lists c.args.problem.now.pairs ends numbers.lists;
+      read = λ m meant. read_at_none m (Expand c.args.alpha) ends c.args.at.now _ _ (c.read_sites.ensures.read m meant ends (numbers.read m meant));
+    })

@@ -1,31 +1,29 @@
 use Rattle.std.proofs.Common.{◌∙◌, ◌≤◌, unsigned_abs, ap, arith}
 use Rattle.sums.proofs.IntegerSumLemmas.{abs-sub}
-use Rattle.move_energy.specs.BySite.{is_first, weight_at, neighbour_at}
 use Rattle.move_energy.proofs.RiseNumbers.{passed_on}
 use Rattle.site_forms.proofs.Telling.{told_saving}
 use Rattle.site_forms.proofs.savings.saving_beside.Goals as goal
 
--- by what was read at the place
 pub returns-then-form-clause-value : goal.returns-then-form-clause-value
 returns-then-form-clause-value c = λ m move is.
     let a = c.args in
-    let form = a.form.now in
-    let ends = form.ends.now in
+    let e = c.listed_rises.ensures in
+    let rises = c.listed_rises.result in
+    let small : unsigned_abs c.saving_of.result ≤ 20000000 = omega (arith, ap unsigned_abs c.saving_of.ensures, abs-sub rises.low rises.high, e.low_small, e.high_small) in
+    passed_on c.saving_of.result small ∙ c.saving_of.ensures ∙ told_saving m move a.form.now a.site a.place rises is c.requires.place e
+
+pub returns-then-form-2-clause-value : goal.returns-then-form-2-clause-value
+returns-then-form-2-clause-value c = λ m move is.
+    let a = c.args in
     let e = c.place_rises.ensures in
     let rises = c.place_rises.result in
-    let small : unsigned_abs c.saving_of.result ≤ 20000000 = omega (arith, ap unsigned_abs c.saving_of.ensures, abs-sub rises.low rises.high, e.low_small, e.high_small) in
-    passed_on c.saving_of.result small ∙ c.saving_of.ensures
-    ∙ told_saving m move form a.site (neighbour_at ends a.place) (weight_at ends a.place) (is_first ends a.site a.place) rises is.read c.requires.place.inside
-    (form.form.places.inside a.site a.place c.requires.place.inside c.requires.place.from c.requires.place.to) e
+    let small : unsigned_abs c.saving_of-then-form-2.result ≤ 20000000 = omega (arith, ap unsigned_abs c.saving_of-then-form-2.ensures, abs-sub rises.low rises.high, e.low_small, e.high_small) in
+    passed_on c.saving_of-then-form-2.result small ∙ c.saving_of-then-form-2.ensures ∙ told_saving m move a.form.now a.site a.place rises is c.requires.place e
 
 pub returns-clause-value : goal.returns-clause-value
 returns-clause-value c = λ m move is.
     let a = c.args in
-    let form = a.form.now in
-    let ends = form.ends.now in
     let e = c.place_rises-2.ensures in
     let rises = c.place_rises-2.result in
     let small : unsigned_abs c.saving_of-2.result ≤ 20000000 = omega (arith, ap unsigned_abs c.saving_of-2.ensures, abs-sub rises.low rises.high, e.low_small, e.high_small) in
-    passed_on c.saving_of-2.result small ∙ c.saving_of-2.ensures
-    ∙ told_saving m move form a.site (neighbour_at ends a.place) (weight_at ends a.place) (is_first ends a.site a.place) rises is.read c.requires.place.inside
-    (form.form.places.inside a.site a.place c.requires.place.inside c.requires.place.from c.requires.place.to) e
+    passed_on c.saving_of-2.result small ∙ c.saving_of-2.ensures ∙ told_saving m move a.form.now a.site a.place rises is c.requires.place e

@@ -6,4 +6,5 @@ abbrev pub invariant-loop-index : goal.invariant-loop-index
 invariant-loop-index l = l.pairs ≡ record {
   sites = l.initial.pairs.sites;
   list = map (with_weight (edge_weight l.options l.picture)) (take l.index l.initial.pairs.list) ++ drop l.index l.initial.pairs.list;
+  numbered = l.initial.pairs.numbered;
 }

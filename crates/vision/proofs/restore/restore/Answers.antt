@@ -26,6 +26,8 @@ returns-clause-run g c =
       labels_are = ap (λ v. v + 1) (sym maxval);
       pairs_are = sym (ap (λ (l : PairList). l.list) c.in_ok-pairs.ensures);
       data_are = λ a b z la lb is. is ∙ ap (λ xs. pos (distance (slice_index xs a) b)) c.samples-samples.ensures.value;
+      table = shape_cost o.smooth o.trunc;
+      weighted = λ weight a b. refl;
       smooth_are = subst S (sym c.as_slice-table.ensures.value) c.in_ok-smooth.ensures.table;
     })) (record { each = λ label l. sym (c.in_ok-label_costs.ensures.each label (omega (arith, l, maxval))) })))
 
@@ -44,6 +46,8 @@ returns-clause-metric g c = λ apart.
       labels_are = ap (λ v. v + 1) (sym maxval);
       pairs_are = sym (ap (λ (l : PairList). l.list) c.in_ok-pairs.ensures);
       data_are = λ a b z la lb is. is ∙ ap (λ xs. pos (distance (slice_index xs a) b)) c.samples-samples.ensures.value;
+      table = shape_cost o.smooth o.trunc;
+      weighted = λ weight a b. refl;
       smooth_are = table;
     })) (record { each = λ label l. sym (c.in_ok-label_costs.ensures.each label (omega (arith, l, maxval))) })
 

@@ -27,6 +27,8 @@ returns-clause-run g c =
       labels_are = refl;
       pairs_are = sym (ap (λ (l : PairList). l.list) c.in_ok-pairs.ensures);
       data_are = λ a b z la lb is. is ∙ (λ k. pos (part_cost o (slice_index (c.samples-samples.ensures.value k) a) (slice_index (c.samples-marks.ensures.value k) a) b));
+      table = shape_cost Potts 1;
+      weighted = λ weight a b. refl;
       smooth_are = subst S (sym c.as_slice-table.ensures.value) c.in_ok-smooth.ensures.table;
     })) (record { each = λ label l. refl })
 
@@ -41,6 +43,8 @@ returns-clause-metric g c =
       labels_are = refl;
       pairs_are = sym (ap (λ (l : PairList). l.list) c.in_ok-pairs.ensures);
       data_are = λ a b z la lb is. is ∙ (λ k. pos (part_cost o (slice_index (c.samples-samples.ensures.value k) a) (slice_index (c.samples-marks.ensures.value k) a) b));
+      table = shape_cost Potts 1;
+      weighted = λ weight a b. refl;
       smooth_are = table;
     })) (record { each = λ label l. refl })
 

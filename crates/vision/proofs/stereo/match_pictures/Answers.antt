@@ -24,6 +24,8 @@ returns-clause-run g c =
       data_are = told_cost o.cap c.width.result _ o.labels c.args.left.now c.args.right.now c.in_ok-columns.columns.items c.as_slice-columns.result.now c.samples-here.result.now
           c.samples-there.result.now c.samples-here.ensures.valid c.width.ensures (ap (λ (l : PairList). l.sites) c.in_ok-pairs.ensures) c.requires.options.labels_most
           c.in_ok-columns.ensures c.as_slice-columns.ensures.value c.samples-here.ensures.value c.samples-there.ensures.value;
+      table = shape_cost o.smooth o.trunc;
+      weighted = λ weight a b. refl;
       smooth_are = subst S (sym c.as_slice-table.ensures.value) c.in_ok-smooth.ensures.table;
     })) (record { each = λ label l. refl }))
 
@@ -41,6 +43,8 @@ returns-clause-metric g c = λ apart.
       data_are = told_cost o.cap c.width.result _ o.labels c.args.left.now c.args.right.now c.in_ok-columns.columns.items c.as_slice-columns.result.now c.samples-here.result.now
           c.samples-there.result.now c.samples-here.ensures.valid c.width.ensures (ap (λ (l : PairList). l.sites) c.in_ok-pairs.ensures) c.requires.options.labels_most
           c.in_ok-columns.ensures c.as_slice-columns.ensures.value c.samples-here.ensures.value c.samples-there.ensures.value;
+      table = shape_cost o.smooth o.trunc;
+      weighted = λ weight a b. refl;
       smooth_are = table;
     })) (record { each = λ label l. refl })
 

@@ -1,4 +1,4 @@
-use Rattle.std.proofs.Common.{◌∙◌, ℕ, refl, sym, subst, length, arith}
+use Rattle.std.proofs.Common.{◌∙◌, ℕ, refl, sym, subst, arith}
 use Rattle.label_energies.specs.Energies.{labelling}
 use Rattle.site_bounds.specs.Working.{AreWaiting, AreWaitingBut, ArePartlyDecided}
 use Rattle.site_bounds.proofs.Places.{partly_same, popped_waits}
@@ -17,13 +17,13 @@ deciding-init c = record {
 
 pub decide_told-requires-clause-site : goal.decide_told-requires-clause-site
 decide_told-requires-clause-site c =
-    let n = length c.args.self.now.least.items in
+    let n = c.args.self.now.summed in
     let inside = (popped_waits n c.in-Some.site c.deciding.self (record c.deciding.self { waiting = c.pop.new.self }) c.in-Some.ensures.items refl refl refl c.deciding.invariant.waiting).0 in
     omega (arith, inside, c.deciding.invariant.same)
 
 pub decide_told-requires-clause-waiting : goal.decide_told-requires-clause-waiting
 decide_told-requires-clause-waiting c =
-    let n = length c.args.self.now.least.items in
+    let n = c.args.self.now.summed in
     let W : ℕ → Type 0 = λ k. AreWaitingBut k c.in-Some.site (record c.deciding.self { waiting = c.pop.new.self }) in
     subst W (sym c.deciding.invariant.same)
     (popped_waits n c.in-Some.site c.deciding.self (record c.deciding.self { waiting = c.pop.new.self }) c.in-Some.ensures.items refl refl refl c.deciding.invariant.waiting).1
@@ -32,7 +32,7 @@ pub deciding-preserved : goal.deciding-preserved
 deciding-preserved c =
     let e = c.in_ok-decide_told.ensures in
     let same = c.deciding.invariant.same in
-    let n = length c.args.self.now.least.items in
+    let n = c.args.self.now.summed in
     let W : ℕ → Type 0 = λ k. AreWaiting k c.decide_told.new.self in
     record {
       budget = e.budget;
@@ -56,7 +56,8 @@ decide_told-requires-clause-budget c = record {
   sized = record {
     choices = c.deciding.invariant.budget.sized.choices;
     greatest = c.deciding.invariant.budget.sized.greatest;
-    within = c.deciding.invariant.budget.sized.within;
+    room = c.deciding.invariant.budget.sized.room;
+    most = c.deciding.invariant.budget.sized.most;
   };
   left = c.deciding.invariant.budget.left;
   range = c.deciding.invariant.budget.range;
@@ -89,7 +90,7 @@ returns-in_err-decide_told-clause-decided c =
 
 pub returns-clause-decided : goal.returns-clause-decided
 returns-clause-decided c = λ m move read first.
-    partly_same m move (labelling c.args.form.now.at.now) (length c.args.self.now.least.items) c.deciding.self (record c.deciding.self { waiting = c.pop.new.self }) refl refl refl
+    partly_same m move (labelling c.args.form.now.at.now) (c.args.self.now.summed) c.deciding.self (record c.deciding.self { waiting = c.pop.new.self }) refl refl refl
     (c.deciding.invariant.decided m move read first)
 
 pub returns-in_err-decide_told-clause-total : goal.returns-in_err-decide_told-clause-total
@@ -102,7 +103,8 @@ returns-clause-budget c = record {
   sized = record {
     choices = c.deciding.invariant.budget.sized.choices;
     greatest = c.deciding.invariant.budget.sized.greatest;
-    within = c.deciding.invariant.budget.sized.within;
+    room = c.deciding.invariant.budget.sized.room;
+    most = c.deciding.invariant.budget.sized.most;
   };
   left = c.deciding.invariant.budget.left;
   range = c.deciding.invariant.budget.range;

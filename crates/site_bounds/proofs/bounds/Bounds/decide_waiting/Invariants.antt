@@ -9,13 +9,13 @@ use Rattle.site_bounds.proofs.bounds.Bounds.decide_waiting.Given as goal
 abbrev pub invariant-deciding : goal.invariant-deciding
 invariant-deciding l = record {
   budget : IsInBudget l.form l.self;
-  same : length l.self.least.items ≡ length l.fn.self.least.items;
-  waiting : AreWaiting (length l.fn.self.least.items) l.self;
+  same : l.self.summed ≡ l.fn.self.summed;
+  waiting : AreWaiting (l.fn.self.summed) l.self;
   closed : StayDecided l.fn.self l.self;
   total : total_left l.form l.self ≤ total_left l.form l.fn.self;
   decided : (m : Instance) (move : Move) → IsFormOf m move l.form
-      → ArePartlyDecided m move (labelling l.form.at.now) (length l.fn.self.least.items) l.fn.self
-      → ArePartlyDecided m move (labelling l.form.at.now) (length l.fn.self.least.items) l.self;
+      → ArePartlyDecided m move (labelling l.form.at.now) (l.fn.self.summed) l.fn.self
+      → ArePartlyDecided m move (labelling l.form.at.now) (l.fn.self.summed) l.self;
 }
 
 abbrev pub decreases-deciding : goal.decreases-deciding

@@ -1,4 +1,4 @@
-use Rattle.std.proofs.Common.{◌∙◌, sym, subst, ℕ, ◌<◌, ◌≡◌, length, arith}
+use Rattle.std.proofs.Common.{◌∙◌, sym, subst, ℕ, ◌<◌, ◌≡◌, arith}
 use Rattle.std.proofs.lemmas.Result.{on_ok_weaker}
 use Rattle.label_field.specs.PairLists.{IsPair}
 use Rattle.label_energies.specs.Energies.{labelling}
@@ -17,7 +17,7 @@ returns-then-not-has_bounds-clause-sees c = λ m move read.
     let a = c.args in
     let ends = a.form.now.ends.now in
     let choices = a.self.now.choices.items in
-    let n = length a.self.now.least.items in
+    let n = a.self.now.summed in
     let B : ℕ → Type 0 = λ u. (u < n) × (choice_at choices u ≡ Open) in
     let E : ℕ → Type 0 = λ h. AreEnds (pair_beside ends a.site a.place) a.site h in
     let both = subst E (sym c.head_at-head.ensures.head) (from_ends (is_first ends a.site a.place) a.site (neighbour_at ends a.place) (weight_at ends a.place)) in
@@ -27,12 +27,12 @@ returns-then-not-has_bounds-clause-sees c = λ m move read.
 pub shift-requires-clause-site : goal.shift-requires-clause-site
 shift-requires-clause-site c =
     let below = (c.has_bounds.ensures.0 c.if-not-has_bounds.false).0 in
-    (below, omega (arith, below, c.requires.sized.greatest))
+    (omega (arith, below, c.requires.sized.room), omega (arith, below, c.requires.sized.room, c.requires.sized.greatest))
 
 pub returns-clause-waiting : goal.returns-clause-waiting
 returns-clause-waiting c =
     let below = (c.has_bounds.ensures.0 c.if-not-has_bounds.false).0 in
-    on_ok_weaker c.shift.result (λ keeps. keeps (length c.args.self.now.least.items) below c.requires.waiting) c.shift.ensures.waiting
+    on_ok_weaker c.shift.result (λ keeps. keeps (c.args.self.now.summed) below c.requires.waiting) c.shift.ensures.waiting
 
 pub returns-clause-sees : goal.returns-clause-sees
 returns-clause-sees c =
@@ -45,6 +45,6 @@ returns-clause-sees c =
     let both = subst E (sym c.head_at-head.ensures.head) (from_ends (is_first ends a.site a.place) a.site (neighbour_at ends a.place) (weight_at ends a.place)) in
     let is = beside_has (IsPair form.pairs.now.sites) form.pairs.now ends a.site a.place over.list.each over.by_site (omega (arith, c.requires.place.inside, over.sites)) c.requires.place.from c.requires.place.to in
     on_ok_weaker c.shift.result (λ shifts m move read.
-    sees_open m move (labelling form.at.now) (length a.self.now.least.items) pair a.site c.head_at-head.result a.value _ a.self.now c.shift.new.self
+    sees_open m move (labelling form.at.now) (a.self.now.summed) pair a.site c.head_at-head.result a.value _ a.self.now c.shift.new.self
     both (ends_apart pair a.site c.head_at-head.result both is.unequal)
     (passed_on c.saving_beside-surplus.result c.saving_beside-surplus.ensures.range ∙ c.saving_beside-surplus.ensures.value m move read) shifts) c.shift.ensures.shifts

@@ -9,7 +9,7 @@ pub returns-then-waits-clause-looking : goal.returns-then-waits-clause-looking
 returns-then-waits-clause-looking c =
     let t = c.shift_bounds.ensures in
     let few : length c.shift_bounds.new.self.waiting.items ≤ length c.args.self.now.waiting.items + 1 = (let e = ap (λ (v : _). length v.items) t.same.1 in omega (arith, e)) in
-    looking_of c.args.self.now c.shift_bounds.new.self c.shift_bounds.new.self t.same.0 t.sized.0 t.sized.1 t.range t.total refl refl refl few
+    looking_of c.args.self.now c.shift_bounds.new.self c.shift_bounds.new.self t.same.0 t.same.2 t.sized.0 t.sized.1 t.range t.total refl refl refl refl few
 
 pub returns-then-waits-clause-shifts : goal.returns-then-waits-clause-shifts
 returns-then-waits-clause-shifts c =
@@ -32,7 +32,7 @@ returns-clause-looking c =
     let t = c.shift_bounds.ensures in
     let s = c.call_up.ensures.same in
     on_ok_weaker c.call_up.result (λ calls.
-    looking_of c.args.self.now c.shift_bounds.new.self c.call_up.new.self t.same.0 t.sized.0 t.sized.1 t.range t.total s.0 s.1 s.2
+    looking_of c.args.self.now c.shift_bounds.new.self c.call_up.new.self t.same.0 t.same.2 t.sized.0 t.sized.1 t.range t.total s.0 s.1 s.2 s.3
     (let e = ap (λ (v : _). length v.items) t.same.1 in omega (arith, e, calls.more))) c.call_up.ensures.calls
 
 pub returns-clause-shifts : goal.returns-clause-shifts

@@ -20,21 +20,21 @@ use Rattle.site_bounds.proofs.bounds.Bounds.sum_site.Goals as goal
 pub answer-requires-clause-bounds : goal.answer-requires-clause-bounds
 answer-requires-clause-bounds c =
     let a = c.args in
-    let added = added_of a.site _ _ a.self.now c.add_bounds.new.self c.requires.site.1 c.requires.budget.sized.greatest c.in_ok-add_bounds.ensures.adds in
-    let one = added_summed (length a.form.now.at.now) a.site _ _ a.self.now c.add_bounds.new.self added c.requires.site.0 c.requires.budget.sized.choices in
-    (omega (arith, one.0), omega (arith, one.0, one.1.greatest))
+    let added = added_of a.site _ _ a.self.now c.add_bounds.new.self c.requires.bounds.0 c.requires.bounds.1 c.add_bounds.ensures in
+    let one = added_summed (length a.form.now.at.now) a.site _ _ a.self.now c.add_bounds.new.self added c.requires.budget.sized in
+    (omega (arith, added.summed, one.room), omega (arith, added.summed, one.room, one.greatest))
 
 pub answer-requires-clause-choice : goal.answer-requires-clause-choice
 answer-requires-clause-choice c =
     let a = c.args in
-    let added = added_of a.site _ _ a.self.now c.add_bounds.new.self c.requires.site.1 c.requires.budget.sized.greatest c.in_ok-add_bounds.ensures.adds in
+    let added = added_of a.site _ _ a.self.now c.add_bounds.new.self c.requires.bounds.0 c.requires.bounds.1 c.add_bounds.ensures in
     let count = ap (λ (v : _). length v.items) added.choices in
     omega (arith, count, c.requires.site.0, c.requires.budget.sized.choices)
 
 pub returns : goal.returns
 returns c =
     let a = c.args in
-    let added = added_of a.site _ _ a.self.now c.add_bounds.new.self c.requires.site.1 c.requires.budget.sized.greatest c.in_ok-add_bounds.ensures.adds in
+    let added = added_of a.site _ _ a.self.now c.add_bounds.new.self c.requires.bounds.0 c.requires.bounds.1 c.add_bounds.ensures in
     let opened = ap (λ (v : _). choice_at v.items a.site) added.choices ∙ c.requires.opened in
     let same = ap (λ (v : _). open_ends a.form.now.ends.now (length a.form.now.at.now) v.items) added.choices in
     let inside : a.site < a.form.now.pairs.now.sites = omega (arith, c.requires.site.0, c.requires.over.sites) in
@@ -46,10 +46,9 @@ returns c =
     on_ok_weaker c.answer.result (λ told. record {
       left = (let less = answered_left a.form.now.ends.now (length a.form.now.at.now) a.site _ c.add_bounds.new.self c.answer.new.self c.requires.site.0 opened told in
           omega (arith, less, same));
-      summed = ap (λ (v : _). length v.items) (answered_bounds a.site _ c.add_bounds.new.self c.answer.new.self told).0
-          ∙ (added_summed (length a.form.now.at.now) a.site _ _ a.self.now c.add_bounds.new.self added c.requires.site.0 c.requires.budget.sized.choices).0;
+      summed = (answered_bounds a.site _ c.add_bounds.new.self c.answer.new.self told).2 ∙ added.summed;
       sized = answered_summed (length a.form.now.at.now) a.site _ c.add_bounds.new.self c.answer.new.self told
-          (added_summed (length a.form.now.at.now) a.site _ _ a.self.now c.add_bounds.new.self added c.requires.site.0 c.requires.budget.sized.choices).1;
+          (added_summed (length a.form.now.at.now) a.site _ _ a.self.now c.add_bounds.new.self added c.requires.budget.sized);
       range = (let same = answered_bounds a.site _ c.add_bounds.new.self c.answer.new.self told in
           range_same c.add_bounds.new.self c.answer.new.self _ same.0 same.1
           (added_range a.site (budget_of (open_ends a.form.now.ends.now (length a.form.now.at.now) a.self.now.choices.items)) _ _ a.self.now c.add_bounds.new.self added

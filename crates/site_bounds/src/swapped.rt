@@ -1,0 +1,120 @@
+//! The sites of a swap: those that have one of its two labels.
+ghost use Rattle.std.specs.Prelude.{◌≡◌, ◌||◌, ◌==◌, ◌+◌, ◌<◌, ◌≤◌, ℕ, false, All, length, OnOk};
+ghost use Rattle.label_energies.specs.Energies.{labelling};
+ghost use Rattle.label_energies.specs.declared.change.Move.TheVariants.{Swap};
+ghost use Rattle.label_field.specs.Limits.{site_limit};
+ghost use Rattle.move_energy.specs.BySite.{IsListing};
+ghost use Rattle.site_bounds.specs.Swapped.{can_turn, has_either, OpensSites};
+
+use crate::lists::add_chosen;
+use move_energy::Choice;
+use std::alloc::AllocError;
+
+/// So many sites are looked over at once for one that has one of two labels.
+const BLOCK: usize = 16;
+
+/// Whether a label is one of two.
+fn is_either(label: u8, one: u8, other: u8) -> bool
+    ensures { result ≡ (label == one) || (label == other) }
+{
+    label == one || label == other
+}
+
+/// Whether a site of the block that begins at one has one of two labels.
+fn has_one(at: &[u8], one: u8, other: u8, from: usize) -> bool
+    requires { from + 16 ≤ length at.now }
+    ensures { result ≡ false → (p : ℕ) → from ≤ p → p < from + 16 →
+        has_either one other (labelling at.now) p ≡ false }
+{
+    let mut any = false;
+    for place in 0..BLOCK {
+        if is_either(at[from + place], one, other) {
+            any = true;
+        }
+    }
+    any
+}
+
+/// Lists those of the sites from one on, before another, that have one of two labels, behind those
+/// before these.
+fn list_part(
+    list: &mut Vec<u32>,
+    at: &[u8],
+    one: u8,
+    other: u8,
+    from: usize,
+    to: usize,
+) -> Result<(), AllocError>
+    requires part { (from ≤ to) × (to ≤ length at.now) }
+    requires small { length at.now ≤ site_limit }
+    requires listed { IsListing (has_either one other (labelling at.now)) from list.old.items }
+    ensures { OnOk result (IsListing (has_either one other (labelling at.now)) to list.new.items) }
+{
+    for site in from..to {
+        add_chosen(list, site as u32, is_either(at[site], one, other))?;
+    }
+    Ok(())
+}
+
+/// The same for the block that begins at one. A block without such a site is passed over at once.
+fn list_block(
+    list: &mut Vec<u32>,
+    at: &[u8],
+    one: u8,
+    other: u8,
+    from: usize,
+) -> Result<(), AllocError>
+    requires block { from + 16 ≤ length at.now }
+    requires small { length at.now ≤ site_limit }
+    requires listed { IsListing (has_either one other (labelling at.now)) from list.old.items }
+    ensures { OnOk result
+        (IsListing (has_either one other (labelling at.now)) (from + 16) list.new.items) }
+{
+    if !has_one(at, one, other, from) {
+        return Ok(());
+    }
+    list_part(list, at, one, other, from, from + BLOCK)
+}
+
+/// Lists the sites that have one of two labels.
+fn list_either(list: &mut Vec<u32>, at: &[u8], one: u8, other: u8) -> Result<(), AllocError>
+    requires { length at.now ≤ site_limit }
+    ensures { OnOk result
+        (IsListing (has_either one other (labelling at.now)) (length at.now) list.new.items) }
+{
+    list.clear();
+    let mut from = 0;
+    while from + BLOCK <= at.len() {
+        list_block(list, at, one, other, from)?;
+        from += BLOCK;
+    }
+    list_part(list, at, one, other, from, at.len())
+}
+
+/// Lists the sites that a swap can change: none where its labels are one.
+pub(crate) fn list_swapped(
+    list: &mut Vec<u32>,
+    at: &[u8],
+    alpha: u8,
+    beta: u8,
+) -> Result<(), AllocError>
+    requires { length at.now ≤ site_limit }
+    ensures { OnOk result
+        (IsListing (can_turn (Swap alpha beta) (labelling at.now)) (length at.now) list.new.items) }
+{
+    if alpha == beta {
+        list.clear();
+        return Ok(());
+    }
+    list_either(list, at, alpha, beta)
+}
+
+/// Opens these sites.
+pub(crate) fn mark_open(choices: &mut Vec<Choice>, sites: &[u32])
+    requires { All (λ p. p < length choices.old.items) sites.now }
+    ensures { OpensSites sites.now choices.old.items choices.new.items }
+{
+    for place in 0..sites.len() {
+        choices[sites[place] as usize] = Choice::Open;
+    }
+}
