@@ -33,8 +33,8 @@ PARTS = [
     (
         "building",
         (
-            "move_energy", "label_cost_terms", "strips", "pseudo_bool", "regular", "compile_cut",
-            "sums",
+            "move_energy", "label_cost_terms", "strip_nets", "strips", "pseudo_bool", "regular",
+            "compile_cut", "sums",
         ),
     ),
     ("cutting", ("plain_cut", "cut_ways", "sink_distances", "flow_network")),

@@ -31,7 +31,7 @@ use Rattle.site_bounds.specs.Listed.{AreListed, changes}
 use Rattle.site_bounds.specs.Decisions.{IsSmallestLeast}
 use Rattle.move_energy.specs.MoveValues.{move_value}
 use Rattle.site_forms.specs.Lists.{AreFormLists, IsReadOf, KnowsCosts}
-use Rattle.strips.specs.Looking.{IsStageLeast}
+use Rattle.strip_nets.specs.Looking.{IsStageLeast}
 use Rattle.one_move.specs.declared.left.Left.{Left}
 use Rattle.one_move.specs.declared.left.Left.TheVariants.{Form, Values}
 use Rattle.one_move.specs.declared.workspace.Workspace.{Workspace}

@@ -19,7 +19,7 @@ use Rattle.move_energy.specs.declared.by_site.Neighbours.{Neighbours}
 use Rattle.site_forms.proofs.Taking.{pairs_near}
 use Rattle.site_forms.specs.Lists.{with_costs_at, IsReadOf, IsReadNear}
 use Rattle.persistency.specs.Fixing.{with_choices}
-use Rattle.strips.specs.Looking.{IsStageLeast}
+use Rattle.strip_nets.specs.Looking.{IsStageLeast}
 
 -- what the labels cost the sites that were not asked
 abbrev rest_cost : Instance → (ℕ → Bool) → (ℕ → ℕ) → ℕ

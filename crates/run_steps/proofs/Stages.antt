@@ -22,7 +22,7 @@ use Rattle.near_changes.specs.Looking.{IsClosedIn}
 use Rattle.near_changes.proofs.Parts.{ones_can_take}
 use Rattle.persistency.proofs.Fixing.{ones_bound}
 use Rattle.near_changes.proofs.Ending.{stage_ends}
-use Rattle.strips.specs.Looking.{IsStageLeast}
+use Rattle.strip_nets.specs.Looking.{IsStageLeast}
 use Rattle.one_move.specs.Building.{HasTaken}
 use Rattle.one_move.proofs.Least.{expanded_best, free_least}
 

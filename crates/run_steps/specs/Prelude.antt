@@ -24,4 +24,4 @@ pub use Rattle.one_move.specs.Moved.{IsMade, IsCutRefusal, IsMoveRefusal, IsMove
 pub use Rattle.near_changes.specs.Changes.{made_of, changed_after, AreStamped}
 pub use Rattle.near_changes.specs.Fresh.{WasExpanded}
 pub use Rattle.near_changes.specs.Looking.{is_marked, AreTaking, IsClosedIn}
-pub use Rattle.strips.specs.Looking.{IsStageLeast}
+pub use Rattle.strip_nets.specs.Looking.{IsStageLeast}

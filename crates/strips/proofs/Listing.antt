@@ -11,8 +11,8 @@ use Rattle.move_energy.specs.Choices.{choice_at, is_open, open_at, AreOpenSites}
 use Rattle.move_energy.proofs.Opened.{open_true}
 use Rattle.persistency.specs.Agreeing.{or_else}
 use Rattle.persistency.specs.Borders.{range_of}
-use Rattle.strips.specs.Views.{strip_view}
-use Rattle.strips.proofs.Views.{in_range, above_range, below_range, range_more, view_length, open_is, seen_out, inside_open, whole_is}
+use Rattle.strip_nets.specs.Views.{strip_view}
+use Rattle.strip_nets.proofs.Views.{in_range, above_range, below_range, range_more, view_length, open_is, seen_out, inside_open, whole_is}
 
 -- ---- lists of sites
 

@@ -1,32 +1,81 @@
 -- A range of sites told: what was chosen stays, and the sites that are left open are listed.
-use Rattle.std.proofs.Common.{◌≡◌, ◌<◌, ◌≤◌, ℕ, List, Bool, true, false, length, Result, Ok, Err, refl, sym, ap, ◌∙◌, inl, inr, arith}
-use Rattle.std.specs.Prelude.{OnOk, filter, vec_len}
+use Rattle.std.proofs.Common.{◌≡◌, ◌≢◌, ◌<◌, ◌≤◌, ℕ, ℤ, List, Bool, true, false, length, Result, Ok, Err, refl, sym, ap, ◌∙◌, inl, inr, arith}
+use Rattle.std.specs.Prelude.{OnOk, filter}
 use Rattle.std.proofs.lemmas.Bool.{cases_lt}
 use Rattle.std.proofs.lemmas.List.{get_or_past}
 use Rattle.label_energies.specs.declared.change.Move.{Move}
 use Rattle.label_energies.specs.Energies.{Instance, IsInstance}
 use Rattle.label_energies.specs.Moves.{IsAllowed}
 use Rattle.plain_cut.specs.declared.both.BothSides.{BothSides}
-use Rattle.pseudo_bool.specs.Energies.{assignment}
-use Rattle.compile_cut.specs.declared.quadratic.Quadratic.{Quadratic}
-use Rattle.compile_cut.specs.Quadratics.{quadratic_value}
 use Rattle.move_energy.specs.declared.choice.Choice.{Choice}
-use Rattle.move_energy.specs.declared.choice.Choice.TheVariants.{Zero}
-use Rattle.move_energy.specs.Choices.{choice_at, open_at, AreOpenSites}
-use Rattle.site_bounds.specs.Decisions.{IsSmallestLeast}
+use Rattle.move_energy.specs.declared.choice.Choice.TheVariants.{Open, Zero, One}
+use Rattle.move_energy.specs.BySite.{rising_sites}
+use Rattle.move_energy.specs.Choices.{choice_at, is_open, open_at, AreOpenSites}
 use Rattle.move_energy.specs.MoveValues.{move_value}
+use Rattle.move_energy.proofs.Rising.{move_falls, move_over}
 use Rattle.persistency.specs.Agreeing.{Agree, or_else, choices_or}
 use Rattle.persistency.specs.Borders.{is_inside, range_of}
-use Rattle.persistency.specs.Strips.{Strip, told_by}
+use Rattle.persistency.specs.Strips.{Strip, told_by, IsStripBounded}
 use Rattle.persistency.specs.Telling.{IsStripListed}
-use Rattle.strips.specs.declared.material.StripSites.{StripSites}
-use Rattle.strips.specs.Building.{IsStripForm}
+use Rattle.persistency.proofs.Strips.{strip_agrees}
+use Rattle.strip_nets.specs.Sides.{AreBounds}
+use Rattle.strip_nets.specs.Views.{KeepsChosen, strip_view}
+use Rattle.strip_nets.proofs.Views.{inside_is, view_length, open_is, seen_in, open_inside, inside_open}
+use Rattle.strip_nets.proofs.Bounding.{strip_of, strip_listed}
 use Rattle.strips.specs.Parts.{EndsWithStrip}
-use Rattle.strips.specs.Sides.{AreBounds, IsAsTold, IsLessBorder}
-use Rattle.strips.specs.Views.{KeepsChosen, strip_view}
-use Rattle.strips.proofs.Lessening.{less_exists}
-use Rattle.strips.proofs.Views.{inside_is}
-use Rattle.strips.proofs.Bounding.{strip_of, strip_listed, strip_bounded, told_goes_on, told_left, told_agree}
+use Rattle.strips.specs.Telling.{IsAsTold}
+use Rattle.strips.proofs.Listing.{listing_left}
+
+-- ---- what a strip tells, written into the choices
+
+else_kept : (c d : Choice) → c ≢ Open → or_else c d ≡ c
+else_kept Open d other = absurd (other refl)
+else_kept Zero d other = refl
+else_kept One d other = refl
+
+open_first : (c d : Choice) → is_open (or_else c d) ≡ true → is_open c ≡ true
+open_first Open d h = refl
+open_first Zero d h = absurd (cc (h))
+open_first One d h = absurd (cc (h))
+
+-- what was chosen stays
+pub told_goes_on : (start known new : List Choice) (tells : ℕ → Choice) → length new ≡ length known → KeepsChosen start known
+    → ((p : ℕ) → p < length known → choice_at new p ≡ choices_or (choice_at known) tells p) → KeepsChosen start new
+told_goes_on start known new tells count on each p inside shuts =
+    let l : p < length known = omega (arith, inside, count) in
+    let was = on p l shuts in
+    each p l ∙ else_kept (choice_at known p) (tells p) (λ o. shuts (sym was ∙ o)) ∙ was
+
+-- the listed sites that are still open are those of the range
+pub told_left : (known new : List Choice) (from to : ℕ) (opened : List ℕ) (tells : ℕ → Choice) → length new ≡ length known
+    → ((p : ℕ) → p < length known → choice_at new p ≡ choices_or (choice_at known) tells p)
+    → AreOpenSites (strip_view known from to) opened → AreOpenSites (strip_view new from to) (filter (open_at new) opened)
+told_left known new from to opened tells count each listed =
+    let v = strip_view known from to in
+    let w = strip_view new from to in
+    ap (filter (open_at new)) listed
+    ∙ listing_left (open_at v) (open_at w) (open_at new) (length v)
+    (λ p l is.
+    let both = open_inside new from to p is in
+    inside_open known from to p both.0
+    (open_first (choice_at known p) (tells p) (sym (ap is_open (each p (omega (arith, l, view_length known from to)))) ∙ both.1)))
+    (λ p l is. sym (open_is new from to p ∙ ap is_open (seen_in new from to p (open_inside known from to p is).0)))
+    ∙ ap (rising_sites (open_at w)) (view_length known from to ∙ sym count ∙ sym (view_length new from to))
+
+agree_below : (n : ℕ) (E : (ℕ → Bool) → ℤ) (old new : ℕ → Choice) → ((p : ℕ) → p < n → new p ≡ old p) → Agree n E old → Agree n E new
+agree_below n E old new same agree = record {
+  zeros = λ s least p l is. agree.zeros s least p l (sym (same p l) ∙ is);
+  ones = λ s least p l is. agree.ones s least p l (sym (same p l) ∙ is);
+}
+
+pub told_agree : (m : Instance) (move : Move) (f : ℕ → ℕ) (known new : List Choice) (strip : Strip) → IsInstance m → IsAllowed m move f → length known ≡ m.sites
+    → ((p : ℕ) → p < length known → choice_at new p ≡ choices_or (choice_at known) (told_by strip) p)
+    → IsStripBounded m.sites (move_value m move f) (choice_at known) strip → Agree m.sites (move_value m move f) (choice_at known) → Agree m.sites (move_value m move f) (choice_at new)
+told_agree m move f known new strip pairs allowed size each bounded agree =
+    agree_below m.sites (move_value m move f) (choices_or (choice_at known) (told_by strip)) (choice_at new) (λ p l. each p (omega (arith, l, size)))
+    (strip_agrees m.sites (move_value m move f) (choice_at known) strip (move_falls m move f pairs allowed) (move_over m move f pairs) agree bounded)
+
+-- ---- what both sides of a strip tell of a range
 
 -- each listed site that is open has what the sides tell
 pub record HasTold (known new : List Choice) (opened : List ℕ) (lower upper : List Bool) : Type 0 where
@@ -105,19 +154,3 @@ ends_from m move f start known from to now count keeps ends = record {
   bounded = ends.bounded;
   tells = ends.tells;
 }
-
--- ---- the two cuts of a strip
-
-pub sides_bound : (m : Instance) (move : Move) (f : ℕ → ℕ) (known : List Choice) (sites : StripSites) (form : Quadratic) (borders : List ℕ) (sides : BothSides) → IsInstance m → IsAllowed m move f
-    → length known ≡ m.sites → AreOpenSites (strip_view known sites.from sites.to) sites.opened.now → length borders ≡ vec_len form.weights → vec_len form.weights ≡ length sites.opened.now
-    → IsStripForm m move f known sites form borders
-    → IsSmallestLeast (vec_len form.weights) (quadratic_value form) (assignment sides.lower.items)
-    → ((less : Quadratic) → IsLessBorder borders form less → IsSmallestLeast (vec_len form.weights) (quadratic_value less) (assignment sides.upper.items))
-    → AreBounds m move f known sites.opened.now sides
-sides_bound m move f known sites form borders sides pairs allowed size listed count nodes built lower upper =
-    let less = less_exists borders form count in (
-      strip_of known sites.from sites.to sides.lower.items sides.upper.items,
-      strip_listed known sites.from sites.to sites.opened.now sides.lower.items sides.upper.items listed,
-      strip_bounded m move f known sites.from sites.to sites.opened.now borders form less.0 sides.lower.items sides.upper.items pairs allowed size listed built.stands nodes built.each
-          lower less.1 (upper less.0 less.1),
-    )

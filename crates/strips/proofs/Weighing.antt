@@ -1,25 +1,19 @@
--- What the listed sites of a strip weigh.
-use Rattle.std.proofs.Common.{◌≡◌, ◌≢◌, ◌<◌, ◌≤◌, ◌+◌, ◌*◌, ◌∷◌, ◌++◌, [], ℕ, ℤ, List, All, length, map, take, sum_by, get_or, unsigned_abs, refl, sym, ap, ◌∙◌, arith}
-use Rattle.std.proofs.lemmas.List.{length-map, take_all}
-use Rattle.std.proofs.lemmas.List.Sums.{sum_by_push, sum_by_more}
+-- What the listed sites of a strip weigh, read of a list for all sites.
+use Rattle.std.proofs.Common.{◌≡◌, ◌≢◌, ◌<◌, ◌≤◌, ◌∷◌, [], ℕ, ℤ, List, All, length, map, get_or, refl, sym, ap, ◌∙◌, arith}
+use Rattle.std.proofs.lemmas.List.{length-map}
 use Rattle.std.proofs.lemmas.List.Elements.{All-head, All-tail, All-from_get_or}
-use Rattle.label_field.specs.PairLists.{IsPairList, PairList}
 use Rattle.label_energies.specs.declared.change.Move.{Move}
 use Rattle.label_energies.specs.Energies.{Instance}
 use Rattle.compile_cut.specs.Weights.{weights_size}
-use Rattle.move_energy.specs.declared.by_site.Neighbours.{Neighbours}
 use Rattle.move_energy.specs.declared.choice.Choice.{Choice}
 use Rattle.move_energy.specs.declared.choice.Choice.TheVariants.{Open, Zero, One}
-use Rattle.move_energy.specs.BySite.{AreBySite, degree}
 use Rattle.move_energy.specs.Choices.{choice_at, AreOpenSites}
 use Rattle.move_energy.specs.Weights.{weight_at, AreWeights}
-use Rattle.move_energy.proofs.Opened.{opened_has, opened_few, open_true, true_open}
+use Rattle.move_energy.proofs.Opened.{opened_has, open_true, true_open}
 use Rattle.site_bounds.specs.Parts.{site_weight}
-use Rattle.strips.specs.Views.{KeepsChosen, strip_view}
-use Rattle.strips.proofs.Borders.{weights_few, degrees_few}
-use Rattle.strips.proofs.Views.{view_length, open_inside}
-
--- ---- weights that are read of a list for all sites
+use Rattle.strip_nets.specs.Views.{KeepsChosen, strip_view}
+use Rattle.strip_nets.proofs.Borders.{weights_few}
+use Rattle.strip_nets.proofs.Views.{view_length, open_inside}
 
 pub listed_few : (choices : List Choice) (opened : List ℕ) (weights list : List ℤ) → list ≡ map (weight_at weights) opened → length weights ≡ length choices
     → AreOpenSites choices opened → weights_size weights ≤ 300000000000000 → weights_size list ≤ 300000000000000
@@ -59,22 +53,3 @@ pub starts_listed : (m : Instance) (move : Move) (f : ℕ → ℕ) (start known 
     → list ≡ map (site_weight m move f (choice_at start)) opened
 starts_listed m move f start known from to opened weights list size is listed on are =
     is ∙ map_open m move f start (length known) weights opened (omega (arith, size)) are (listed_open start known from to opened listed on)
-
--- ---- weights that are read one after another
-
-pub read_more : (list new : List ℤ) (opened : List ℕ) (ends : Neighbours) (i site : ℕ) (z : ℤ) → i < length opened → site ≡ get_or opened i 0
-    → new ≡ list ++ z ∷ [] → unsigned_abs z ≤ 10000000 + 10000000 * degree ends site
-    → weights_size list ≤ 10000000 * i + 10000000 * sum_by (degree ends) (take i opened)
-    → weights_size new ≤ 10000000 * (i + 1) + 10000000 * sum_by (degree ends) (take (i + 1) opened)
-read_more list new opened ends i site z l at pushed within before =
-    let size = ap (λ (ws : List ℤ). weights_size ws) pushed ∙ sum_by_push unsigned_abs list z in
-    let degrees = sum_by_more (degree ends) opened i 0 l in
-    let own = ap (degree ends) at in
-    omega (arith, size, degrees, own, within, before)
-
-pub read_all : (pairs : PairList) (ends : Neighbours) (choices : List Choice) (list : List ℤ) (opened : List ℕ) (i : ℕ) → IsPairList pairs → AreBySite pairs ends
-    → length choices ≡ pairs.sites → AreOpenSites choices opened → length opened ≤ i → i ≤ length opened
-    → weights_size list ≤ 10000000 * i + 10000000 * sum_by (degree ends) (take i opened) → weights_size list ≤ 300000000000000
-read_all pairs ends choices list opened i are by_site sites listed past few within =
-    let degrees = ap (λ (xs : List ℕ). sum_by (degree ends) xs) (take_all i opened past) in
-    omega (arith, within, degrees, degrees_few pairs ends choices opened by_site sites listed, opened_few choices opened listed, are.count, are.sites, sites, few)

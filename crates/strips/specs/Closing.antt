@@ -5,8 +5,8 @@ use Rattle.move_energy.specs.declared.choice.Choice.{Choice}
 use Rattle.move_energy.specs.Limits.{weights_limit}
 use Rattle.site_forms.specs.declared.numbers.SiteForm.{SiteForm}
 use Rattle.site_forms.specs.Numbers.{IsOverPairs}
-use Rattle.strips.specs.declared.material.Basis.{Basis}
-use Rattle.strips.specs.Views.{KeepsChosen}
+use Rattle.strips.specs.declared.basis.Basis.{Basis}
+use Rattle.strip_nets.specs.Views.{KeepsChosen}
 
 -- the form is of its pairs, something is known of each of its sites at the start, and each has a
 -- weight

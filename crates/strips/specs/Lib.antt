@@ -1,10 +1,3 @@
-pub mod Building
-pub mod Meeting
-pub mod RowForms
-pub mod Strips
 pub mod Closing
-pub mod Limits
-pub mod Looking
 pub mod Parts
-pub mod Sides
-pub mod Views
+pub mod Telling

@@ -16,7 +16,7 @@ use Rattle.site_forms.specs.Numbers.{IsFormOf, WhereRead}
 use Rattle.persistency.specs.Agreeing.{Agree, choices_or}
 use Rattle.persistency.specs.Borders.{is_inside, range_of}
 use Rattle.persistency.specs.Strips.{Strip, IsStripBounded, told_by}
-use Rattle.strips.specs.Views.{KeepsChosen}
+use Rattle.strip_nets.specs.Views.{KeepsChosen}
 
 -- the code of what is known of a site: 1 for the value 0, 2 for the value 1, and others for nothing
 abbrev pub choice_of_code : ℕ → Choice

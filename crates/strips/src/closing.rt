@@ -1,6 +1,7 @@
 //! Strip after strip: each is built with what is known by then, and what its two sides tell is
 //! known from then on.
-ghost use Rattle.std.specs.Prelude.{◌≡◌, ◌<◌, ◌≤◌, [], ℕ, All, List, length, vec_len, OnOk, IfOk};
+ghost use Rattle.std.specs.Prelude.{◌≡◌, ◌<◌, ◌≤◌, [], ℕ, All, List, map, length};
+ghost use Rattle.std.specs.Prelude.{vec_len, OnOk, IfOk};
 ghost use Rattle.label_field.specs.Limits.{site_limit};
 ghost use Rattle.label_energies.specs.Energies.{IsInstance};
 ghost use Rattle.pseudo_bool.specs.Limits.{term_limit};
@@ -8,21 +9,19 @@ ghost use Rattle.compile_cut.specs.Quadratics.{IsQuadraticBounded};
 ghost use Rattle.move_energy.specs.Choices.{choice_at, choice_of, value_of, open_count};
 ghost use Rattle.move_energy.specs.Choices.{open_rank, AreOpenSites, IsNumbering, StandsFor};
 ghost use Rattle.move_energy.specs.declared.choice.Choice.{Choice as AnyChoice};
-ghost use Rattle.move_energy.specs.Weights.{AreWeights};
+ghost use Rattle.move_energy.specs.Weights.{weight_at, AreWeights};
 ghost use Rattle.move_energy.specs.MoveValues.{move_value};
 ghost use Rattle.site_forms.specs.Numbers.{IsOverPairs, WhereRead};
 ghost use Rattle.persistency.specs.Agreeing.{Agree};
 ghost use Rattle.persistency.specs.Fixing.{AreLeastZeros};
+ghost use Rattle.strip_nets.specs.Looking.{IsStageLeast};
+ghost use Rattle.strip_nets.specs.Views.{KeepsChosen, strip_view};
 ghost use Rattle.strips.specs.Closing.{IsBasisOf, CanClose};
-ghost use Rattle.strips.specs.Looking.{IsStageLeast};
 ghost use Rattle.strips.specs.Parts.{EndsWithStrip};
-ghost use Rattle.strips.specs.Sides.{IsAsTold};
-ghost use Rattle.strips.specs.Views.{KeepsChosen, strip_view};
+ghost use Rattle.strips.specs.Telling.{IsAsTold};
 
-use crate::cutting::{cut_open, cut_read, cut_strip, list_weights, write_open};
-use crate::material::{Basis, Material, Room, StripSites};
+use crate::basis::Basis;
 use crate::opening::list_next;
-use crate::parting::read_weights;
 use crate::telling::tell_strip;
 use compile_cut::Quadratic;
 use move_energy::{Choice, Variables};
@@ -30,6 +29,9 @@ use plain_cut::BothSides;
 use site_bounds::SiteForm;
 use std::alloc::{AllocError, Global};
 use std::mem::swap;
+use strip_nets::{
+    Material, Room, StripSites, cut_open, cut_read, cut_strip, read_weights, write_open,
+};
 
 /// The open sites of a strip, what each weighed at the start, and the lists with which strips are
 /// built and cut. All keep their memory from strip to strip and from move to move.
@@ -47,6 +49,19 @@ fn know_start(known: &mut Vec<Choice>, start: &[Choice]) -> Result<(), AllocErro
 {
     known.clear();
     known.extend_from_slice(start)?;
+    Ok(())
+}
+
+/// Lists what the listed sites weighed at the start.
+fn list_weights(list: &mut Vec<i64>, weights: &[i64], opened: &[u32]) -> Result<(), AllocError>
+    requires sites { All (λ site. site < length weights.now) opened.now }
+    ensures { OnOk result (list.new.items ≡ map (weight_at weights.now) opened.now) }
+{
+    list.clear();
+    list.reserve(opened.len())?;
+    for index in 0..opened.len() {
+        list.push_reserved(weights[opened[index] as usize]);
+    }
     Ok(())
 }
 

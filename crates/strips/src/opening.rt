@@ -2,7 +2,7 @@
 ghost use Rattle.std.specs.Prelude.{◌≡◌, ◌<◌, ◌≤◌, ◌++◌, All, filter, length, IfOk, OnOk};
 ghost use Rattle.label_field.specs.Limits.{site_limit};
 ghost use Rattle.move_energy.specs.Choices.{open_at, AreOpenSites};
-ghost use Rattle.strips.specs.Views.{strip_view};
+ghost use Rattle.strip_nets.specs.Views.{strip_view};
 
 use move_energy::Choice;
 use std::alloc::AllocError;

@@ -1,53 +1,26 @@
 //! A move closed in by parts of its sites, side by side: each part is decided and closed in by
 //! numbers alone, strip by strip, with the sites of all other parts unknown.
-ghost use Rattle.std.specs.Prelude.{◌≡◌, ◌+◌, ◌<◌, ◌≤◌, List, map, length, vec_len};
+ghost use Rattle.std.specs.Prelude.{◌≡◌, ◌+◌, ◌<◌, ◌≤◌, List, length, vec_len};
 ghost use Rattle.std.specs.Prelude.{IfOk, OnOk};
 ghost use Rattle.label_field.specs.Limits.{site_limit};
 ghost use Rattle.label_energies.specs.Energies.{IsInstance};
-ghost use Rattle.compile_cut.specs.Weights.{weights_size};
 ghost use Rattle.move_energy.specs.declared.choice.Choice.{Choice as AnyChoice};
-ghost use Rattle.move_energy.specs.Choices.{choice_at, AreOpenSites};
-ghost use Rattle.move_energy.specs.Limits.{weights_limit};
+ghost use Rattle.move_energy.specs.Choices.{choice_at};
 ghost use Rattle.move_energy.specs.MoveValues.{move_value};
-ghost use Rattle.site_bounds.specs.Parts.{ArePassedChoices, site_weight};
+ghost use Rattle.site_bounds.specs.Parts.{ArePassedChoices};
 ghost use Rattle.site_forms.specs.Numbers.{IsOverPairs, WhereRead};
 ghost use Rattle.persistency.specs.Agreeing.{Agree};
+ghost use Rattle.strip_nets.specs.Views.{KeepsChosen};
 ghost use Rattle.strips.specs.Parts.{IsPartClosed, IsPartAnswer, OfParts, DecidesTold};
 ghost use Rattle.strips.specs.Parts.{EndsWithStrip, PartsEndWithStrips};
-ghost use Rattle.strips.specs.Views.{KeepsChosen, strip_view};
 
 use crate::closing::Strips;
 use crate::opening::list_next;
 use crate::parts::{codes_of, join_parts, part_start};
 use cut_ways::Fork;
 use move_energy::Choice;
-use site_bounds::{SiteForm, read_weight, sweep};
+use site_bounds::{SiteForm, sweep};
 use std::alloc::{AllocError, Global};
-
-/// Lists what each open site of a range weighs by what is known.
-pub(crate) fn read_weights(
-    weights: &mut Vec<i64>,
-    form: &SiteForm,
-    known: &[Choice],
-    from: u32,
-    to: u32,
-    opened: &[u32],
-) -> Result<(), AllocError>
-    requires over { IsOverPairs form.now }
-    requires count { length known.now ≡ length form.now.at.now }
-    requires opened { AreOpenSites (strip_view known.now from to) opened.now }
-    ensures weights { WhereRead form.now (λ m move f. IsInstance m → OnOk result
-        (weights.new.items ≡ map (site_weight m move f (choice_at known.now)) opened.now)) }
-    ensures count { OnOk result (length weights.new.items ≡ length opened.now) }
-    ensures size { OnOk result (weights_size weights.new.items ≤ weights_limit) }
-{
-    weights.clear();
-    weights.reserve(opened.len())?;
-    for index in 0..opened.len() {
-        weights.push_reserved(read_weight(form, known, opened[index]));
-    }
-    Ok(())
-}
 
 /// Closes in the strips of a range of sites, so many open sites each and what the strip before left
 /// open.

@@ -1,7 +1,7 @@
 //! What a strip tells, taken over.
 ghost use Rattle.std.specs.Prelude.{◌≡◌, ◌<◌, ◌++◌, All, filter, length, OnOk};
 ghost use Rattle.move_energy.specs.Choices.{open_at};
-ghost use Rattle.strips.specs.Sides.{IsAsTold};
+ghost use Rattle.strips.specs.Telling.{IsAsTold};
 
 use crate::opening::list_left;
 use move_energy::Choice;

@@ -7,8 +7,8 @@ use Rattle.move_energy.specs.Choices.{choice_at, open_count, open_rank, AreOpenS
 use Rattle.move_energy.specs.declared.choice.Choice.{Choice}
 use Rattle.move_energy.proofs.Opened.{opened_count}
 use Rattle.site_bounds.specs.Decisions.{IsSmallestLeast}
-use Rattle.strips.specs.Looking.{IsStageLeast}
-use Rattle.strips.proofs.Zeros.{stage_least}
+use Rattle.strip_nets.specs.Looking.{IsStageLeast}
+use Rattle.strip_nets.proofs.Looking.{stage_least}
 use Rattle.run_steps.proofs.Stages.{if_ok_map, on_ok}
 use Rattle.run_steps.proofs.stage_cut.cut_stage.Goals as goal
 

@@ -4,7 +4,7 @@ use Rattle.label_energies.specs.Energies.{labelling}
 use Rattle.move_energy.specs.declared.choice.Choice.{Choice}
 use Rattle.move_energy.specs.Choices.{choice_at, value_of}
 use Rattle.move_energy.proofs.Opened.{opened_within}
-use Rattle.strips.specs.Looking.{IsStageLeast}
+use Rattle.strip_nets.specs.Looking.{IsStageLeast}
 use Rattle.move_energy.specs.MoveValues.{move_value}
 use Rattle.persistency.specs.Fixing.{AreLeastZeros}
 use Rattle.near_changes.specs.Looking.{is_marked, IsClosedIn}

@@ -1,6 +1,6 @@
 use Rattle.std.proofs.Common.{◌<◌, ◌≤◌}
 use Rattle.move_energy.specs.Choices.{AreOpenSites}
-use Rattle.strips.specs.Views.{strip_view}
+use Rattle.strip_nets.specs.Views.{strip_view}
 use Rattle.strips.proofs.opening.list_next.Given as goal
 
 abbrev pub invariant-loop-site : goal.invariant-loop-site

@@ -7,7 +7,7 @@ use Rattle.move_energy.specs.MoveValues.{move_value}
 use Rattle.site_bounds.specs.Parts.{ArePassedChoices}
 use Rattle.site_bounds.proofs.Trying.{if_ok_two, written_whole}
 use Rattle.persistency.specs.Agreeing.{Agree}
-use Rattle.strips.specs.Views.{KeepsChosen}
+use Rattle.strip_nets.specs.Views.{KeepsChosen}
 use Rattle.strips.proofs.Gathering.{passed_agree}
 use Rattle.strips.proofs.Ranges.{ends_from}
 use Rattle.strips.proofs.parting.close_part.Goals as goal

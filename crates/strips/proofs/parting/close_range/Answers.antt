@@ -3,7 +3,7 @@ use Rattle.std.proofs.lemmas.Result.{on_ok_weaker}
 use Rattle.label_energies.specs.Energies.{labelling}
 use Rattle.move_energy.specs.declared.choice.Choice.{Choice}
 use Rattle.move_energy.specs.Choices.{AreOpenSites}
-use Rattle.strips.specs.Views.{strip_view}
+use Rattle.strip_nets.specs.Views.{strip_view}
 use Rattle.strips.proofs.Listing.{none_listed}
 use Rattle.strips.proofs.Ranges.{ends_from}
 use Rattle.strips.proofs.parting.close_range.Goals as goal

@@ -6,7 +6,7 @@ use Rattle.move_energy.specs.Choices.{choice_at, AreOpenSites}
 use Rattle.move_energy.specs.MoveValues.{move_value}
 use Rattle.site_forms.specs.Numbers.{IsFormOf}
 use Rattle.persistency.specs.Agreeing.{Agree}
-use Rattle.strips.specs.Views.{KeepsChosen, strip_view}
+use Rattle.strip_nets.specs.Views.{KeepsChosen, strip_view}
 use Rattle.strips.proofs.parting.close_range.Given as goal
 
 abbrev pub invariant-strips : goal.invariant-strips

@@ -1,6 +1,6 @@
 use Rattle.std.proofs.Common.{◌∙◌, ℤ, List, length, refl, ap, arith}
 use Rattle.compile_cut.specs.Weights.{weights_size}
-use Rattle.strips.proofs.Zeros.{whole_listed}
+use Rattle.strip_nets.proofs.Looking.{whole_listed}
 use Rattle.strips.proofs.closing.Strips.build_read.Goals as goal
 
 pub read_weights-requires-clause-opened : goal.read_weights-requires-clause-opened

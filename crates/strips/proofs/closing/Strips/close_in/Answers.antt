@@ -4,7 +4,7 @@ use Rattle.move_energy.specs.declared.choice.Choice.{Choice}
 use Rattle.move_energy.specs.Choices.{choice_at, AreOpenSites}
 use Rattle.move_energy.specs.MoveValues.{move_value}
 use Rattle.persistency.specs.Agreeing.{Agree}
-use Rattle.strips.specs.Views.{strip_view}
+use Rattle.strip_nets.specs.Views.{strip_view}
 use Rattle.strips.proofs.Listing.{none_listed, whole_listed}
 use Rattle.strips.proofs.closing.Strips.close_in.Goals as goal
 

@@ -5,7 +5,7 @@ use Rattle.move_energy.specs.MoveValues.{move_value}
 use Rattle.site_forms.specs.Numbers.{WhereRead}
 use Rattle.persistency.specs.Agreeing.{Agree}
 use Rattle.strips.specs.Closing.{CanClose}
-use Rattle.strips.specs.Views.{strip_view}
+use Rattle.strip_nets.specs.Views.{strip_view}
 use Rattle.strips.proofs.closing.Strips.close_in.Given as goal
 
 abbrev pub invariant-strips : goal.invariant-strips

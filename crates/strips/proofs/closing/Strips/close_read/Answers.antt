@@ -2,10 +2,10 @@ use Rattle.std.proofs.Common.{◌≡◌, ◌∙◌, ℕ, List, length, sym, subs
 use Rattle.label_energies.specs.Energies.{labelling}
 use Rattle.move_energy.specs.declared.choice.Choice.{Choice}
 use Rattle.move_energy.proofs.Opened.{opened_within}
-use Rattle.strips.specs.Sides.{AreBounds}
-use Rattle.strips.specs.Views.{strip_view}
+use Rattle.strip_nets.specs.Sides.{AreBounds}
+use Rattle.strip_nets.specs.Views.{strip_view}
 use Rattle.strips.proofs.Ranges.{on_ok, told_keeps, told_right, told_ends}
-use Rattle.strips.proofs.Views.{view_length}
+use Rattle.strip_nets.proofs.Views.{view_length}
 use Rattle.strips.proofs.closing.Strips.close_read.Goals as goal
 
 pub tell-requires-clause-sites : goal.tell-requires-clause-sites

@@ -4,10 +4,10 @@ use Rattle.move_energy.specs.declared.choice.Choice.{Choice}
 use Rattle.move_energy.specs.Choices.{AreOpenSites}
 use Rattle.move_energy.specs.Weights.{weight_at}
 use Rattle.move_energy.proofs.Opened.{opened_within}
-use Rattle.strips.specs.Sides.{AreBounds}
-use Rattle.strips.specs.Views.{strip_view}
+use Rattle.strip_nets.specs.Sides.{AreBounds}
+use Rattle.strip_nets.specs.Views.{strip_view}
 use Rattle.strips.proofs.Ranges.{on_ok, told_keeps, told_right}
-use Rattle.strips.proofs.Views.{view_length}
+use Rattle.strip_nets.proofs.Views.{view_length}
 use Rattle.strips.proofs.Weighing.{listed_count, listed_few, starts_listed}
 use Rattle.strips.proofs.closing.Strips.close_weighed.Goals as goal
 

@@ -1,6 +1,6 @@
 use Rattle.std.proofs.Common.{ℕ, length, subst, arith}
 use Rattle.move_energy.specs.Choices.{AreOpenSites}
-use Rattle.strips.specs.Views.{strip_view}
+use Rattle.strip_nets.specs.Views.{strip_view}
 use Rattle.strips.proofs.Listing.{none_listed, whole_listed}
 use Rattle.strips.proofs.closing.Strips.list_open.Goals as goal
 

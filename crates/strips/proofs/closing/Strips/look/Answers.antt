@@ -2,7 +2,7 @@ use Rattle.std.proofs.Common.{◌∙◌, length, sym, arith}
 use Rattle.label_energies.specs.Energies.{labelling}
 use Rattle.move_energy.proofs.Opened.{opened_within, opened_count}
 use Rattle.strips.proofs.Weighing.{listed_count, listed_few, starts_listed}
-use Rattle.strips.proofs.Zeros.{whole_listed}
+use Rattle.strip_nets.proofs.Looking.{whole_listed}
 use Rattle.strips.proofs.closing.Strips.look.Goals as goal
 
 pub list_weights-requires : goal.list_weights-requires

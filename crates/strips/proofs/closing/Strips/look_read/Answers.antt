@@ -2,7 +2,8 @@ use Rattle.std.proofs.Common.{◌∙◌, ℤ, List, length, refl, ap, arith}
 use Rattle.label_energies.specs.Energies.{labelling}
 use Rattle.compile_cut.specs.Weights.{weights_size}
 use Rattle.move_energy.proofs.Opened.{opened_count}
-use Rattle.strips.proofs.Zeros.{whole_listed, stage_zeros}
+use Rattle.strip_nets.proofs.Looking.{whole_listed}
+use Rattle.strips.proofs.Zeros.{stage_zeros}
 use Rattle.strips.proofs.closing.Strips.look_read.Goals as goal
 
 pub read_weights-requires-clause-opened : goal.read_weights-requires-clause-opened

@@ -1,8 +1,8 @@
 use Rattle.std.proofs.Common.{◌≡◌, ◌++◌, ◌∙◌, ℕ, List, sym, ap, subst}
 use Rattle.std.specs.Prelude.{filter}
 use Rattle.move_energy.specs.Choices.{open_at, AreOpenSites}
-use Rattle.strips.specs.Sides.{IsAsTold}
-use Rattle.strips.specs.Views.{strip_view}
+use Rattle.strips.specs.Telling.{IsAsTold}
+use Rattle.strip_nets.specs.Views.{strip_view}
 use Rattle.strips.proofs.Ranges.{told_opened}
 use Rattle.strips.proofs.closing.Strips.tell.Goals as goal
 

@@ -1,0 +1,16 @@
+pub mod Borders
+pub mod Bounding
+pub mod Cuts
+pub mod Inside
+pub mod Looking
+pub mod Meeting
+pub mod Saving
+pub mod RowForms
+pub mod RowSides
+pub mod Writing
+pub mod Laying
+pub mod Lessening
+pub mod Numbering
+pub mod Views
+pub mod Weighing
+pub mod Sizes

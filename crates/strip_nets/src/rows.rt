@@ -1,0 +1,488 @@
+//! The rows of a strip: what its sites weigh by now, what pairs within it save, and its border. All
+//! are found in one pass over the neighbours of each site.
+ghost use Rattle.std.specs.Prelude.{◌≡◌, ◌<◌, ◌≤◌, ◌+◌, ◌*◌, ◌-◌, ◌-ℤ◌, ◌∷◌, [], ◌&&◌};
+ghost use Rattle.std.specs.Prelude.{true, not, pos, map, length, sum, sum_by, All};
+ghost use Rattle.std.specs.Prelude.{unsigned_abs, IfOk, OnOk, cond, ◌++◌, ℕ, List};
+ghost use Rattle.std.specs.Prelude.{◌≢◌, ◌||◌};
+ghost use Rattle.std.specs.Prelude.{slice_index, slice_set};
+ghost use Rattle.sums.specs.Sums.{count_if};
+ghost use Rattle.compile_cut.specs.Weights.{weights_size};
+ghost use Rattle.move_energy.specs.BySite.{degree, neighbour_at, neighbours_start};
+ghost use Rattle.move_energy.specs.BySite.{pair_beside as beside_at};
+ghost use Rattle.move_energy.specs.Built.{AddsCost};
+ghost use Rattle.move_energy.specs.Choices.{choice_at, open_at, open_rank};
+ghost use Rattle.move_energy.specs.declared.choice.Choice.TheVariants.{Open};
+ghost use Rattle.move_energy.specs.Limits.{surplus_limit, weights_limit};
+ghost use Rattle.move_energy.specs.Weights.{pair_surplus as surplus_between};
+ghost use Rattle.persistency.specs.Borders.{border_at, is_beyond as beyond_of, not_ones, range_of};
+ghost use Rattle.persistency.specs.Borders.{is_inside as inside_of};
+ghost use Rattle.site_forms.specs.Numbers.{WhereRead};
+ghost use Rattle.strip_nets.specs.Building.{CanBuild, AreStripSites, view_by};
+ghost use Rattle.strip_nets.specs.Building.{AreStartWeights, AreWeighed};
+ghost use Rattle.strip_nets.specs.Building.{IsStripNumbering};
+ghost use Rattle.sink_distances.specs.Laying.{AreEndsCounted};
+ghost use Rattle.sink_distances.specs.Rows.{arc_ends};
+ghost use Rattle.compile_cut.specs.Weights.{source_part};
+ghost use Rattle.pseudo_bool.specs.Energies.{entry};
+ghost use Rattle.strip_nets.specs.RowForms.{arcs_in, form_in, IsFirstPart, IsLaidTo};
+ghost use Rattle.strip_nets.specs.Meeting.{is_met, ends_at, ends_met, strip_ends, IsMet};
+ghost use Rattle.strip_nets.specs.Building.{counts_in, unsaved_in, unsaved_at};
+ghost use Rattle.strip_nets.specs.Building.{border_of_site, weight_by_now};
+ghost use Rattle.strip_nets.specs.Limits.{borders_limit};
+
+use crate::material::{Material, RowForm, StripSites};
+use move_energy::Choice;
+use sink_distances::Laying;
+use site_forms::{is_first_end, saving_beside};
+use std::alloc::AllocError;
+
+/// What a neighbour is to a site of the strip: at most one of these.
+#[derive(Clone, Copy)]
+struct Beside {
+    /// It was open at the start and is at 1 by now.
+    one: bool,
+    /// It is open and lies outside the strip.
+    beyond: bool,
+    /// It is open and lies in the strip.
+    inside: bool,
+}
+
+/// What a neighbour is to a site of the strip. It is looked at once.
+#[inline]
+fn look_at(material: &Material, sites: &StripSites, head: u32) -> Beside
+    requires start { head < length material.now.start.now }
+    requires known { head < length material.now.known.now }
+    ensures one { result.one ≡ beyond_of (choice_at material.now.start.now)
+        (not_ones (choice_at material.now.known.now)) head }
+    ensures beyond { result.beyond ≡ beyond_of (choice_at material.now.known.now)
+        (range_of sites.now.from sites.now.to) head }
+    ensures inside { result.inside ≡ inside_of (choice_at material.now.known.now)
+        (range_of sites.now.from sites.now.to) head }
+{
+    match material.known[head as usize] {
+        Choice::Zero => Beside {
+            one: false,
+            beyond: false,
+            inside: false,
+        },
+        Choice::One => Beside {
+            one: material.start[head as usize].is_open(),
+            beyond: false,
+            inside: false,
+        },
+        Choice::Open => {
+            let inside = head >= sites.from && head < sites.to;
+            Beside {
+                one: false,
+                beyond: !inside,
+                inside,
+            }
+        }
+    }
+}
+
+/// The open site of the strip that is listed at a place.
+#[inline]
+fn site_at(material: &Material, sites: &StripSites, index: usize) -> u32
+    requires can { CanBuild material.now }
+    requires opened { AreStripSites material.now sites.now }
+    requires index { index < length sites.now.opened.now }
+    ensures value { result ≡ slice_index sites.now.opened.now index }
+    ensures site { (result < material.now.form.pairs.now.sites)
+        × (open_at (view_by sites.now material.now) result ≡ true) }
+{
+    sites.opened[index]
+}
+
+/// Where the neighbours of a site begin, which is where those of the site before it end.
+#[inline]
+fn row_start(material: &Material, site: u32) -> u32
+    requires can { CanBuild material.now }
+    requires site { site ≤ material.now.form.pairs.now.sites }
+    ensures { result ≡ neighbours_start material.now.form.ends.now site }
+{
+    material.form.ends.starts[site as usize]
+}
+
+/// The neighbour of a site at a place.
+#[inline]
+fn head_beside(material: &Material, site: u32, place: u32) -> u32
+    requires can { CanBuild material.now }
+    requires site { site < material.now.form.pairs.now.sites }
+    requires place { (neighbours_start material.now.form.ends.now site ≤ place)
+        × (place < neighbours_start material.now.form.ends.now (site + 1)) }
+    ensures head { result ≡ neighbour_at material.now.form.ends.now place }
+    ensures inside { result < material.now.form.pairs.now.sites }
+{
+    material.form.ends.heads[place as usize]
+}
+
+/// Whether the pair of a site of the strip and a neighbour is met there: the neighbour is inside,
+/// and the site is the first of the two.
+#[inline]
+fn is_met_at(
+    material: &Material,
+    sites: &StripSites,
+    site: u32,
+    place: u32,
+    head: u32,
+    inside: bool,
+) -> bool
+    requires can { CanBuild material.now }
+    requires site { (site < material.now.form.pairs.now.sites)
+        × (open_at (view_by sites.now material.now) site ≡ true) }
+    requires place { (neighbours_start material.now.form.ends.now site ≤ place)
+        × (place < neighbours_start material.now.form.ends.now (site + 1)) }
+    requires head { head ≡ neighbour_at material.now.form.ends.now place }
+    requires inside { inside ≡ inside_of (choice_at material.now.known.now)
+        (range_of sites.now.from sites.now.to) head }
+    ensures { result ≡ is_met material.now sites.now site place }
+{
+    if !inside {
+        return false;
+    }
+    is_first_end(&material.form, site, place, head)
+}
+
+/// Whether the pair to a neighbour counts in any of the three ways.
+#[inline]
+fn counts_somewhere(beside: Beside, met: bool) -> bool
+    ensures { result ≡ (beside.one || beside.beyond || met) }
+{
+    beside.one || beside.beyond || met
+}
+
+/// What the pair of a site and a neighbour saves where it counts. Where it does not, 0, and nothing
+/// is read of it.
+#[inline]
+fn counted_saving(material: &Material, site: u32, place: u32, head: u32, counts: bool) -> i64
+    requires can { CanBuild material.now }
+    requires site { site < material.now.form.pairs.now.sites }
+    requires place { (neighbours_start material.now.form.ends.now site ≤ place)
+        × (place < neighbours_start material.now.form.ends.now (site + 1)) }
+    requires head { head ≡ neighbour_at material.now.form.ends.now place }
+    ensures value { WhereRead material.now.form (λ m move f. result
+        ≡ pos (count_if counts
+        (surplus_between m move f (beside_at material.now.form.ends.now site place)))) }
+    ensures range { unsigned_abs result ≤ surplus_limit }
+{
+    if !counts {
+        return 0;
+    }
+    saving_beside(&material.form, site, place, head)
+}
+
+/// A number where it counts, and else 0.
+#[inline]
+fn where_counted(counts: bool, number: i64) -> i64
+    ensures value { result ≡ cond counts number (pos 0) }
+    ensures range { unsigned_abs result ≤ unsigned_abs number }
+{
+    if counts { number } else { 0 }
+}
+
+/// The node of an open site of the strip. `numbers` has the node of each site of the strip.
+#[inline]
+fn node_of(material: &Material, sites: &StripSites, numbers: &[u32], site: u32) -> u32
+    requires numbering { IsStripNumbering material.now.known.now sites.now numbers.now }
+    requires open { choice_at (view_by sites.now material.now) site ≡ Open }
+    ensures { result ≡ open_rank (view_by sites.now material.now) site }
+{
+    numbers[(site - sites.from) as usize]
+}
+
+/// The nodes of a pair of the strip.
+#[derive(Clone, Copy)]
+struct Met {
+    first: u32,
+    second: u32,
+}
+
+/// The nodes of a site and a neighbour whose pair is met there.
+#[inline]
+fn met_nodes(
+    material: &Material,
+    sites: &StripSites,
+    numbers: &[u32],
+    site: u32,
+    place: u32,
+    head: u32,
+) -> Met
+    requires can { CanBuild material.now }
+    requires opened { AreStripSites material.now sites.now }
+    requires numbering { IsStripNumbering material.now.known.now sites.now numbers.now }
+    requires site { (site < material.now.form.pairs.now.sites)
+        × (open_at (view_by sites.now material.now) site ≡ true) }
+    requires place { (neighbours_start material.now.form.ends.now site ≤ place)
+        × (place < neighbours_start material.now.form.ends.now (site + 1)) }
+    requires head { head ≡ neighbour_at material.now.form.ends.now place }
+    requires met { is_met material.now sites.now site place ≡ true }
+    ensures { IsMet material.now sites.now site place result }
+{
+    Met {
+        first: node_of(material, sites, numbers, site),
+        second: node_of(material, sites, numbers, head),
+    }
+}
+
+/// Counts the ends of the pairs that are met at a site.
+fn count_row(
+    material: &Material,
+    sites: &StripSites,
+    numbers: &[u32],
+    laying: &mut Laying,
+    site: u32,
+)
+    requires can { CanBuild material.now }
+    requires opened { AreStripSites material.now sites.now }
+    requires numbering { IsStripNumbering material.now.known.now sites.now numbers.now }
+    requires site { (site < material.now.form.pairs.now.sites)
+        × (open_at (view_by sites.now material.now) site ≡ true) }
+    requires counted { (ends : List ℕ) × (AreEndsCounted (length sites.now.opened.now) ends
+        laying.old.nexts.items) × (length ends ≤ 33554432) }
+    ensures { (ends : List ℕ) →
+        AreEndsCounted (length sites.now.opened.now) ends laying.old.nexts.items →
+        AreEndsCounted (length sites.now.opened.now) (ends ++ ends_at material.now sites.now site)
+        laying.new.nexts.items }
+{
+    for place in row_start(material, site)..row_start(material, site + 1) {
+        let head = head_beside(material, site, place);
+        let beside = look_at(material, sites, head);
+        let met = is_met_at(material, sites, site, place, head, beside.inside);
+        if met {
+            let nodes = met_nodes(material, sites, numbers, site, place, head);
+            laying.count(nodes.first, nodes.second);
+        }
+    }
+}
+
+/// Counts the ends of all pairs of a strip.
+pub(crate) fn count_rows(
+    material: &Material,
+    sites: &StripSites,
+    numbers: &[u32],
+    laying: &mut Laying,
+)
+    requires can { CanBuild material.now }
+    requires opened { AreStripSites material.now sites.now }
+    requires numbering { IsStripNumbering material.now.known.now sites.now numbers.now }
+    requires begun { AreEndsCounted (length sites.now.opened.now) [] laying.old.nexts.items }
+    ensures { AreEndsCounted (length sites.now.opened.now) (strip_ends material.now sites.now)
+        laying.new.nexts.items }
+{
+    // Copies of its own: what is written to the lists cannot change them, so they are read once.
+    let material = *material;
+    let sites = *sites;
+    for index in 0..sites.opened.len() {
+        let site = site_at(&material, &sites, index);
+        count_row(&material, &sites, numbers, laying, site);
+    }
+}
+
+/// Takes an amount off a weight.
+#[inline]
+fn lessen(weights: &mut [i64], node: u32, amount: u64)
+    requires node { node < length weights.old }
+    requires small { weights_size weights.old ≤ 400000000000000000 }
+    requires amount { amount ≤ surplus_limit }
+    ensures { weights.new ≡ slice_set weights.old node (entry weights.old node -ℤ pos amount) }
+{
+    weights[node as usize] -= amount as i64;
+}
+
+/// A surplus above 0, and else 0.
+#[inline]
+fn amount_above(surplus: i64) -> u64
+    requires { unsigned_abs surplus ≤ surplus_limit }
+    ensures amount { result ≡ source_part surplus }
+    ensures small { result ≤ surplus_limit }
+{
+    if surplus > 0 {
+        surplus.unsigned_abs()
+    } else {
+        0
+    }
+}
+
+/// Puts what two nodes save where both are 1, the next of the pairs whose ends were counted.
+#[inline]
+fn put_saving(form: &mut RowForm, first: u32, second: u32, surplus: i64) -> Result<(), AllocError>
+    requires surplus { unsigned_abs surplus ≤ surplus_limit }
+    requires apart { first ≢ second }
+    requires laid { (n : ℕ) × (ends : List ℕ) × IsLaidTo n ends form.old
+        × IsFirstPart (arc_ends (arcs_in form.old) ++ first ∷ second ∷ []) ends
+        × (first < n) × (second < n) × (length ends ≤ 16777216) }
+    ensures laid { OnOk result ((n : ℕ) (ends : List ℕ) → IsLaidTo n ends form.old →
+        IsFirstPart (arc_ends (arcs_in form.old) ++ first ∷ second ∷ []) ends →
+        IsLaidTo n ends form.new) }
+    ensures ends { OnOk result ((n : ℕ) (ends : List ℕ) → IsLaidTo n ends form.old →
+        IsFirstPart (arc_ends (arcs_in form.old) ++ first ∷ second ∷ []) ends →
+        arc_ends (arcs_in form.new) ≡ arc_ends (arcs_in form.old) ++ first ∷ second ∷ []) }
+    ensures adds { OnOk result ((n : ℕ) (ends : List ℕ) → IsLaidTo n ends form.old →
+        IsFirstPart (arc_ends (arcs_in form.old) ++ first ∷ second ∷ []) ends →
+        AddsCost (form_in form.old) (form_in form.new)
+        (λ x. count_if (not (x first && x second)) (source_part surplus))) }
+{
+    let amount = amount_above(surplus);
+    form.laying.put(first, second, amount)?;
+    lessen(form.weights.as_mut_slice(), second, amount);
+    Ok(())
+}
+
+/// Puts what the pair of a site and a neighbour saves, where it is met there.
+#[inline]
+fn add_inside(
+    material: &Material,
+    sites: &StripSites,
+    form: &mut RowForm,
+    numbers: &[u32],
+    site: u32,
+    place: u32,
+    head: u32,
+    met: bool,
+    saving: i64,
+) -> Result<(), AllocError>
+    requires can { CanBuild material.now }
+    requires opened { AreStripSites material.now sites.now }
+    requires numbering { IsStripNumbering material.now.known.now sites.now numbers.now }
+    requires laid { IsLaidTo (length sites.now.opened.now) (strip_ends material.now sites.now)
+        form.old }
+    requires begins { IsFirstPart (arc_ends (arcs_in form.old)
+        ++ ends_met material.now sites.now site place) (strip_ends material.now sites.now) }
+    requires site { (site < material.now.form.pairs.now.sites)
+        × (open_at (view_by sites.now material.now) site ≡ true) }
+    requires place { (neighbours_start material.now.form.ends.now site ≤ place)
+        × (place < neighbours_start material.now.form.ends.now (site + 1)) }
+    requires head { head ≡ neighbour_at material.now.form.ends.now place }
+    requires met { met ≡ is_met material.now sites.now site place }
+    requires saving { unsigned_abs saving ≤ surplus_limit }
+    ensures laid { OnOk result (IsLaidTo (length sites.now.opened.now)
+        (strip_ends material.now sites.now) form.new) }
+    ensures ends { OnOk result (arc_ends (arcs_in form.new) ≡ arc_ends (arcs_in form.old)
+        ++ ends_met material.now sites.now site place) }
+    ensures adds { WhereRead material.now.form (λ m move f.
+        cond met saving (pos 0) ≡ pos (count_if met
+        (surplus_between m move f (beside_at material.now.form.ends.now site place))) →
+        OnOk result (AddsCost (form_in form.old) (form_in form.new)
+        (λ x. count_if (counts_in material.now sites.now site place)
+        (unsaved_in m move f (view_by sites.now material.now) x
+        (beside_at material.now.form.ends.now site place))))) }
+{
+    if !met {
+        return Ok(());
+    }
+    let nodes = met_nodes(material, sites, numbers, site, place, head);
+    put_saving(form, nodes.first, nodes.second, saving)
+}
+
+/// What the pairs of a site come to that lead to sites outside the strip.
+#[derive(Clone, Copy)]
+struct SiteBorders {
+    /// Those to sites that were open at the start and are at 1 by now.
+    ones: i64,
+    /// Those to sites that are open.
+    beyond: i64,
+}
+
+/// The row of a site, in one pass over its neighbours: its borders, and in the form what its pairs
+/// to other sites of the strip save.
+fn add_row(
+    material: &Material,
+    sites: &StripSites,
+    form: &mut RowForm,
+    numbers: &[u32],
+    site: u32,
+) -> Result<SiteBorders, AllocError>
+    requires can { CanBuild material.now }
+    requires opened { AreStripSites material.now sites.now }
+    requires numbering { IsStripNumbering material.now.known.now sites.now numbers.now }
+    requires laid { IsLaidTo (length sites.now.opened.now) (strip_ends material.now sites.now)
+        form.old }
+    requires begins { IsFirstPart (arc_ends (arcs_in form.old)
+        ++ ends_at material.now sites.now site) (strip_ends material.now sites.now) }
+    requires site { (site < material.now.form.pairs.now.sites)
+        × (open_at (view_by sites.now material.now) site ≡ true) }
+    ensures ones { WhereRead material.now.form (λ m move f. IfOk result (λ found.
+        found.ones ≡ pos (border_at m move f (choice_at material.now.start.now)
+        (not_ones (choice_at material.now.known.now)) site))) }
+    ensures beyond { WhereRead material.now.form (λ m move f. IfOk result (λ found.
+        found.beyond ≡ pos (border_of_site m move f material.now sites.now site))) }
+    ensures range { IfOk result (λ found.
+        (unsigned_abs found.ones ≤ surplus_limit * degree material.now.form.ends.now site)
+        × (unsigned_abs found.beyond
+        ≤ surplus_limit * degree material.now.form.ends.now site)) }
+    ensures laid { OnOk result (IsLaidTo (length sites.now.opened.now)
+        (strip_ends material.now sites.now) form.new) }
+    ensures ends { OnOk result (arc_ends (arcs_in form.new) ≡ arc_ends (arcs_in form.old)
+        ++ ends_at material.now sites.now site) }
+    ensures adds { WhereRead material.now.form (λ m move f. OnOk result
+        (AddsCost (form_in form.old) (form_in form.new)
+        (λ x. unsaved_at m move f material.now sites.now x site))) }
+{
+    let mut ones = 0i64;
+    let mut beyond = 0i64;
+    for place in row_start(material, site)..row_start(material, site + 1) {
+        let head = head_beside(material, site, place);
+        let beside = look_at(material, sites, head);
+        let met = is_met_at(material, sites, site, place, head, beside.inside);
+        let counts = counts_somewhere(beside, met);
+        let saving = counted_saving(material, site, place, head, counts);
+        ones += where_counted(beside.one, saving);
+        beyond += where_counted(beside.beyond, saving);
+        add_inside(
+            material, sites, form, numbers, site, place, head, met, saving,
+        )?;
+    }
+    Ok(SiteBorders { ones, beyond })
+}
+
+/// The rows of all listed sites: the weights of the sites by now and their borders in lists, and in
+/// the form what pairs of two of them save.
+pub(crate) fn add_rows(
+    material: &Material,
+    sites: &StripSites,
+    form: &mut RowForm,
+    numbers: &[u32],
+    list: &mut Vec<i64>,
+    borders: &mut Vec<u64>,
+) -> Result<(), AllocError>
+    requires can { CanBuild material.now }
+    requires opened { AreStripSites material.now sites.now }
+    requires weighed { AreWeighed sites.now }
+    requires numbering { IsStripNumbering material.now.known.now sites.now numbers.now }
+    requires laid { IsLaidTo (length sites.now.opened.now) (strip_ends material.now sites.now)
+        form.old }
+    requires none { arc_ends (arcs_in form.old) ≡ [] }
+    ensures count { OnOk result ((length list.new.items ≡ length sites.now.opened.now)
+        × (length borders.new.items ≡ length sites.now.opened.now)) }
+    ensures size { OnOk result (weights_size list.new.items ≤ weights_limit + borders_limit) }
+    ensures small { OnOk result (sum borders.new.items ≤ borders_limit) }
+    ensures laid { OnOk result (IsLaidTo (length sites.now.opened.now)
+        (strip_ends material.now sites.now) form.new) }
+    ensures ends { OnOk result (arc_ends (arcs_in form.new)
+        ≡ strip_ends material.now sites.now) }
+    ensures weights { WhereRead material.now.form (λ m move f.
+        AreStartWeights material.now sites.now m move f → OnOk result
+        (list.new.items ≡ map (weight_by_now m move f material.now) sites.now.opened.now)) }
+    ensures borders { WhereRead material.now.form (λ m move f. OnOk result
+        (borders.new.items
+        ≡ map (border_of_site m move f material.now sites.now) sites.now.opened.now)) }
+    ensures adds { WhereRead material.now.form (λ m move f. OnOk result
+        (AddsCost (form_in form.old) (form_in form.new) (λ x.
+        sum_by (unsaved_at m move f material.now sites.now x) sites.now.opened.now))) }
+{
+    list.clear();
+    borders.clear();
+    list.reserve(sites.opened.len())?;
+    borders.reserve(sites.opened.len())?;
+    // Copies of its own: what is written to the lists cannot change them, so they are read once.
+    let material = *material;
+    let sites = *sites;
+    for index in 0..sites.opened.len() {
+        let site = site_at(&material, &sites, index);
+        let found = add_row(&material, &sites, form, numbers, site)?;
+        list.push_reserved(sites.weights[index] - found.ones);
+        borders.push_reserved(found.beyond.unsigned_abs());
+    }
+    Ok(())
+}
