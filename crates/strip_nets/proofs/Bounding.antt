@@ -1,5 +1,5 @@
 -- From the form of a strip to what it tells.
-use Rattle.std.proofs.Common.{◌≡◌, ◌==◌, ◌&&◌, ◌||◌, ◌<◌, ℕ, Bool, true, false, not, cond, List, length, get_or, ℤ, pos, ◌+ℤ◌, vec_len, refl, sym, ap, ◌∙◌, inl, inr, subst, arith}
+use Rattle.std.proofs.Common.{◌≡◌, ◌==◌, ◌&&◌, ◌||◌, ◌<◌, ℕ, Bool, true, false, not, cond, List, length, get_or, pos, ◌+ℤ◌, vec_len, refl, sym, ap, ◌∙◌, inl, inr, subst, arith}
 use Rattle.std.specs.Prelude.{slice_index, slice_index_or}
 use Rattle.std.specs.List.{sum_by, Contains}
 use Rattle.std.proofs.lemmas.Bool.{cases_lt}
