@@ -7,7 +7,8 @@ ghost use Rattle.cost_store.specs.Promises.{IsCost, entry_at};
 
 use crate::costs::COSTED;
 use crate::random::{
-    BYTES, CutAlone, DATA, SMOOTH, digit, is_answered, number, number_of, pairs_of, start_of,
+    BYTES, CutAlone, DATA, IN_STRIPS, SMOOTH, digit, is_answered, number, number_of, pairs_of,
+    start_of,
 };
 use crate::rows::{expect, hold, take_ok};
 use cost_store::{DataCost, Problem, SmoothCost, check_table, is_metric};
@@ -172,24 +173,27 @@ const WORKED: &[&[u8; COSTED_BYTES]] = &[
     b"110211100700000000000000000000000000000000000000000000000000000000000000000000000000000007000000000000000000000000100001000000007",
 ];
 
-/// Whether a row is right, with sites decided first where that may be, and without.
-fn is_right_both_ways(rt: &impl Abort, alloc: Global, row: &[u8; COSTED_BYTES]) -> bool {
-    is_right(rt, alloc, row, &Alone) && is_right(rt, alloc, row, &CutAlone)
+/// Whether a row is right, with sites decided first where that may be, without, and by parts in
+/// strips.
+fn is_right_each_way(rt: &impl Abort, alloc: Global, row: &[u8; COSTED_BYTES]) -> bool {
+    is_right(rt, alloc, row, &Alone)
+        && is_right(rt, alloc, row, &CutAlone)
+        && is_right(rt, alloc, row, &IN_STRIPS)
 }
 
 #[test]
 fn costed_moves_worked_by_hand(rt: HostRuntime) {
     for (place, row) in WORKED.iter().enumerate() {
-        expect(&rt, place, is_right_both_ways(&rt, rt.alloc(), row));
+        expect(&rt, place, is_right_each_way(&rt, rt.alloc(), row));
     }
 }
 
 #[test]
 fn costed_moves_are_best(rt: HostRuntime) {
-    hold(&rt, COSTED.len() == COSTED_BYTES * 600);
-    for place in 0..600 {
+    hold(&rt, COSTED.len() == COSTED_BYTES * 700);
+    for place in 0..700 {
         let mut row = [0; COSTED_BYTES];
         row.copy_from_slice(&COSTED[COSTED_BYTES * place..COSTED_BYTES * place + COSTED_BYTES]);
-        expect(&rt, place, is_right_both_ways(&rt, rt.alloc(), &row));
+        expect(&rt, place, is_right_each_way(&rt, rt.alloc(), &row));
     }
 }

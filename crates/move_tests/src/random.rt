@@ -97,6 +97,9 @@ pub const STRIPS: &[usize] = &[1, 2, 3];
 
 pub const PARTS: &[usize] = &[1, 2, 3];
 
+/// Two parts, in strips of two open sites.
+pub const IN_STRIPS: InStrips = InStrips { parts: 2, sites: 2 };
+
 /// A number of a row, at most so great.
 pub fn number(row: &[u8; BYTES], place: usize, most: u32) -> u32
     requires { place < 98 }

@@ -4,7 +4,7 @@ ghost use Rattle.std.specs.Prelude.{◌≡◌, ◌≤◌, ◌<◌, ◌+◌, ◌�
 ghost use Rattle.cost_store.specs.Posed.{IsPosed, FitsProblem, AreOfOneSize};
 
 use crate::random::{
-    BYTES, DATA, InStrips, SMOOTH, answer_wanted, digit, is_after, number, pairs_of, start_of,
+    BYTES, DATA, IN_STRIPS, SMOOTH, answer_wanted, digit, is_after, number, pairs_of, start_of,
 };
 use crate::rows::{expect, hold};
 use crate::stepped_runs::RUNS_MADE;
@@ -145,9 +145,6 @@ fn is_right<H: Sharing>(
     );
     is_stepped(&problem, alloc, &mut labelling, row, steps, how)
 }
-
-/// Strips of two open sites, by two parts.
-const IN_STRIPS: InStrips = InStrips { parts: 2, sites: 2 };
 
 /// Whether the run at this place of the table is right, with moves whole and in strips.
 fn is_run_right(rt: &impl Abort, alloc: Global, place: usize) -> bool

@@ -17,7 +17,8 @@ use Rattle.move_energy.specs.Choices.{open_rank, value_of, AreAllOpen}
 use Rattle.move_energy.specs.Problems.{IsPrepared}
 use Rattle.one_move.specs.declared.left.Left.{Left}
 use Rattle.one_move.specs.declared.left.Left.TheVariants.{Form}
-use Rattle.one_move.specs.Building.{IsBuiltPlain, IsBuiltMove}
+use Rattle.one_move.specs.Building.{IsBuiltPlain, IsBuiltMove, priced_of}
+use Rattle.one_move.proofs.Prices.{answer_paid}
 use Rattle.cost_store.specs.LabelCosts.{costs_of, AreCosts, AreLabelCosts, HasCosts, AreCostly, AreFree}
 use Rattle.one_move.specs.LabelCosts.{IsFreeFor, IsTaken}
 use Rattle.cost_store.specs.LabelCosts.{cost_at}
@@ -103,9 +104,11 @@ pair_refusal m move f place NoBound below first taken told = absurd told
 pair_refusal m move f place OutOfMemory below first taken told = tt
 
 -- a move that is built without label costs, where no label costs anything by itself
-pub built_free : (m : Instance) (move : Move) (f : List ℕ) (made : MoveEnergy) (r : Result Left BuildError) → AreLabelsFree m → IsBuiltPlain m move f made r → IsBuiltMove m move f made r
+pub built_free : (m : Instance) (move : Move) (f : List ℕ) (made : MoveEnergy) (r : Result Left BuildError) → AreLabelsFree m → IsBuiltPlain m move f made r
+    → IsBuiltMove m move f made (priced_of r 0)
 built_free m move f made (Ok left) free built =
-    (built.0, (λ bits least. free_least m move (labelling f) (value_of made.variables.choices.items bits.items) free (built.1 bits least)))
+    let values = λ (bits : Vec Bool). value_of made.variables.choices.items bits.items in
+    (built.0, (λ bits least. answer_paid m move (labelling f) (values bits) (free_least m move (labelling f) (values bits) free (built.1 bits least))))
 built_free m move f made (Err e) free built = built
 
 -- costs that were found to be above 0, or not

@@ -142,7 +142,7 @@ cut_least q net k side count is best = record {
 subst_le : (a b c : ℤ) → b ≡ a → a ≤ℤ c → b ≤ℤ c
 subst_le a b c h k = omega (arith, ints, h, k)
 
-smallest_along : (n : ℕ) (E : (ℕ → Bool) → ℤ) (x y : ℕ → Bool) → E y ≡ E x → ((k : ℕ) → k < n → y k ≡ x k) → IsSmallestLeast n E x → IsSmallestLeast n E y
+pub smallest_along : (n : ℕ) (E : (ℕ → Bool) → ℤ) (x y : ℕ → Bool) → E y ≡ E x → ((k : ℕ) → k < n → y k ≡ x k) → IsSmallestLeast n E x → IsSmallestLeast n E y
 smallest_along n E x y value same least = record {
   least = λ z. subst_le (E x) (E y) (E z) value (least.least z);
   smallest = λ z level k l one. least.smallest z (level ∙ value) k l (sym (same k l) ∙ one);
@@ -166,7 +166,7 @@ pub made_over : (m : Instance) (move : Move) (f : ℕ → ℕ) → IsInstance m 
 made_over m move f pairs x y same = ap pos (energy-same m (labelling_made move f x) (labelling_made move f y) pairs (λ p l. ap (label_after move (f p)) (same p l)))
 
 -- the values that the assigned choices tell are those
-bit_of_choice : (b : Bool) → bit_of (choice_of b) false ≡ b
+pub bit_of_choice : (b : Bool) → bit_of (choice_of b) false ≡ b
 bit_of_choice true = refl
 bit_of_choice false = refl
 

@@ -6,3 +6,4 @@ pub mod Changes
 pub mod OfProblem
 pub mod Forms
 pub mod Turning
+pub mod Prices

@@ -1,24 +1,12 @@
 -- By how much an energy rises, as the machine counts it.
-use Rattle.std.proofs.Common.{◌≡◌, ℕ, ◌+◌, ◌*◌, ◌<◌, ◌≤◌, Bool, false, IsTrue, ap, ◌∙◌, sym, subst, arith, inl, inr, ℤ, pos, unsigned_abs, ◌+ℤ◌, ◌-ℤ◌, ◌<ℤ◌, w64, to_z, of_z, FitsSigned, lit<}
+use Rattle.std.proofs.Common.{◌≡◌, ℕ, ◌+◌, ◌*◌, ◌<◌, ◌≤◌, Bool, false, IsTrue, ap, ◌∙◌, arith, inl, inr, ℤ, pos, unsigned_abs, ◌+ℤ◌, ◌-ℤ◌, ◌<ℤ◌, w64, to_z, of_z, lit<}
 use Rattle.std.proofs.lemmas.Bool.{cases_lt}
 use Rattle.std.proofs.lemmas.Int.{ints, to_z-of_z}
 use Rattle.sums.proofs.IntegerSumLemmas.{within_fits, abs-add, abs-sub}
 use Rattle.move_energy.proofs.SiteSums.{sum_passed}
+use Rattle.kept_labels.proofs.Rising.{rise_adds}
 
--- the sum so far and one rise more
-pub rise_adds : (y r : ℤ) (j k : ℕ) → unsigned_abs y ≤ 10000000 * j → unsigned_abs r ≤ 10000000 * k → j ≤ 4294967296 → k ≤ 4294967296
-    → to_z w64 (of_z w64 (y +ℤ to_z w64 (of_z w64 r))) ≡ y +ℤ r
-rise_adds y r j k h l few small =
-    let one = to_z-of_z w64 r (within_fits 42949672960000000 r (omega (arith, l, small)) (lit< tt)) in
-    let both = within_fits 85899345920000000 (y +ℤ r) (omega (arith, abs-add y r, h, l, few, small)) (lit< tt) in
-    ap (λ z. to_z w64 (of_z w64 (y +ℤ z))) one ∙ to_z-of_z w64 (y +ℤ r) both
-
-pub rise_fits : (y r : ℤ) (j k : ℕ) → unsigned_abs y ≤ 10000000 * j → unsigned_abs r ≤ 10000000 * k → j ≤ 4294967296 → k ≤ 4294967296
-    → FitsSigned w64 (y +ℤ to_z w64 (of_z w64 r))
-rise_fits y r j k h l few small =
-    let one = to_z-of_z w64 r (within_fits 42949672960000000 r (omega (arith, l, small)) (lit< tt)) in
-    subst (λ (z : ℤ). FitsSigned w64 (y +ℤ z)) (sym one) (within_fits 85899345920000000 (y +ℤ r) (omega (arith, abs-add y r, h, l, few, small)) (lit< tt))
-
+-- how large the sum so far is at most, with one rise more
 pub rise_within : (y r : ℤ) (i j k : ℕ) → unsigned_abs y ≤ 10000000 * j → unsigned_abs r ≤ 10000000 * k → j ≤ 4294967296 → k ≤ 4294967296 → i ≡ j + k
     → unsigned_abs (to_z w64 (of_z w64 (y +ℤ to_z w64 (of_z w64 r)))) ≤ 10000000 * i
 rise_within y r i j k h l few small is =

@@ -275,8 +275,5 @@ starts_up n ends s (suc t) are l h = elim (cases_eq s (suc t)) [
       omega (arith, up, one, e)
 ]
 
-pub few_so_far : (n : ℕ) (ends : Neighbours) (s : ℕ) → ArePlaces n ends → s ≤ n → s + neighbours_start ends s ≤ 4294967296
-few_so_far n ends s are l = (let within = are.within s l in omega (arith, within, are.few_places, are.few_sites, l))
-
 pub few_beside : (ends : Neighbours) (site n : ℕ) → ArePlaces n ends → site < n → degree ends site ≤ 8388608
 few_beside ends site n are l = (let within = are.within (site + 1) (omega (arith, l)) in omega (arith, within, are.few_places))

@@ -1,7 +1,7 @@
 -- The energy of a move, and what its least assignment says of the sites.
 use Rattle.std.specs.Prelude.{◌≡◌, ◌≢◌, ◌^◌, ◌<◌, ◌≤◌, ◌==◌, ℕ, Bool, true, false, not}
 use Rattle.std.specs.Prelude.{List, [], length, vec_len, IsTrue, IsFalse, Result, Ok, Err, ℤ, pos}
-use Rattle.std.specs.Prelude.{slice_index}
+use Rattle.std.specs.Prelude.{slice_index, ◌⊎◌, ◌+◌}
 use Rattle.std.specs.Global.{Vec}
 use Rattle.label_field.specs.LabelFields.{LabelField}
 use Rattle.cost_store.specs.declared.problem.Problem.{Problem}
@@ -9,7 +9,7 @@ use Rattle.cost_store.specs.Posed.{Closure, IsPosed, IsAsked, WhereMeant}
 use Rattle.label_energies.specs.declared.change.Move.{Move}
 use Rattle.label_energies.specs.declared.change.Move.TheVariants.{Expand}
 use Rattle.label_energies.specs.Energies.{Instance, labelling, energy, plain_energy}
-use Rattle.label_energies.specs.Moves.{IsAllowed, label_after, labelling_made}
+use Rattle.label_energies.specs.Moves.{IsAllowed, IsSwap, label_after, labelling_made}
 use Rattle.pseudo_bool.specs.Energies.{assignment}
 use Rattle.label_field.specs.Limits.{site_limit, label_limit}
 use Rattle.pseudo_bool.specs.Limits.{term_limit}
@@ -32,6 +32,7 @@ use Rattle.site_bounds.specs.Decisions.{IsSmallestLeast}
 use Rattle.move_energy.specs.MoveValues.{move_value}
 use Rattle.site_forms.specs.Lists.{AreFormLists, IsReadOf, KnowsCosts}
 use Rattle.strip_nets.specs.Looking.{IsStageLeast}
+use Rattle.one_move.specs.declared.left.Built.{Built}
 use Rattle.one_move.specs.declared.left.Left.{Left}
 use Rattle.one_move.specs.declared.left.Left.TheVariants.{Form, Values}
 use Rattle.one_move.specs.declared.workspace.Workspace.{Workspace}
@@ -210,17 +211,41 @@ LeavesLeast made Form bits = IsSmallestLeast (vec_len made.form.weights)
     (quadratic_value made.form) (assignment bits.items)
 LeavesLeast made (Values least) bits = bits.items ≡ least.items
 
--- such bits make the least values of all sites with the fewest ones
-abbrev pub MakesLeast : Instance → Move → List ℕ → MoveEnergy → Left → Type 0
-MakesLeast m move f made left = (bits : Vec Bool) → LeavesLeast made left bits
-    → IsSmallestLeast m.sites (made_value m move (labelling f))
+-- a move that is built, of which this is left, at this price
+abbrev pub priced_of : Result Left BuildError → ℕ → Result Built BuildError
+priced_of (Ok left) price = Ok (record { left = left; price = price })
+priced_of (Err e) price = Err e
+
+-- the values are worth the price: it is 0, or what the sites and the pairs save is more
+abbrev pub IsWorthPrice : Instance → Move → (ℕ → ℕ) → ℕ → (ℕ → Bool) → Type 0
+IsWorthPrice m move f price x =
+    (price ≡ 0) ⊎ (plain_energy m (labelling_made move f x) + price < plain_energy m f)
+
+-- the values tell the least ones with the fewest ones: they are these, if they are worth the price,
+-- and else all are 0
+pub record IsPricedAnswer (m : Instance) (move : Move) (f : ℕ → ℕ) (price : ℕ) (x : ℕ → Bool)
+    : Type 0 where
+  pub taken : IsWorthPrice m move f price x → IsSmallestLeast m.sites (made_value m move f) x
+  pub left : ¬ IsWorthPrice m move f price x
+      → IsSmallestLeast m.sites (made_value m move f) (λ p. false)
+
+-- such bits make values of all sites that tell these
+abbrev pub MakesLeast : Instance → Move → List ℕ → MoveEnergy → Built → Type 0
+MakesLeast m move f made built = (bits : Vec Bool) → LeavesLeast made built.left bits
+    → IsPricedAnswer m move (labelling f) built.price
     (value_of made.variables.choices.items bits.items)
 
 -- what the building of the energy of a move answers
-abbrev pub IsBuiltMove : Instance → Move → List ℕ → MoveEnergy → Result Left BuildError → Type 0
-IsBuiltMove m move f made (Ok left) =
-    IsAllowed m move (labelling f) × MakesLeast m move f made left
+abbrev pub IsBuiltMove : Instance → Move → List ℕ → MoveEnergy → Result Built BuildError → Type 0
+IsBuiltMove m move f made (Ok built) =
+    IsAllowed m move (labelling f) × MakesLeast m move f made built
 IsBuiltMove m move f made (Err e) = IsPrepareRefusal m move (labelling f) e
+
+-- where the price is not 0, the form of the move, an expansion, can be lent
+abbrev pub IsPriced : {F V : Type 0} → Closure F → Closure V → Problem F V → List ℕ → Move
+    → Workspace → ℕ → Type 0
+IsPriced {F} {V} f v problem at move space price =
+    price ≢ 0 → (¬ IsSwap move) × HasFormOf f v problem at move space
 
 -- without label costs: such bits make, with what was decided, the least values of all sites with
 -- the fewest ones

@@ -8,9 +8,9 @@ pub use Rattle.site_bounds.specs.Decided.{IsDecidedMove}
 pub use Rattle.site_bounds.specs.Decisions.{IsSmallestLeast}
 pub use Rattle.label_field.specs.Limits.{site_limit, label_limit}
 pub use Rattle.label_cost_terms.specs.LabelCosts.{AreCostsOf}
-pub use Rattle.label_energies.specs.Energies.{labelling}
+pub use Rattle.label_energies.specs.Energies.{labelling, plain_energy}
 pub use Rattle.label_energies.specs.Moves.{IsAllowed, IsSwap, IsBest, IsMoveOf}
-pub use Rattle.label_energies.specs.Moves.{label_after}
+pub use Rattle.label_energies.specs.Moves.{label_after, labelling_made}
 pub use Rattle.label_energies.specs.declared.change.Move.TheVariants.{Expand}
 pub use Rattle.move_energy.specs.Assignments.{rise}
 pub use Rattle.move_energy.specs.BySite.{AreBySite}
@@ -32,7 +32,8 @@ pub use Rattle.one_move.specs.Building.{IsBuiltMove, site_values, LowersEnergy, 
 pub use Rattle.one_move.specs.Building.{HasChanges, AreChangesListed}
 pub use Rattle.one_move.specs.Building.{TellsChange, made_value, GivesMade}
 pub use Rattle.one_move.specs.Building.{KeepsSizes, HasTaken, IsLeftSized, LeavesLeast}
-pub use Rattle.one_move.specs.Building.{TellsLeft}
+pub use Rattle.one_move.specs.Building.{TellsLeft, priced_of, IsWorthPrice, IsPriced}
+pub use Rattle.one_move.specs.Building.{IsPricedAnswer}
 pub use Rattle.one_move.specs.LabelCosts.{IsFreeFor}
 pub use Rattle.one_move.specs.Moved.{IsMade, IsCutRefusal, IsMoveRefusal, IsMoved, TellsPair}
 pub use Rattle.one_move.specs.Turning.{turns_label, turned_below, TellsOver, energy_rise}

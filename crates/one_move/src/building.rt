@@ -1,5 +1,5 @@
 //! What is left of a move, of which sites are decided before it is built or cut.
-ghost use Rattle.std.specs.Prelude.{◌≡◌, ◌+◌, ◌<◌, length, IfOk, IfErr, OnOk, IsTrue};
+ghost use Rattle.std.specs.Prelude.{◌≡◌, ◌+◌, ◌<◌, length, IfOk, IfErr, OnOk, IsTrue, ◌↔◌};
 ghost use Rattle.one_move.specs.Prelude.{labelling, site_limit, label_limit, WhereMeant, choice_at};
 ghost use Rattle.one_move.specs.Prelude.{IsPrepareRefusal, IsDecidedMove, move_value, Agree};
 ghost use Rattle.one_move.specs.Prelude.{IsOfProblem, IsRestWhereListed, IsReadyMove, IsReadMove};
@@ -7,11 +7,14 @@ ghost use Rattle.one_move.specs.Prelude.{IsWeighedMove, IsLeftOf, KeepsChoices, 
 ghost use Rattle.one_move.specs.Prelude.{IsReadyToCut, IsBuiltMove, costs_of, AreCosts, IsFreeFor};
 ghost use Rattle.one_move.specs.Prelude.{Expand, AreCostsOf, IsSwap, HasFormOf};
 ghost use Rattle.one_move.specs.PlainBuilding.{IsPlainBuilding};
+ghost use Rattle.one_move.specs.Prelude.{IsAllowed, IsPriced};
+ghost use Rattle.kept_labels.specs.Kept.{AreLabelsKept};
 
-use crate::left::{Left, leave_read, leave_weighed};
+use crate::left::{Built, Left, at_price, leave_read, leave_weighed};
 use crate::workspace::Workspace;
 use cost_store::{Problem, costs_of, has_cost};
 use cut_ways::Sharing;
+use kept_labels::{are_kept, own_price_of};
 use label_cost_terms::add_label_costs;
 use label_energies::Move;
 use move_energy::BuildError;
@@ -312,8 +315,8 @@ fn build_plain<F: Fn(u32, u32) -> i64 + Sync, V: Fn(u32, u32) -> i64 + Sync, H: 
     }
 }
 
-/// The energy of an expansion where labels cost something by themselves. What a site costs then
-/// depends on all sites of its label, so nothing is decided.
+/// The energy of an expansion where labels cost something by themselves, of which nothing is
+/// decided: what a site costs then depends on all sites of its label.
 fn build_costed<F: Fn(u32, u32) -> i64 + Sync, V: Fn(u32, u32) -> i64 + Sync>(
     alloc: Global,
     problem: &Problem<F, V>,
@@ -321,12 +324,13 @@ fn build_costed<F: Fn(u32, u32) -> i64 + Sync, V: Fn(u32, u32) -> i64 + Sync>(
     at: &[u8],
     alpha: u32,
     costs: &[i64],
-) -> Result<Left, BuildError>
+) -> Result<Built, BuildError>
     requires asked { IsReadyMove F.Fn V.Fn problem.now at.now (Expand alpha) space.old }
     requires label_costs { AreCosts problem.now.data_cost.labels costs.now }
     ensures of_problem { IsOfProblem F.Fn V.Fn problem.now space.new }
-    ensures left { IfOk result
-        (IsReadyToCut at.now (Expand alpha) (site_limit + label_limit) space.new) }
+    ensures left { IfOk result (λ built.
+        IsReadyToCut at.now (Expand alpha) (site_limit + label_limit) space.new built.left) }
+    ensures price { IfOk result (λ built. built.price ≡ 0) }
     ensures built { WhereMeant F.Fn V.Fn problem.now (λ m. AreCostsOf m costs.now →
         IsBuiltMove m (Expand alpha) at.now space.new.built result) }
 {
@@ -342,12 +346,75 @@ fn build_costed<F: Fn(u32, u32) -> i64 + Sync, V: Fn(u32, u32) -> i64 + Sync>(
         alpha,
         costs,
     )?;
-    Ok(Left::Form)
+    Ok(Built {
+        left: Left::Form,
+        price: 0,
+    })
 }
 
-/// What is left of a move: with label costs nothing is decided, and without them its sites are
-/// decided first or not. Where fewer are then open than `small`, their least values are found, and
-/// else the form of what is open is.
+/// Whether an expansion keeps each other label that costs something by itself. Its costs are then
+/// read.
+fn keeps_labels<F: Fn(u32, u32) -> i64 + Sync, V: Fn(u32, u32) -> i64 + Sync>(
+    alloc: Global,
+    problem: &Problem<F, V>,
+    space: &mut Workspace,
+    at: &[u8],
+    alpha: u32,
+    costs: &[i64],
+) -> Result<bool, AllocError>
+    requires asked { IsReadyMove F.Fn V.Fn problem.now at.now (Expand alpha) space.old }
+    requires label_costs { AreCosts problem.now.data_cost.labels costs.now }
+    ensures of_problem { IsOfProblem F.Fn V.Fn problem.now space.new }
+    ensures kept { WhereMeant F.Fn V.Fn problem.now (λ m. AreCostsOf m costs.now →
+        IsAllowed m (Expand alpha) (labelling at.now) →
+        IfOk result (λ kept. IsTrue kept ↔ AreLabelsKept m alpha (labelling at.now))) }
+{
+    space.group(alloc, problem)?;
+    space
+        .deciding
+        .numbers
+        .read(problem, &space.deciding.ends, at, Move::Expand(alpha))?;
+    let form = space
+        .deciding
+        .numbers
+        .form(&problem.pairs, &space.deciding.ends, at);
+    Ok(are_kept(&form, alpha, costs))
+}
+
+/// What is left of an expansion where labels cost something by themselves. If it keeps each other
+/// one of them, it is the expansion without label costs, and pays for its own label once its least
+/// values are found.
+fn build_with_costs<F: Fn(u32, u32) -> i64 + Sync, V: Fn(u32, u32) -> i64 + Sync, H: Sharing>(
+    alloc: Global,
+    problem: &Problem<F, V>,
+    space: &mut Workspace,
+    at: &[u8],
+    alpha: u32,
+    costs: &[i64],
+    how: &H,
+    small: usize,
+) -> Result<Built, BuildError>
+    requires ready { H.ready how.now }
+    requires asked { IsReadyMove F.Fn V.Fn problem.now at.now (Expand alpha) space.old }
+    requires label_costs { AreCosts problem.now.data_cost.labels costs.now }
+    ensures of_problem { IsOfProblem F.Fn V.Fn problem.now space.new }
+    ensures left { IfOk result (λ built.
+        IsReadyToCut at.now (Expand alpha) (site_limit + label_limit) space.new built.left) }
+    ensures price { IfOk result (λ built.
+        IsPriced F.Fn V.Fn problem.now at.now (Expand alpha) space.new built.price) }
+    ensures built { WhereMeant F.Fn V.Fn problem.now (λ m. AreCostsOf m costs.now →
+        IsBuiltMove m (Expand alpha) at.now space.new.built result) }
+{
+    if !keeps_labels(alloc, problem, space, at, alpha, costs)? {
+        return build_costed(alloc, problem, space, at, alpha, costs);
+    }
+    let left = build_plain(alloc, problem, space, at, Move::Expand(alpha), how, small);
+    at_price(left, own_price_of(at, alpha, costs))
+}
+
+/// What is left of a move. Its sites are decided first or not, but where labels cost something by
+/// themselves nothing is decided of an expansion that might give up one of them. Where fewer are
+/// then open than `small`, their least values are found, and else the form of what is open is.
 pub(crate) fn build_move<F: Fn(u32, u32) -> i64 + Sync, V: Fn(u32, u32) -> i64 + Sync, H: Sharing>(
     alloc: Global,
     problem: &Problem<F, V>,
@@ -356,27 +423,35 @@ pub(crate) fn build_move<F: Fn(u32, u32) -> i64 + Sync, V: Fn(u32, u32) -> i64 +
     change: Move,
     how: &H,
     small: usize,
-) -> Result<Left, BuildError>
+) -> Result<Built, BuildError>
     requires ready { H.ready how.now }
     requires asked { IsReadyMove F.Fn V.Fn problem.now at.now change space.old }
     requires free { IsFreeFor change (costs_of problem.now.label_costs) }
     ensures of_problem { IsOfProblem F.Fn V.Fn problem.now space.new }
-    ensures left { IfOk result
-        (IsReadyToCut at.now change (site_limit + label_limit) space.new) }
+    ensures left { IfOk result (λ built.
+        IsReadyToCut at.now change (site_limit + label_limit) space.new built.left) }
     ensures form { OnOk result
         (IsSwap change → HasFormOf F.Fn V.Fn problem.now at.now change space.new) }
+    ensures price { IfOk result (λ built.
+        IsPriced F.Fn V.Fn problem.now at.now change space.new built.price) }
     ensures built { WhereMeant F.Fn V.Fn problem.now
         (λ m. IsBuiltMove m change at.now space.new.built result) }
 {
     let costs = costs_of(&problem.label_costs);
     let costly = has_cost(costs);
     match change {
-        Move::Swap(_, _) => build_plain(alloc, problem, space, at, change, how, small),
+        Move::Swap(_, _) => at_price(
+            build_plain(alloc, problem, space, at, change, how, small),
+            0,
+        ),
         Move::Expand(alpha) => {
             if costly {
-                return build_costed(alloc, problem, space, at, alpha, costs);
+                return build_with_costs(alloc, problem, space, at, alpha, costs, how, small);
             }
-            build_plain(alloc, problem, space, at, change, how, small)
+            at_price(
+                build_plain(alloc, problem, space, at, change, how, small),
+                0,
+            )
         }
     }
 }

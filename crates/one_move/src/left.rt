@@ -6,13 +6,14 @@ ghost use Rattle.strips.specs.Closing.{CanClose};
 ghost use Rattle.one_move.specs.Prelude.{choice_at, site_limit, label_limit, WhereRead};
 ghost use Rattle.one_move.specs.Prelude.{AreOpenSites, AreWeights, IsCutRefusal, IsLeftSized};
 ghost use Rattle.one_move.specs.Prelude.{KeepsDecided, KeepsChoices, LeavesLeast, TellsLeft};
+ghost use Rattle.one_move.specs.Prelude.{priced_of};
 
 use crate::MoveError;
 use crate::move_by_cut::cut_small;
 use crate::workspace::Workspace;
 use compile_cut::Quadratic;
 use cut_ways::Sharing;
-use move_energy::Choice;
+use move_energy::{BuildError, Choice};
 use site_bounds::SiteForm;
 use std::alloc::{AllocError, Global};
 use std::mem::replace;
@@ -25,6 +26,24 @@ pub(crate) enum Left {
     Form,
     /// The least values of what is open, with the fewest ones: a bit for each open site.
     Values(Vec<bool>),
+}
+
+/// A move that is built: what is left of it, and what it then pays. An expansion whose form leaves
+/// out what its own label costs by itself pays that; every other move pays 0.
+#[derive(Drop)]
+pub(crate) struct Built {
+    pub left: Left,
+    pub price: u32,
+}
+
+/// A move of which this is left, at this price.
+pub(crate) fn at_price(left: Result<Left, BuildError>, price: u32) -> Result<Built, BuildError>
+    ensures { result ≡ priced_of left price }
+{
+    match left {
+        Ok(left) => Ok(Built { left, price }),
+        Err(error) => Err(error),
+    }
 }
 
 /// What is left of a move whose open sites are listed, from what they weighed at the start: their

@@ -9,6 +9,7 @@ mod energy_change;
 mod error;
 mod left;
 mod move_by_cut;
+mod paying;
 mod taking;
 mod workspace;
 

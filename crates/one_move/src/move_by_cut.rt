@@ -15,6 +15,7 @@ ghost use Rattle.one_move.specs.Prelude.{IsMoveRefusal, TellsPair};
 use crate::MoveError;
 use crate::building::build_move;
 use crate::left::cut_left;
+use crate::paying::pay;
 use crate::taking::take_best;
 use crate::workspace::{Workspace, give_numbers_back};
 use compile_cut::{Quadratic, net_of};
@@ -137,7 +138,7 @@ pub fn make_move<F: Fn(u32, u32) -> i64 + Sync, V: Fn(u32, u32) -> i64 + Sync, H
     }
     let small = least_nodes(how.shares_nets(), labelling.sites() as usize, space.shared);
     let rows = row_nodes(how, small);
-    let left = match build_move(
+    let built = match build_move(
         alloc,
         problem,
         space,
@@ -146,7 +147,7 @@ pub fn make_move<F: Fn(u32, u32) -> i64 + Sync, V: Fn(u32, u32) -> i64 + Sync, H
         how,
         rows,
     ) {
-        Ok(left) => left,
+        Ok(built) => built,
         Err(BuildError::PairNotRegular(pair)) => return Err(not_regular(pair, change)),
         Err(BuildError::OutOfMemory) => return Err(MoveError::OutOfMemory),
     };
@@ -155,8 +156,10 @@ pub fn make_move<F: Fn(u32, u32) -> i64 + Sync, V: Fn(u32, u32) -> i64 + Sync, H
         space.deciding.lists.listed,
         &mut space.built.variables.of_sites,
     );
-    let bits = cut_left(alloc, left, space, small, how)?;
+    let price = built.price;
+    let bits = cut_left(alloc, built.left, space, small, how)?;
     space.assign(&bits);
+    pay(problem, space, labelling.as_slice(), change, price);
     Ok(take_best(problem, labelling, change, space))
 }
 

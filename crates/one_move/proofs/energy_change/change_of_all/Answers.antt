@@ -2,8 +2,9 @@ use Rattle.std.proofs.Common.{◌≤◌, ◌+◌, length, w64, to_z, arith}
 use Rattle.std.proofs.lemmas.Int.{ints}
 use Rattle.move_energy.specs.BySite.{neighbours_start, degree}
 use Rattle.one_move.specs.Turning.{turned_below}
-use Rattle.one_move.proofs.Rising.{rise_adds, rise_fits, rise_within}
-use Rattle.one_move.proofs.Turning.{nothing_turned, one_more, told_rise, few_so_far}
+use Rattle.kept_labels.proofs.Rising.{rise_adds, rise_fits, few_so_far}
+use Rattle.one_move.proofs.Rising.{rise_within}
+use Rattle.one_move.proofs.Turning.{nothing_turned, one_more, told_rise}
 use Rattle.one_move.proofs.energy_change.change_of_all.Goals as goal
 
 pub loop-site-init : goal.loop-site-init

@@ -7,8 +7,9 @@ use Rattle.move_energy.specs.MoveValues.{move_value}
 use Rattle.site_forms.proofs.Telling.{form_tells}
 use Rattle.one_move.specs.Turning.{turned_below}
 use Rattle.one_move.proofs.Changes.{site_has}
-use Rattle.one_move.proofs.Rising.{rise_adds, rise_fits, rise_within}
-use Rattle.one_move.proofs.Turning.{none_yet, one_more, all_turned, form_over, few_so_far, starts_up, site_next, site_after, changes_between}
+use Rattle.kept_labels.proofs.Rising.{rise_adds, rise_fits, few_so_far}
+use Rattle.one_move.proofs.Rising.{rise_within}
+use Rattle.one_move.proofs.Turning.{none_yet, one_more, all_turned, form_over, starts_up, site_next, site_after, changes_between}
 use Rattle.one_move.proofs.energy_change.change_of_listed.Goals as goal
 
 pub turn-total-requires-clause-site : goal.turn-total-requires-clause-site

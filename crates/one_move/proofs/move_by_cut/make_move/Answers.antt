@@ -7,7 +7,7 @@ use Rattle.move_energy.specs.Choices.{AreAssigned, AreOpenSites}
 use Rattle.one_move.proofs.Answers.{cut_refusal, cut_may_come, pair_may_come, pair_refusal, taken_free, costs_costly}
 use Rattle.site_bounds.specs.declared.sites.Deciding.{Deciding}
 use Rattle.cost_store.proofs.Meaning.{pairs_meant}
-use Rattle.one_move.proofs.Least.{assigned_least}
+use Rattle.one_move.proofs.Prices.{assigned_answer}
 use Rattle.one_move.proofs.Changes.{near_changes}
 use Rattle.one_move.specs.Building.{HasFormOf}
 use Rattle.one_move.proofs.Forms.{still_form}
@@ -47,9 +47,11 @@ returns-clause-moved g c = λ m meant.
     let least = ready.1 c.in_ok-bits.bits c.in_ok-bits.ensures.least in
     let A : List Choice → Type 0 = λ cs. AreAssigned cs c.in_ok-bits.bits.items c.assign.new.self.built.variables.choices.items in
     let assigned = subst A c.cut_left.ensures.kept (rw (c.deref.ensures.value) at c.assign.ensures.assigned) in
-    let values = assigned_least m c.args.change (labelling c.args.labelling.now.at) _ _ c.in_ok-bits.bits.items pairs
-    (c.in-Ok.ensures.left.choices ∙ ap (λ (xs : List ℕ). length xs) c.as_slice.ensures.value ∙ c.requires.fits.sites ∙ sym meant.sites_are) assigned least in
-    let best = c.take_best.ensures.best m meant values in
+    let size = c.requires.fits.sites ∙ sym meant.sites_are in
+    let values = assigned_answer m c.args.change (labelling c.args.labelling.now.at) c.in-Ok.built.price _ _ c.in_ok-bits.bits.items pairs
+    (c.in-Ok.ensures.left.choices ∙ ap (λ (xs : List ℕ). length xs) c.as_slice.ensures.value ∙ size) assigned least in
+    let values_paid = rw (c.as_slice-2.ensures.value) at (c.pay.ensures.answer m meant) size values in
+    let best = c.take_best.ensures.best m meant values_paid in
     (here, ready.0, best.0, best.1, taken_free m c.args.change c.args.problem.now.label_costs meant.costs_are (c.is_taken.ensures.taken c.if-not-is_taken.false))
 
 pub returns-in-Err-PairNotRegular-clause-refused : goal.returns-in-Err-PairNotRegular-clause-refused
@@ -127,21 +129,21 @@ take_best-requires-clause-below g c = λ κs lives.
     subst P (c.labels.ensures.value) (c.is_below.ensures.0 c.if-not-is_below.false)
 
 pub take_best-requires-clause-choices : goal.take_best-requires-clause-choices
-take_best-requires-clause-choices g c = λ κs lives.
-    c.assign.ensures.assigned.count ∙ ap (λ (cs : List Choice). length cs) c.cut_left.ensures.kept ∙ c.in-Ok.ensures.left.choices ∙ ap (λ (xs : List ℕ). length xs) c.as_slice.ensures.value
+take_best-requires-clause-choices g c = λ κs lives. c.pay.ensures.count ∙ ap (λ (xs : List ℕ). length xs) c.as_slice-2.ensures.value
 
 pub take_best-requires-clause-changes : goal.take_best-requires-clause-changes
-take_best-requires-clause-changes g c = λ κs lives listed.
+take_best-requires-clause-changes g c = λ κs lives listed_now.
     let same = c.assign.ensures.same ∙ c.cut_left.ensures.same in
+    let listed = subst (λ (d : Deciding). IsTrue d.lists.listed) c.pay.ensures.same listed_now in
     let yes = subst (λ (d : Deciding). IsTrue d.lists.listed) same listed in
     let near = rw (c.as_slice.ensures.value) at (c.in-Ok.ensures.left.near yes) in
     let A : List Choice → Type 0 = λ cs. AreAssigned cs c.deref.result.now c.assign.new.self.built.variables.choices.items in
-    near_changes c.args.change c.args.labelling.now.at c.build_move.new.space c.assign.new.self _
-    (c.in-Ok.ensures.left.choices ∙ ap (λ (xs : List ℕ). length xs) c.as_slice.ensures.value) near same (subst A c.cut_left.ensures.kept c.assign.ensures.assigned)
+    rw (c.as_slice-2.ensures.value) at c.pay.ensures.changes (near_changes c.args.change c.args.labelling.now.at c.build_move.new.space c.assign.new.self _
+    (c.in-Ok.ensures.left.choices ∙ ap (λ (xs : List ℕ). length xs) c.as_slice.ensures.value) near same (subst A c.cut_left.ensures.kept c.assign.ensures.assigned))
 
 pub returns-clause-of_problem : goal.returns-clause-of_problem
 returns-clause-of_problem g c =
-    still_of_problem _ _ c.args.problem.now c.build_move.new.space c.assign.new.self (c.assign.ensures.same ∙ c.cut_left.ensures.same) c.in-Ok.ensures.of_problem
+    still_of_problem _ _ c.args.problem.now c.build_move.new.space c.pay.new.space (c.pay.ensures.same ∙ c.assign.ensures.same ∙ c.cut_left.ensures.same) c.in-Ok.ensures.of_problem
 
 pub assign-requires : goal.assign-requires
 assign-requires g c = λ listed.
@@ -212,5 +214,14 @@ returns-clause-taken g c = c.take_best.ensures.taken
 pub take_best-requires-clause-form : goal.take_best-requires-clause-form
 take_best-requires-clause-form g c = λ κs lives swap.
     let P : List ℕ → Type 0 = λ f. HasFormOf g.F.Fn g.V.Fn c.args.problem.now f c.args.change c.build_move.new.space in
-    still_form _ _ c.args.problem.now c.args.labelling.now.at c.args.change c.build_move.new.space c.assign.new.self (c.assign.ensures.same ∙ c.cut_left.ensures.same)
+    still_form _ _ c.args.problem.now c.args.labelling.now.at c.args.change c.build_move.new.space c.pay.new.space (c.pay.ensures.same ∙ c.assign.ensures.same ∙ c.cut_left.ensures.same)
     (subst P c.as_slice.ensures.value (c.in-Ok.ensures.form swap))
+
+pub pay-requires-clause-price : goal.pay-requires-clause-price
+pay-requires-clause-price g c = λ κs lives some.
+    let P : List ℕ → Type 0 = λ f. HasFormOf g.F.Fn g.V.Fn c.args.problem.now f c.args.change c.build_move.new.space in
+    let had = c.in-Ok.ensures.price some in (
+      had.0,
+      still_form _ _ c.args.problem.now c.as_slice-2.result.now c.args.change c.build_move.new.space c.assign.new.self (c.assign.ensures.same ∙ c.cut_left.ensures.same)
+          (subst P (c.as_slice.ensures.value ∙ sym c.as_slice-2.ensures.value) had.1),
+    )
