@@ -1,4 +1,5 @@
 pub mod Bits
 pub mod Given
+pub mod Tables
 pub mod Told
 pub mod Stretches

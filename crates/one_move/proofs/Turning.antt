@@ -1,6 +1,6 @@
 -- The sites of a move as they turn, one after another, and what the labels that their values make
 -- then cost.
-use Rattle.std.proofs.Common.{◌≡◌, ◌≢◌, ℕ, zero, suc, ◌+◌, ◌<◌, ◌≤◌, ◌==◌, Bool, true, false, cond, not, nat_lt, List, length, get_or, refl, sym, ap, ◌∙◌, inl, inr, add-one, arith, ℤ, pos, ◌+ℤ◌, ◌-ℤ◌}
+use Rattle.std.proofs.Common.{◌≡◌, ◌≢◌, ℕ, suc, ◌+◌, ◌<◌, ◌≤◌, ◌==◌, Bool, true, false, cond, not, nat_lt, List, length, get_or, refl, sym, ap, ◌∙◌, inl, inr, add-one, arith, ℤ, pos, ◌+ℤ◌, ◌-ℤ◌}
 use Rattle.std.specs.Prelude.{◌||◌}
 use Rattle.std.proofs.lemmas.Int.{ints}
 use Rattle.std.proofs.lemmas.Bool.{cases_eq, cases_lt, cases_Bool}
@@ -16,7 +16,7 @@ use Rattle.label_energies.proofs.Energy.{plain-same}
 use Rattle.move_energy.specs.declared.by_site.Neighbours.{Neighbours}
 use Rattle.move_energy.specs.declared.choice.Choice.{Choice}
 use Rattle.move_energy.specs.Assignments.{rise, set_bit, IsOver}
-use Rattle.move_energy.specs.BySite.{IsListing, neighbours_start, degree}
+use Rattle.move_energy.specs.BySite.{IsListing, degree}
 use Rattle.move_energy.specs.MoveValues.{move_value}
 use Rattle.move_energy.proofs.Assignments.{set_at, set_other, set_same}
 use Rattle.move_energy.proofs.Listings.{chosen_below, listing_length}
@@ -263,17 +263,6 @@ changes_between m move form choices sites s t is changes same l =
     ])
 
 -- ---- as the machine counts them
-
-pub starts_up : (n : ℕ) (ends : Neighbours) (s t : ℕ) → ArePlaces n ends → s ≤ t → t ≤ n → neighbours_start ends s ≤ neighbours_start ends t
-starts_up n ends s zero are l h = (let e : s ≡ zero = omega (arith, l) in let r = ap (neighbours_start ends) e in omega (arith, r))
-starts_up n ends s (suc t) are l h = elim (cases_eq s (suc t)) [
-  | inl same ↦ (let r = ap (neighbours_start ends) same in omega (arith, r))
-  | inr other ↦
-      let up = starts_up n ends s t are (omega (arith, l, other)) (omega (arith, h)) in
-      let one = are.rising t (omega (arith, h)) in
-      let e = ap (neighbours_start ends) (add-one t) in
-      omega (arith, up, one, e)
-]
 
 pub few_beside : (ends : Neighbours) (site n : ℕ) → ArePlaces n ends → site < n → degree ends site ≤ 8388608
 few_beside ends site n are l = (let within = are.within (site + 1) (omega (arith, l)) in omega (arith, within, are.few_places))

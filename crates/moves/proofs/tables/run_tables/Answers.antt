@@ -1,11 +1,9 @@
-use Rattle.std.proofs.Common.{◌∙◌, ◌*◌, refl, sym, pos}
+use Rattle.std.proofs.Common.{◌∙◌, ◌*◌, refl, sym}
 use Rattle.cost_store.specs.Limits.{site_cost_limit}
-use Rattle.cost_store.specs.Promises.{cost_in}
-use Rattle.moves.specs.Instances.{instance_of}
 use Rattle.cost_store.specs.LabelCosts.{costs_of}
-use Rattle.moves.proofs.Entries.{table_of_costs}
-use Rattle.moves.specs.Instances.{data_entry}
+use Rattle.moves.specs.Instances.{instance_of, data_entry}
 use Rattle.moves.proofs.Entries.{data_keeps, data_along}
+use Rattle.moves.proofs.Instances.{table_instance}
 use Rattle.moves.proofs.tables.run_tables.Goals as goal
 
 pub new-data_cost-requires : goal.new-data_cost-requires
@@ -17,41 +15,20 @@ new-data_cost-requires g c =
 pub returns-clause-run : goal.returns-clause-run
 returns-clause-run g c =
     c.run_with_table.ensures.run (instance_of c.args.pairs c.args.request.start.labels (data_entry c.args.request.start.labels c.args.data.now) c.args.smooth.now (costs_of c.args.label_costs))
-    (record {
-      sites_are = refl;
-      labels_are = refl;
-      pairs_are = refl;
-      data_are = rw c.new-data_cost.ensures.stored (λ a b z la lb is. data_along c.args.data.now a b z _ _ c.labels-labels.ensures.value is);
-      table = cost_in c.args.request.start.labels c.args.smooth.now;
-      weighted = λ weight a b. refl;
-      smooth_are = table_of_costs (pos 10000) c.args.smooth.now c.args.request.start.labels c.requires.smooth.0 c.requires.smooth.1;
-    })
+    (rw c.new-data_cost.ensures.stored (table_instance _ _ _ _ _ _ c.requires.smooth.0 c.requires.smooth.1
+    (λ a b z la lb is. data_along c.args.data.now a b z _ _ c.labels-labels.ensures.value is)))
     (record { each = λ label below. refl })
 
 pub returns-clause-bounded : goal.returns-clause-bounded
 returns-clause-bounded g c =
     c.run_with_table.ensures.bounded (instance_of c.args.pairs c.args.request.start.labels (data_entry c.args.request.start.labels c.args.data.now) c.args.smooth.now (costs_of c.args.label_costs))
-    (record {
-      sites_are = refl;
-      labels_are = refl;
-      pairs_are = refl;
-      data_are = rw c.new-data_cost.ensures.stored (λ a b z la lb is. data_along c.args.data.now a b z _ _ c.labels-labels.ensures.value is);
-      table = cost_in c.args.request.start.labels c.args.smooth.now;
-      weighted = λ weight a b. refl;
-      smooth_are = table_of_costs (pos 10000) c.args.smooth.now c.args.request.start.labels c.requires.smooth.0 c.requires.smooth.1;
-    })
+    (rw c.new-data_cost.ensures.stored (table_instance _ _ _ _ _ _ c.requires.smooth.0 c.requires.smooth.1
+    (λ a b z la lb is. data_along c.args.data.now a b z _ _ c.labels-labels.ensures.value is)))
     (record { each = λ label below. refl })
 
 pub returns-clause-over_metric : goal.returns-clause-over_metric
 returns-clause-over_metric g c =
     c.run_with_table.ensures.over_metric (instance_of c.args.pairs c.args.request.start.labels (data_entry c.args.request.start.labels c.args.data.now) c.args.smooth.now (costs_of c.args.label_costs))
-    (record {
-      sites_are = refl;
-      labels_are = refl;
-      pairs_are = refl;
-      data_are = rw c.new-data_cost.ensures.stored (λ a b z la lb is. data_along c.args.data.now a b z _ _ c.labels-labels.ensures.value is);
-      table = cost_in c.args.request.start.labels c.args.smooth.now;
-      weighted = λ weight a b. refl;
-      smooth_are = table_of_costs (pos 10000) c.args.smooth.now c.args.request.start.labels c.requires.smooth.0 c.requires.smooth.1;
-    })
+    (rw c.new-data_cost.ensures.stored (table_instance _ _ _ _ _ _ c.requires.smooth.0 c.requires.smooth.1
+    (λ a b z la lb is. data_along c.args.data.now a b z _ _ c.labels-labels.ensures.value is)))
     (record { each = λ label below. refl })

@@ -1,7 +1,8 @@
 use Rattle.std.proofs.Common.{◌≤◌, ◌∙◌, List, ℕ, ℤ, length, ap, sym, subst}
 use Rattle.std.specs.Global.{Vec}
 use Rattle.compile_cut.specs.Weights.{weights_size}
-use Rattle.label_energies.specs.Energies.{labelling}
+use Rattle.label_energies.specs.Energies.{Instance, labelling}
+use Rattle.cost_store.specs.Posed.{IsMeant, WhereMeant}
 use Rattle.move_energy.specs.declared.choice.Choice.{Choice}
 use Rattle.move_energy.specs.Choices.{choice_at, AreOpenSites}
 use Rattle.move_energy.specs.Limits.{weights_limit}
@@ -10,6 +11,7 @@ use Rattle.move_energy.specs.MoveValues.{move_value}
 use Rattle.persistency.specs.Agreeing.{Agree}
 use Rattle.one_move.specs.Building.{TellsLeft}
 use Rattle.one_move.proofs.Forms.{read_meant}
+use Rattle.one_move.proofs.building.leave_strip.Goals.{In_ok-left}
 use Rattle.one_move.proofs.building.leave_strip.Goals as goal
 
 pub close_in-requires-clause-begins : goal.close_in-requires-clause-begins
@@ -37,90 +39,67 @@ leave_weighed-requires-clause-opened g c =
     let K : List Choice → Type 0 = λ ks. AreOpenSites ks c.deref-4.result.now in
     subst K (sym c.deref-3.ensures.value) (subst O (sym c.deref-4.ensures.value) (subst V (sym c.swap-2.ensures.x_after) c.in_ok-close_in.ensures.opened))
 
+-- what was weighed of the move is so of the form that was read
+weighed : (g : _) (c : In_ok-left g) (m : Instance) → IsMeant g.F.Fn g.V.Fn c.args.problem.now m
+    → AreWeights m c.args.change (labelling c.form-form.result.at.now) (choice_at c.deref.result.now) c.deref-2.result.now
+weighed g c m meant =
+    let a = c.args in
+    let start = c.deref.ensures.value ∙ ap (λ (v : _). v.items) c.swap.ensures.x_after in
+    let F : List ℕ → Type 0 = λ f. AreWeights m a.change (labelling f) (choice_at c.deref.result.now) c.deref-2.result.now in
+    let C : List Choice → Type 0 = λ cs. AreWeights m a.change (labelling a.at.now) (choice_at cs) c.deref-2.result.now in
+    let W : List ℤ → Type 0 = λ ws. AreWeights m a.change (labelling a.at.now) (choice_at a.space.now.built.variables.choices.items) ws in
+    subst F (sym c.form-form.ensures.at) (subst C (sym start) (subst W (sym c.deref-2.ensures.value) (c.requires.weighed.weights m meant)))
+
+-- what is told of the form is told of the move
+left_told : (g : _) (c : In_ok-left g)
+    → WhereMeant g.F.Fn g.V.Fn c.args.problem.now (λ m. TellsLeft m c.args.change (labelling c.args.at.now) c.close_in.new.variables.choices.items c.leave_weighed.new.written c.in_ok-left.left)
+left_told g c =
+    let a = c.args in
+    let numbers = c.requires.weighed.read.numbers in
+    let left = c.in_ok-left.left in
+    read_meant _ _ a.problem.now a.space.now.deciding.ends a.at.now a.change a.space.now.deciding.numbers c.form-form.result
+    (λ m f. TellsLeft m a.change (labelling f) c.close_in.new.variables.choices.items c.leave_weighed.new.written left)
+    numbers.allowed numbers.read c.form-form.ensures.at c.form-form.ensures.of
+    (λ m meant is.
+    let T : List Choice → Type 0 = λ cs. TellsLeft m a.change (labelling c.form-form.result.at.now) cs c.leave_weighed.new.written left in
+    subst T c.deref-3.ensures.value (c.in_ok-left.ensures.tells m a.change is (weighed g c m meant)))
+
+-- and the choices agree with it still
+still_agree : (g : _) (c : In_ok-left g)
+    → WhereMeant g.F.Fn g.V.Fn c.args.problem.now (λ m. Agree m.sites (move_value m c.args.change (labelling c.args.at.now)) (choice_at c.args.space.now.built.variables.choices.items)
+    → Agree m.sites (move_value m c.args.change (labelling c.args.at.now)) (choice_at c.close_in.new.variables.choices.items))
+still_agree g c =
+    let a = c.args in
+    let numbers = c.requires.weighed.read.numbers in
+    let start = c.deref.ensures.value ∙ ap (λ (v : _). v.items) c.swap.ensures.x_after in
+    read_meant _ _ a.problem.now a.space.now.deciding.ends a.at.now a.change a.space.now.deciding.numbers c.form-form.result
+    (λ m f. Agree m.sites (move_value m a.change (labelling f)) (choice_at a.space.now.built.variables.choices.items)
+    → Agree m.sites (move_value m a.change (labelling f)) (choice_at c.close_in.new.variables.choices.items))
+    numbers.allowed numbers.read c.form-form.ensures.at c.form-form.ensures.of
+    (λ m meant is agree.
+    let A : List Choice → Type 0 = λ cs. Agree m.sites (move_value m a.change (labelling c.form-form.result.at.now)) (choice_at cs) in
+    c.in_ok-close_in.ensures.agree m a.change is (weighed g c m meant) (subst A (sym start) agree))
+
 pub returns-then-space-clause-of_problem : goal.returns-then-space-clause-of_problem
 returns-then-space-clause-of_problem g c = c.requires.weighed.read.of_problem
 
 pub returns-then-space-clause-left : goal.returns-then-space-clause-left
-returns-then-space-clause-left g c =
-    let a = c.args in
-    let numbers = c.requires.weighed.read.numbers in
-    let choices = c.close_in.new.variables.choices.items in
-    let from = c.form-form.ensures.at in
-    let start = c.deref.ensures.value ∙ ap (λ (v : _). v.items) c.swap.ensures.x_after in
-    let new = c.leave_weighed.new.written in
-    let left = c.in_ok-left.left in
-    record {
-      sized = c.in_ok-left.ensures.sized;
-      tells = read_meant _ _ a.problem.now a.space.now.deciding.ends a.at.now a.change a.space.now.deciding.numbers c.form-form.result (λ m f. TellsLeft m a.change (labelling f) choices new left)
-          numbers.allowed numbers.read from c.form-form.ensures.of
-          (λ m meant is.
-          let F : List ℕ → Type 0 = λ f. AreWeights m a.change (labelling f) (choice_at c.deref.result.now) c.deref-2.result.now in
-          let C : List Choice → Type 0 = λ cs. AreWeights m a.change (labelling a.at.now) (choice_at cs) c.deref-2.result.now in
-          let W : List ℤ → Type 0 = λ ws. AreWeights m a.change (labelling a.at.now) (choice_at a.space.now.built.variables.choices.items) ws in
-          let T : List Choice → Type 0 = λ cs. TellsLeft m a.change (labelling c.form-form.result.at.now) cs new left in
-          subst T c.deref-3.ensures.value
-          (c.in_ok-left.ensures.tells m a.change is (subst F (sym from) (subst C (sym start) (subst W (sym c.deref-2.ensures.value) (c.requires.weighed.weights m meant))))));
-    }
+returns-then-space-clause-left g c = record {
+  sized = c.in_ok-left.ensures.sized;
+  tells = left_told g (goal.at.returns-then-space-clause-left g c).In_ok-left;
+}
 
 pub returns-then-space-clause-agree : goal.returns-then-space-clause-agree
-returns-then-space-clause-agree g c =
-    let a = c.args in
-    let numbers = c.requires.weighed.read.numbers in
-    let form = c.form-form.ensures in
-    let old = a.space.now.built.variables.choices.items in
-    let new = c.close_in.new.variables.choices.items in
-    let start = c.deref.ensures.value ∙ ap (λ (v : _). v.items) c.swap.ensures.x_after in
-    read_meant _ _ a.problem.now a.space.now.deciding.ends a.at.now a.change a.space.now.deciding.numbers c.form-form.result
-    (λ m f. Agree m.sites (move_value m a.change (labelling f)) (choice_at old) → Agree m.sites (move_value m a.change (labelling f)) (choice_at new))
-    numbers.allowed numbers.read form.at form.of
-    (λ m meant is agree.
-    let F : List ℕ → Type 0 = λ f. AreWeights m a.change (labelling f) (choice_at c.deref.result.now) c.deref-2.result.now in
-    let C : List Choice → Type 0 = λ cs. AreWeights m a.change (labelling a.at.now) (choice_at cs) c.deref-2.result.now in
-    let W : List ℤ → Type 0 = λ ws. AreWeights m a.change (labelling a.at.now) (choice_at old) ws in
-    let A : List Choice → Type 0 = λ cs. Agree m.sites (move_value m a.change (labelling c.form-form.result.at.now)) (choice_at cs) in
-    c.in_ok-close_in.ensures.agree m a.change is (subst F (sym form.at) (subst C (sym start) (subst W (sym c.deref-2.ensures.value) (c.requires.weighed.weights m meant))))
-    (subst A (sym start) agree))
+returns-then-space-clause-agree g c = still_agree g (goal.at.returns-then-space-clause-agree g c).In_ok-left
 
 pub returns-clause-of_problem : goal.returns-clause-of_problem
 returns-clause-of_problem g c = c.requires.weighed.read.of_problem
 
 pub returns-clause-left : goal.returns-clause-left
-returns-clause-left g c =
-    let a = c.args in
-    let numbers = c.requires.weighed.read.numbers in
-    let choices = c.close_in.new.variables.choices.items in
-    let from = c.form-form.ensures.at in
-    let start = c.deref.ensures.value ∙ ap (λ (v : _). v.items) c.swap.ensures.x_after in
-    let new = c.leave_weighed.new.written in
-    let left = c.in_ok-left.left in
-    record {
-      sized = c.in_ok-left.ensures.sized;
-      tells = read_meant _ _ a.problem.now a.space.now.deciding.ends a.at.now a.change a.space.now.deciding.numbers c.form-form.result (λ m f. TellsLeft m a.change (labelling f) choices new left)
-          numbers.allowed numbers.read from c.form-form.ensures.of
-          (λ m meant is.
-          let F : List ℕ → Type 0 = λ f. AreWeights m a.change (labelling f) (choice_at c.deref.result.now) c.deref-2.result.now in
-          let C : List Choice → Type 0 = λ cs. AreWeights m a.change (labelling a.at.now) (choice_at cs) c.deref-2.result.now in
-          let W : List ℤ → Type 0 = λ ws. AreWeights m a.change (labelling a.at.now) (choice_at a.space.now.built.variables.choices.items) ws in
-          let T : List Choice → Type 0 = λ cs. TellsLeft m a.change (labelling c.form-form.result.at.now) cs new left in
-          subst T c.deref-3.ensures.value
-          (c.in_ok-left.ensures.tells m a.change is (subst F (sym from) (subst C (sym start) (subst W (sym c.deref-2.ensures.value) (c.requires.weighed.weights m meant))))));
-    }
+returns-clause-left g c = record {
+  sized = c.in_ok-left.ensures.sized;
+  tells = left_told g (goal.at.returns-clause-left g c).In_ok-left;
+}
 
 pub returns-clause-agree : goal.returns-clause-agree
-returns-clause-agree g c =
-    let a = c.args in
-    let numbers = c.requires.weighed.read.numbers in
-    let form = c.form-form.ensures in
-    let old = a.space.now.built.variables.choices.items in
-    let new = c.close_in.new.variables.choices.items in
-    let start = c.deref.ensures.value ∙ ap (λ (v : _). v.items) c.swap.ensures.x_after in
-    read_meant _ _ a.problem.now a.space.now.deciding.ends a.at.now a.change a.space.now.deciding.numbers c.form-form.result
-    (λ m f. Agree m.sites (move_value m a.change (labelling f)) (choice_at old) → Agree m.sites (move_value m a.change (labelling f)) (choice_at new))
-    numbers.allowed numbers.read form.at form.of
-    (λ m meant is agree.
-    let F : List ℕ → Type 0 = λ f. AreWeights m a.change (labelling f) (choice_at c.deref.result.now) c.deref-2.result.now in
-    let C : List Choice → Type 0 = λ cs. AreWeights m a.change (labelling a.at.now) (choice_at cs) c.deref-2.result.now in
-    let W : List ℤ → Type 0 = λ ws. AreWeights m a.change (labelling a.at.now) (choice_at old) ws in
-    let A : List Choice → Type 0 = λ cs. Agree m.sites (move_value m a.change (labelling c.form-form.result.at.now)) (choice_at cs) in
-    c.in_ok-close_in.ensures.agree m a.change is (subst F (sym form.at) (subst C (sym start) (subst W (sym c.deref-2.ensures.value) (c.requires.weighed.weights m meant))))
-    (subst A (sym start) agree))
+returns-clause-agree g c = still_agree g (goal.at.returns-clause-agree g c).In_ok-left

@@ -4,12 +4,13 @@ use Rattle.std.proofs.lemmas.List.{get_or_default, get_or_past}
 use Rattle.label_energies.specs.Energies.{labelling}
 use Rattle.move_energy.specs.BySite.{neighbours_start, degree}
 use Rattle.move_energy.specs.MoveValues.{move_value}
+use Rattle.site_forms.proofs.ByPlace.{starts_up}
 use Rattle.site_forms.proofs.Telling.{form_tells}
 use Rattle.one_move.specs.Turning.{turned_below}
 use Rattle.one_move.proofs.Changes.{site_has}
 use Rattle.kept_labels.proofs.Rising.{rise_adds, rise_fits, few_so_far}
 use Rattle.one_move.proofs.Rising.{rise_within}
-use Rattle.one_move.proofs.Turning.{none_yet, one_more, all_turned, form_over, starts_up, site_next, site_after, changes_between}
+use Rattle.one_move.proofs.Turning.{none_yet, one_more, all_turned, form_over, site_next, site_after, changes_between}
 use Rattle.one_move.proofs.energy_change.change_of_listed.Goals as goal
 
 pub turn-total-requires-clause-site : goal.turn-total-requires-clause-site

@@ -13,6 +13,7 @@ use Rattle.run_steps.proofs.Asked.{stage_of_asked, opened_asked, read_at_none}
 use Rattle.site_bounds.specs.declared.sites.Deciding.{Deciding}
 use Rattle.run_steps.specs.Stages.{HasNumbersNear}
 use Rattle.run_steps.proofs.Stages.{closed_ends, next_zeros}
+use Rattle.run_steps.proofs.stage_cut.make_stage.Goals.{After-read_sites}
 use Rattle.run_steps.proofs.stage_cut.make_stage.Goals as goal
 
 pub read_sites-requires-clause-inside : goal.read_sites-requires-clause-inside
@@ -68,8 +69,10 @@ returns-in-Ok-clause-zeros g c = λ m meant is zeros.
 pub form-form-requires-clause-lists : goal.form-form-requires-clause-lists
 form-form-requires-clause-lists g c = c.read_sites.ensures.lists c.args.problem.now.pairs c.args.space.now.deciding.ends c.requires.numbers.lists
 
-pub returns-in_err-bits-clause-numbers : goal.returns-in_err-bits-clause-numbers
-returns-in_err-bits-clause-numbers g c =
+-- what was known of the numbers is known once those of some sites were read
+numbers_still : (g : _) (c : After-read_sites g)
+    → HasNumbersNear g.F.Fn g.V.Fn c.args.problem.now c.args.at.now (Expand c.args.alpha) [] c.args.space.now.deciding.ends c.read_sites.new.self
+numbers_still g c =
     let numbers = c.requires.numbers in
     let ends = c.args.space.now.deciding.ends in
     record {
@@ -79,26 +82,15 @@ returns-in_err-bits-clause-numbers g c =
       read = λ m meant. read_at_none m (Expand c.args.alpha) ends c.args.at.now _ _ (c.read_sites.ensures.read m meant ends (numbers.read m meant));
     }
 
+pub returns-in_err-bits-clause-numbers : goal.returns-in_err-bits-clause-numbers
+returns-in_err-bits-clause-numbers g c = numbers_still g (goal.at.returns-in_err-bits-clause-numbers g c).After-read_sites
+
 pub returns-in-Ok-clause-numbers : goal.returns-in-Ok-clause-numbers
 returns-in-Ok-clause-numbers g c =
-    let numbers = c.requires.numbers in
-    let ends = c.args.space.now.deciding.ends in
     let D : Deciding → Type 0 = λ d. HasNumbersNear g.F.Fn g.V.Fn c.args.problem.now c.args.at.now (Expand c.args.alpha) [] d.ends d.numbers in
-    subst D (sym c.in-Ok.ensures.same) (record {
-      sites_are = numbers.sites_are;
-      allowed = numbers.allowed;
-      lists = c.read_sites.ensures.lists c.args.problem.now.pairs ends numbers.lists;
-      read = λ m meant. read_at_none m (Expand c.args.alpha) ends c.args.at.now _ _ (c.read_sites.ensures.read m meant ends (numbers.read m meant));
-    })
+    subst D (sym c.in-Ok.ensures.same) (numbers_still g (goal.at.returns-in-Ok-clause-numbers g c).After-read_sites)
 
 pub returns-clause-numbers : goal.returns-clause-numbers
 returns-clause-numbers g c =
-    let numbers = c.requires.numbers in
-    let ends = c.args.space.now.deciding.ends in
     let D : Deciding → Type 0 = λ d. HasNumbersNear g.F.Fn g.V.Fn c.args.problem.now c.args.at.now (Expand c.args.alpha) [] d.ends d.numbers in
-    subst D (sym c.in-Err.ensures.same) (record {
-      sites_are = numbers.sites_are;
-      allowed = numbers.allowed;
-      lists = c.read_sites.ensures.lists c.args.problem.now.pairs ends numbers.lists;
-      read = λ m meant. read_at_none m (Expand c.args.alpha) ends c.args.at.now _ _ (c.read_sites.ensures.read m meant ends (numbers.read m meant));
-    })
+    subst D (sym c.in-Err.ensures.same) (numbers_still g (goal.at.returns-clause-numbers g c).After-read_sites)
