@@ -5,7 +5,7 @@ use Rattle.std.proofs.lemmas.Nat.{mul-add-lt}
 use Rattle.std.proofs.Math.Nat.{mul_comm}
 use Rattle.cost_store.specs.Promises.{IsCost, cost_in, entry_at}
 
-place_in : (a b k n len : ℕ) → a < n → b < k → len ≡ n * k → a * k + b < len
+pub place_in : (a b k n len : ℕ) → a < n → b < k → len ≡ n * k → a * k + b < len
 place_in a b k n len la lb size = omega (arith, mul-add-lt a k b n la lb, mul_comm n k, size)
 
 not_below : (z : ℤ) → pos 0 ≤ℤ z → z ≡ pos (unsigned_abs z)

@@ -31,7 +31,7 @@ ready_smooth a ready is =
 pub ready_costs : (a : CallArrays) (ready : Ready) → ArePartsOf a ready → AreLabelCosts ready.start.labels ready.label_costs
 ready_costs a ready is = (let P : ℕ → Type 0 = λ k. AreLabelCosts k ready.label_costs in subst P (labels_of a ready is) is.costs_kept)
 
-kept_costs : (labels : ℕ) (costs : Option (Vec ℤ)) (given : List ℤ) → costs_of costs ≡ given → (length given ≡ 0 → costs ≡ None)
+pub kept_costs : (labels : ℕ) (costs : Option (Vec ℤ)) (given : List ℤ) → costs_of costs ≡ given → (length given ≡ 0 → costs ≡ None)
     → (length given ≡ 0) ⊎ (length given ≡ labels) → All (IsCost (pos label_cost_limit)) given → AreLabelCosts labels costs
 kept_costs labels None given is none count each = tt
 kept_costs labels (Some costs) given is none (inl empty) each = absurd (let e : Some costs ≡ None = none empty in cc)

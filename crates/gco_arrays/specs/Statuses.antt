@@ -27,6 +27,9 @@ status_of (why.TermNotRegular _ _) = 20
 status_of (why.NotRegular _ _ _) = 24
 status_of why.LabelCostInSwap = 27
 status_of why.NoSuchCourse = 28
+status_of why.TableOfCount = 30
+status_of (why.NoSuchTable _) = 31
+status_of (why.PairCostRange _) = 32
 
 -- the number of a call that made as many moves as were allowed and is not at the end of its run
 abbrev pub unfinished_status : ℕ
@@ -41,6 +44,8 @@ told_place (why.WeightRange place) = place
 told_place (why.DataRange place) = place
 told_place (why.SmoothRange place) = place
 told_place (why.LabelCostRange place) = place
+told_place (why.NoSuchTable place) = place
+told_place (why.PairCostRange place) = place
 told_place (why.TermNotRegular place fixed) = place
 told_place (why.NotRegular place alpha beta) = place
 told_place _ = 0

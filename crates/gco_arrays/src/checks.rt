@@ -86,7 +86,7 @@ pub(crate) fn check_ranges<N: Number>(
 }
 
 /// Whether each entry of a table is from 0 to `most`: if not, the first that is not.
-fn check_table<N: Number>(table: &[N], most: i64) -> Result<(), CostError>
+pub(crate) fn check_table<N: Number>(table: &[N], most: i64) -> Result<(), CostError>
     ensures fits { IsOk result ↔ All (IsCost most) (map N.value table.now) }
     ensures first { IfErr result (IsFirstOutside most (map N.value table.now)) }
 {

@@ -6,13 +6,17 @@
 mod checks;
 mod number;
 mod pairs;
+mod prices;
 mod ready;
 mod refusal;
 mod start;
+mod tables;
 mod terms;
 
 pub use number::{Number, wide_copy};
 pub use pairs::GcoPair;
+pub use prices::PairPrices;
 pub use ready::{Arrays, Ready, ready_of};
 pub use refusal::Refusal;
+pub use tables::{PairArrays, pair_ready_of, prices_of};
 pub use terms::{GcoOne, GcoThree, GcoTwo, energy_of};

@@ -58,7 +58,10 @@ pub fn ready_of<N: Number>(
 }
 
 /// The label costs that were given, none where there are none.
-fn costs_given<N: Number>(alloc: Global, given: &[N]) -> Result<Option<Vec<i64>>, Refusal>
+pub(crate) fn costs_given<N: Number>(
+    alloc: Global,
+    given: &[N],
+) -> Result<Option<Vec<i64>>, Refusal>
     ensures costs { IfOk result (λ costs. costs_of costs ≡ map N.value given.now) }
     ensures empty { IfOk result (λ costs. length given.now ≡ 0 → costs ≡ None) }
     ensures refused { IfErr result (λ e. e ≡ Refusal.OutOfMemory) }

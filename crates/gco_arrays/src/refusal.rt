@@ -60,6 +60,12 @@ pub enum Refusal {
     LabelCostInSwap,
     /// What was lent of a run under way has other sizes, or is past the end of its cycles.
     NoSuchCourse,
+    /// There are numbers of tables, and not one for each pair.
+    TableOfCount,
+    /// The table of a pair is not there.
+    NoSuchTable(usize),
+    /// The weight of a pair times an entry of its table is above the greatest cost of a pair.
+    PairCostRange(usize),
 }
 
 impl Refusal {
@@ -91,6 +97,9 @@ impl Refusal {
             Refusal::NotRegular { .. } => 24,
             Refusal::LabelCostInSwap => 27,
             Refusal::NoSuchCourse => 28,
+            Refusal::TableOfCount => 30,
+            Refusal::NoSuchTable(_) => 31,
+            Refusal::PairCostRange(_) => 32,
         }
     }
 
@@ -105,7 +114,9 @@ impl Refusal {
             | Refusal::WeightRange(place)
             | Refusal::DataRange(place)
             | Refusal::SmoothRange(place)
-            | Refusal::LabelCostRange(place) => place,
+            | Refusal::LabelCostRange(place)
+            | Refusal::NoSuchTable(place)
+            | Refusal::PairCostRange(place) => place,
             Refusal::TermNotRegular { term, .. } => term,
             Refusal::NotRegular { pair, .. } => pair,
             _ => 0,
