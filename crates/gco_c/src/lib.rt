@@ -6,6 +6,7 @@ mod bound;
 mod label;
 mod minimise;
 mod moving;
+mod pairs;
 mod stretch;
 #[cfg(test)]
 mod tests;
@@ -16,4 +17,8 @@ pub use gco_calls::{GcoBound, GcoCourse, GcoMinimum, GcoOutcome};
 pub use label::{gco_label, gco_label_int32};
 pub use minimise::gco_minimise;
 pub use moving::{gco_expand, gco_swap};
+pub use pairs::{
+    gco_expand_pairs, gco_expand_pairs_int32, gco_label_pairs, gco_label_pairs_int32,
+    gco_swap_pairs, gco_swap_pairs_int32,
+};
 pub use stretch::{gco_label_stretch, gco_label_stretch_int32};

@@ -1,7 +1,8 @@
 //! Each call of C once, with a worked example.
 use crate::{
-    GcoBound, GcoMinimum, GcoOne, GcoOutcome, GcoPair, GcoThree, GcoTwo, gco_expand, gco_label,
-    gco_label_int32, gco_lower_bound, gco_minimise, gco_swap,
+    GcoBound, GcoMinimum, GcoOne, GcoOutcome, GcoPair, GcoThree, GcoTwo, gco_expand,
+    gco_expand_pairs, gco_label, gco_label_int32, gco_label_pairs, gco_lower_bound, gco_minimise,
+    gco_swap,
 };
 use std::test::Fail;
 
@@ -387,5 +388,72 @@ fn bound_of_a_chain(rt: HostRuntime) -> Result<(), Fail> {
     }
     assert!(rt; status == [9, 0] && labels == [0, 1, 1]);
     assert!(rt; told.low == 6 && told.place == 0);
+    Ok(())
+}
+
+/// Three sites in a row, whose two pairs have costs of their own: the first costs 2, 4, 6 and 0 at
+/// the labels 00, 01, 10 and 11, the second 0, 2, 4 and 4.
+const OWN_TABLES: [i64; 8] = [1, 2, 3, 0, 0, 1, 2, 2];
+
+const ROW: [GcoPair; 2] = [
+    GcoPair {
+        first: 0,
+        second: 1,
+        weight: 2,
+    },
+    GcoPair {
+        first: 1,
+        second: 2,
+        weight: 2,
+    },
+];
+
+/// Of the eight labellings of that row 1 1 1 costs the least: 3 at the sites, 0 and 4 at the pairs.
+/// From 0 everywhere an expansion of 1 reaches it.
+const ROW_DATA: [i64; 6] = [0, 2, 3, 0, 7, 1];
+
+#[test]
+fn pairs_of_their_own(rt: HostRuntime) -> Result<(), Fail> {
+    let mut labels = [0u32; 3];
+    let mut told = no_outcome();
+    let mut status = [9u32; 4];
+    let numbers: [&[u32]; 3] = [&[], &[0, 2], &[0]];
+    for (place, table_of) in numbers.iter().enumerate() {
+        labels = [0; 3];
+        status[place] = gco_label_pairs(
+            rt.alloc(),
+            2,
+            &ROW_DATA,
+            2,
+            &OWN_TABLES,
+            &[],
+            &ROW,
+            table_of,
+            0,
+            9,
+            &mut labels,
+            &mut told,
+        );
+        if place == 0 {
+            assert!(rt; labels == [1, 1, 1]);
+            assert!(rt; tells(&told, [3, 4, 0], [0; 3], [2, 1, 0, 0, 0]));
+        }
+    }
+    assert!(rt; labels == [0; 3] && told.place == 0);
+    status[3] = gco_expand_pairs(
+        rt.alloc(),
+        2,
+        &ROW_DATA,
+        2,
+        &OWN_TABLES,
+        &[],
+        &ROW,
+        &[],
+        1,
+        &mut labels,
+        &mut told,
+    );
+    assert!(rt; status == [0, 31, 30, 0] && labels == [1, 1, 1]);
+    assert!(rt; tells(&told, [3, 4, 0], [0; 3], [0, 0, 1, 0, 0]));
     Ok(())
 }

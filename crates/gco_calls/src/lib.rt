@@ -2,12 +2,14 @@
 //! it returns.
 #![tactic(auto)]
 
+mod asked;
 mod bound;
 mod course;
 mod label;
 mod minimise;
 mod moving;
 mod outcome;
+mod pairs;
 mod running;
 mod stretch;
 
@@ -17,4 +19,5 @@ pub use label::answer_run;
 pub use minimise::{GcoMinimum, answer_minimum};
 pub use moving::answer_move;
 pub use outcome::GcoOutcome;
+pub use pairs::{answer_pair_move, answer_pair_run};
 pub use stretch::answer_stretch;

@@ -126,7 +126,7 @@ fn move_over<N: Number>(
 }
 
 /// Makes one move of a problem, and tells the energy where it ends.
-fn move_problem<F: Fn(u32, u32) -> i64 + Sync, V: Fn(u32, u32) -> i64 + Sync>(
+pub(crate) fn move_problem<F: Fn(u32, u32) -> i64 + Sync, V: Fn(u32, u32) -> i64 + Sync>(
     alloc: Global,
     problem: &Problem<F, V>,
     start: Labelling,
