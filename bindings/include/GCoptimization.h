@@ -8,9 +8,10 @@
 // - The answer is one and proved: each move goes to the best labelling that it reaches, ties by a
 //   written rule.
 // - Arrays are copied when they are set.
-// - The smooth cost of a pair is a weight of its two sites times one table of the labels. Smooth
-//   costs by a function or functor are taken if they turn out to be that. This is tested on every
-//   pair and all labels; other costs are refused.
+// - Smooth costs by a function or functor are asked for at every pair and all labels in each call.
+//   If they are no weight of the two sites times one table of the labels, a call makes a table for
+//   each pair: 4 bytes for each two labels. Then a cost is at most 10,000,000, a bound counts the
+//   sites alone, and what is watched or printed is made move by move.
 // - A smooth cost or weight below 0 is refused. A common factor moves between weights and smooth
 //   costs. A weight that stays above 1,000 is laid down as several pairs of the same sites, which
 //   counts the same. After that a smooth cost is at most 10,000, and there are at most 4,194,304
@@ -173,8 +174,7 @@ public:
     void setSmoothCost(LabelID l1, LabelID l2, Cost cost) {
         setSmoothCost(l1, l2, held(cost));
     }
-    // costs of two sites and their labels, where they are a weight of the sites times one table of
-    // the labels
+    // costs of two sites and their labels
     void setSmoothCost(SmoothCostFn cost) { set_smooth_function(cost); }
     void setSmoothCost(SmoothCostFnExtra cost, void *extra) {
         set_smooth_function([cost, extra](SiteID p, SiteID q, LabelID a, LabelID b) {
@@ -233,10 +233,10 @@ public:
     EnergyType swap(int cycles = -1) {
         return in_memory([&] { return run(GCO_SWAP, cycles); });
     }
-    // beyond gco-v3: what each later run calls about twice a second and where it ends, and in an
-    // order of labels after each move. Where it answers no the run stops there, and outcome() is
-    // not settled. What it throws comes through, and the labels are those before the run.
-    // setWatch(nullptr) takes it away
+    // beyond gco-v3: what each later run calls about twice a second and where it ends; after each
+    // move in an order of labels, or where each pair has a table. Where it answers no the run stops
+    // there, and outcome() is not settled. What it throws comes through, and the labels are those
+    // before the run. setWatch(nullptr) takes it away
     void setWatch(Watch watch) { watch_ = std::move(watch); }
     // one move; yes where a label changed, and so the energy fell
     bool alpha_expansion(LabelID alpha) {
@@ -488,11 +488,7 @@ private:
     struct Run : Arrays {
         explicit Run(GCoptimization &given) : Arrays(given) {}
         EnergyType make(std::uint32_t moves, std::uint32_t cycles) {
-            const std::vector<std::int32_t> &costs = data(), &own = of.label_costs_;
-            check(gco_label_int32(std::uint32_t(of.label_count_), costs.data(), costs.size(),
-                                  laid.table.data(), laid.table.size(), own.data(), own.size(),
-                                  laid.pairs->data(), laid.pairs->size(), moves, cycles,
-                                  of.labels_.data(), of.labels_.size(), &of.outcome_));
+            check(laid.label(data(), of.label_costs_, moves, cycles, of.labels_, of.outcome_));
             return energy();
         }
     };
@@ -535,19 +531,13 @@ private:
         explicit Moves(GCoptimization &given)
             : Arrays(given), costs(data()), own(given.label_costs_) {}
         bool expand(LabelID alpha) {
-            check(gco_expand_int32(std::uint32_t(of.label_count_), costs.data(), costs.size(),
-                                   laid.table.data(), laid.table.size(), own.data(), own.size(),
-                                   laid.pairs->data(), laid.pairs->size(), std::uint32_t(alpha),
-                                   of.labels_.data(), of.labels_.size(), &of.outcome_));
+            check(laid.expand(costs, own, std::uint32_t(alpha), of.labels_, of.outcome_));
             if (of.verbosity_ >= 2) of.print("  " + move_name(alpha, alpha), energy());
             return of.outcome_.changed != 0;
         }
         bool swap(LabelID alpha, LabelID beta) {
-            check(gco_swap_int32(std::uint32_t(of.label_count_), costs.data(), costs.size(),
-                                 laid.table.data(), laid.table.size(), own.data(), own.size(),
-                                 laid.pairs->data(), laid.pairs->size(), std::uint32_t(alpha),
-                                 std::uint32_t(beta), of.labels_.data(), of.labels_.size(),
-                                 &of.outcome_));
+            check(laid.swap(costs, own, std::uint32_t(alpha), std::uint32_t(beta), of.labels_,
+                            of.outcome_));
             if (of.verbosity_ >= 2)
                 of.print("  swap of labels " + std::to_string(alpha) + " and " +
                              std::to_string(beta),
@@ -556,11 +546,13 @@ private:
         }
         EnergyType bound(int passes, std::vector<std::uint32_t> &labels) {
             gco_bound told;
+            // no pair costs less than 0, so a bound without those that have tables is one, too
+            const std::size_t pair_count = laid.is_each ? 0 : laid.pairs->size();
             const std::vector<std::int64_t> wide(costs.begin(), costs.end()),
                 paid(own.begin(), own.end()), smooth(laid.table.begin(), laid.table.end());
             const std::uint32_t status = gco_lower_bound(
                 std::uint32_t(of.label_count_), wide.data(), wide.size(), smooth.data(),
-                smooth.size(), paid.data(), paid.size(), laid.pairs->data(), laid.pairs->size(),
+                smooth.size(), paid.data(), paid.size(), laid.pairs->data(), pair_count,
                 passes < 0 ? GCO_ALL_PASSES : std::uint32_t(passes), GCO_ANY_SIZE, labels.data(),
                 labels.size(), &told);
             of.outcome_ = gco_outcome();
@@ -624,6 +616,7 @@ private:
     }
     EnergyType run_by_stretches(std::uint32_t moves, std::uint32_t cycles) {
         Stretches calls(*this, moves, cycles);
+        if (calls.laid.is_each) return run_in_order(moves, cycles);
         bool is_under_way = verbosity_ < 1 || calls.make(0);
         print("start", calls.energy());
         // the first moves are taken for slow ones

@@ -9,6 +9,7 @@
  *     the sum over the sites of     data[site * label_count + its label]
  *   + the sum over the pairs of     weight * smooth[label of first * label_count + label of second]
  *   + the sum over the labels that some site has of     label_costs[label].
+ * gco_label_pairs takes a table for each pair in place of the one table `smooth`.
  *
  *     int64_t data[] = {4,6,9, 7,5,6, 8,4,7, 9,7,3, 6,8,5};        // 5 sites, 3 labels
  *     int64_t smooth[] = {0,1,1, 1,0,1, 1,1,0};                    // Potts
@@ -48,6 +49,7 @@ extern "C" {
 #define GCO_DATA_LIMIT 10000000        /* a data cost, from 0 */
 #define GCO_SMOOTH_LIMIT 10000         /* a smooth cost, from 0 */
 #define GCO_LABEL_COST_LIMIT 10000000  /* what a label costs by itself, from 0 */
+#define GCO_PAIR_COST_LIMIT 10000000   /* gco_label_pairs: an entry of a table, and a weight times an entry, from 0 */
 
 /* Two sites, numbered from 0, and the weight of their term. A pair that stands twice counts twice. */
 typedef struct gco_pair {
@@ -62,9 +64,9 @@ typedef struct gco_outcome {
                                   * least energy of all labellings. They are the least and the greatest smooth cost of two
                                   * unequal labels (1 and 1 of one label), and are told exactly of a run of expansions
                                   * that settled, where the smooth costs are a metric and no label cost is above 0 */
-    uint32_t cycles;             /* gco_label: how many cycles were made */
-    uint32_t settled;            /* gco_label: 1 where the last cycle changed nothing, else 0 */
-    uint32_t changed;            /* gco_expand, gco_swap: 1 where a label changed, else 0 */
+    uint32_t cycles;             /* gco_label, gco_label_pairs: how many cycles were made */
+    uint32_t settled;            /* the same: 1 where the last cycle changed nothing, else 0 */
+    uint32_t changed;            /* gco_expand, gco_swap, and those of pairs: 1 where a label changed, else 0 */
     uint32_t alpha, beta;        /* GCO_NOT_REGULAR: the labels of the move, twice the same of an expansion */
 } gco_outcome;
 
@@ -95,7 +97,13 @@ enum {
     GCO_NO_SUCH_COURSE = 28,    /* gco_label_stretch: stamp_count is not site_count, made_count is not label_count, or the
                                  * course is past the end of its cycles */
     GCO_UNFINISHED = 29,        /* gco_label_stretch: no refusal. The moves are made, and the run is not at its end */
-    GCO_TERM_NOT_REGULAR = 20   /* gco_minimise: term `place` is not regular; of three variables, where `fixed` is `fixed_at` */
+    GCO_TERM_NOT_REGULAR = 20,  /* gco_minimise: term `place` is not regular; of three variables, where `fixed` is `fixed_at` */
+
+    /* Of the calls of pairs with costs of their own. GCO_LABEL_COST_COUNT comes before GCO_SMOOTH_COUNT there, GCO_SMOOTH_RANGE
+     * after GCO_LABEL_COST_RANGE, and GCO_NO_SUCH_TABLE and GCO_PAIR_COST_RANGE, pair by pair, before GCO_NO_SUCH_LABEL. */
+    GCO_TABLE_OF_COUNT = 30,    /* after GCO_SMOOTH_COUNT: table_of_count is neither 0 nor pair_count */
+    GCO_NO_SUCH_TABLE = 31,     /* the number of the table of pairs[place] is not below table_count */
+    GCO_PAIR_COST_RANGE = 32    /* the weight of pairs[place] times an entry of its table is above its limit */
 };
 
 enum { GCO_EXPANSION = 0, GCO_SWAP = 1 };
@@ -230,6 +238,87 @@ uint32_t gco_swap_int32(uint32_t label_count,
                         uint32_t alpha, uint32_t beta,
                         uint32_t *labels, size_t site_count,
                         gco_outcome *told);
+
+/* What gco_label does, over pairs each of which has costs of its own: what a seam costs between two photographs depends on
+ * both labels and both sites, and is no weight times one table. There are `table_count` tables of label_count * label_count
+ * entries, one after another. Pair n costs
+ *     pairs[n].weight * tables[(table_of[n] * label_count + label of first) * label_count + label of second],
+ * at most GCO_PAIR_COST_LIMIT. If table_of_count is 0, pair n has table n: so one table a pair is the shortest form.
+ *
+ *     gco_pair pairs[] = {{0,1,1}, {1,2,1}};                       // two pairs of three sites
+ *     int64_t tables[] = {0,7, 3,0,  0,2, 9,0};                    // what each costs at the labels 00, 01, 10, 11
+ *     status = gco_label_pairs(2, data, 6, 2, tables, 8, NULL, 0, pairs, 2, NULL, 0, GCO_EXPANSION, GCO_ALL_CYCLES,
+ *                              labels, 3, &told);
+ *
+ * No metric is asked for. Each move tests the terms of all pairs, and refuses the first that is not regular. No expansion
+ * is refused so where the costs of each pair are a metric.
+ *
+ * The tables are read where they lie. No bound is told.
+ *
+ * Told: data, smooth, label, cycles, settled. */
+uint32_t gco_label_pairs(uint32_t label_count,
+                         const int64_t *data, size_t data_count,
+                         uint32_t table_count, const int64_t *tables, size_t entry_count,
+                         const int64_t *label_costs, size_t label_cost_count,
+                         const gco_pair *pairs, size_t pair_count,
+                         const uint32_t *table_of, size_t table_of_count,
+                         uint32_t moves, uint32_t cycles,
+                         uint32_t *labels, size_t site_count,
+                         gco_outcome *told);
+
+/* What gco_label_pairs does, over costs of 32 bits. */
+uint32_t gco_label_pairs_int32(uint32_t label_count,
+                               const int32_t *data, size_t data_count,
+                               uint32_t table_count, const int32_t *tables, size_t entry_count,
+                               const int32_t *label_costs, size_t label_cost_count,
+                               const gco_pair *pairs, size_t pair_count,
+                               const uint32_t *table_of, size_t table_of_count,
+                               uint32_t moves, uint32_t cycles,
+                               uint32_t *labels, size_t site_count,
+                               gco_outcome *told);
+
+/* The move of gco_expand over such pairs, and that of gco_swap, each over costs of either width.
+ *
+ * Told: data, smooth, label, changed. */
+uint32_t gco_expand_pairs(uint32_t label_count,
+                          const int64_t *data, size_t data_count,
+                          uint32_t table_count, const int64_t *tables, size_t entry_count,
+                          const int64_t *label_costs, size_t label_cost_count,
+                          const gco_pair *pairs, size_t pair_count,
+                          const uint32_t *table_of, size_t table_of_count,
+                          uint32_t alpha,
+                          uint32_t *labels, size_t site_count,
+                          gco_outcome *told);
+
+uint32_t gco_expand_pairs_int32(uint32_t label_count,
+                                const int32_t *data, size_t data_count,
+                                uint32_t table_count, const int32_t *tables, size_t entry_count,
+                                const int32_t *label_costs, size_t label_cost_count,
+                                const gco_pair *pairs, size_t pair_count,
+                                const uint32_t *table_of, size_t table_of_count,
+                                uint32_t alpha,
+                                uint32_t *labels, size_t site_count,
+                                gco_outcome *told);
+
+uint32_t gco_swap_pairs(uint32_t label_count,
+                        const int64_t *data, size_t data_count,
+                        uint32_t table_count, const int64_t *tables, size_t entry_count,
+                        const int64_t *label_costs, size_t label_cost_count,
+                        const gco_pair *pairs, size_t pair_count,
+                        const uint32_t *table_of, size_t table_of_count,
+                        uint32_t alpha, uint32_t beta,
+                        uint32_t *labels, size_t site_count,
+                        gco_outcome *told);
+
+uint32_t gco_swap_pairs_int32(uint32_t label_count,
+                              const int32_t *data, size_t data_count,
+                              uint32_t table_count, const int32_t *tables, size_t entry_count,
+                              const int32_t *label_costs, size_t label_cost_count,
+                              const gco_pair *pairs, size_t pair_count,
+                              const uint32_t *table_of, size_t table_of_count,
+                              uint32_t alpha, uint32_t beta,
+                              uint32_t *labels, size_t site_count,
+                              gco_outcome *told);
 
 /* What gco_lower_bound tells beside its status and its labels; all of it is written by each call. */
 typedef struct gco_bound {

@@ -1,5 +1,5 @@
-// The smooth costs of GCoptimization.h, as gco.h takes them: one table of the labels, and a weight
-// for each pair. A part of that header, which includes it.
+// The smooth costs of GCoptimization.h, as gco.h takes them: one table of the labels and a weight
+// for each pair, or a table for each pair. A part of that header, which includes it.
 #ifndef GCO_SMOOTH_H
 #define GCO_SMOOTH_H
 
@@ -47,7 +47,7 @@ inline std::uint64_t common(std::uint64_t a, std::uint64_t b) {
 }
 
 // the smooth costs of a call: pairs within the limit of weights, and a table with a row for
-// each label of the first site
+// each label of the first site; or pairs of weight 1, and such a table for each of them
 struct Laid {
     Laid(std::size_t labels, const std::vector<gco_pair> &all,
          const std::vector<std::int32_t> &costs, const Function &asked)
@@ -155,40 +155,101 @@ struct Laid {
                 costs[a * k + b] = cost;
             }
     }
-    // finds the table that all pairs share, and each pair's multiple of it
+    // finds the table that all pairs share, and each pair's multiple of it; or gives each its own
     void ask_function() {
         std::vector<gco_pair> sites(given);
         std::vector<std::int32_t> costs(table.size());
         bool is_found = false;
-        std::size_t
-            mark = 0,
-            from = 0;   // a cost of the table that is not 0, and the pair that the table is of
+        std::size_t mark = 0;   // a cost of the table that is not 0
         for (std::size_t i = 0; i < sites.size(); i++) {
             if (sites[i].first < sites[i].second) std::swap(sites[i].first, sites[i].second);
             ask_pair(sites[i], costs);
+            if (is_each) {
+                set_own(sites[i], i, costs, sites[i].weight);
+                continue;
+            }
             if (!is_found) {
                 for (mark = 0; mark < costs.size() && costs[mark] == 0; mark++) {}
                 is_found = mark < costs.size();
-                from = i;
                 if (is_found) {
                     table = costs;
                     divide_by_common(table);
                 }
             }
             const std::int64_t times = is_found ? costs[mark] / table[mark] : 0;
-            for (std::size_t at = 0; at < costs.size(); at++)
-                if (costs[at] != times * table[at])
-                    throw GCException(no_proportion(sites[i], sites[from]));
-            weights.push_back(std::uint64_t(times) * sites[i].weight);
+            for (std::size_t at = 0; at < costs.size() && !is_each; at++)
+                is_each = costs[at] != times * table[at];
+            if (is_each) {
+                begin_own(sites, i);
+                set_own(sites[i], i, costs, sites[i].weight);
+            } else {
+                weights.push_back(std::uint64_t(times) * sites[i].weight);
+            }
         }
-        lay(sites);
+        if (!is_each) {
+            lay(sites);
+            return;
+        }
+        pairs = &own;
+        std::fill(table.begin(), table.end(), 0);
     }
-    static std::string no_proportion(const gco_pair &pair, const gco_pair &other) {
-        return "the smooth costs of " + names(pair.first, pair.second) +
-               " are not in proportion to those of " + names(other.first, other.second) +
-               ": gco takes smooth costs that are a weight of the two sites times "
-               "one table of the labels. If the product is rounded, round the weight first: "
-               "(int)(lambda * exp(-d * d / s)) * min(abs(a - b), T)";
+    // gives each pair a table of its own; those before a place are multiples of the table
+    void begin_own(const std::vector<gco_pair> &sites, std::size_t place) {
+        tables.resize(sites.size() * table.size());
+        own.reserve(sites.size());
+        for (std::size_t i = 0; i < place; i++) set_own(sites[i], i, table, weights[i]);
+    }
+    void set_own(const gco_pair &sites, std::size_t place, const std::vector<std::int32_t> &costs,
+                 std::uint64_t times) {
+        for (std::size_t at = 0; at < costs.size(); at++) {
+            const std::uint64_t cost = std::uint64_t(costs[at]) * times;
+            if (cost > GCO_PAIR_COST_LIMIT)
+                throw GCException("the smooth cost of " + names(sites.first, sites.second) +
+                                  " at labels " + std::to_string(at / k) + " and " +
+                                  std::to_string(at % k) + " is " + std::to_string(cost) +
+                                  ": from 0 to 10,000,000 is taken where the pairs have costs of "
+                                  "their own");
+            tables[place * table.size() + at] = std::int32_t(cost);
+        }
+        const gco_pair pair = {sites.first, sites.second, 1};
+        own.push_back(pair);
+    }
+
+    // the calls over these costs and those of 32 bits of the sites and the labels
+    typedef std::vector<std::int32_t> Costs;
+    typedef std::vector<std::uint32_t> Labels;
+    std::uint32_t label(const Costs &data, const Costs &paid, std::uint32_t moves,
+                        std::uint32_t cycles, Labels &at, gco_outcome &told) const {
+        if (is_each)
+            return gco_label_pairs_int32(
+                std::uint32_t(k), data.data(), data.size(), std::uint32_t(own.size()),
+                tables.data(), tables.size(), paid.data(), paid.size(), own.data(), own.size(),
+                nullptr, 0, moves, cycles, at.data(), at.size(), &told);
+        return gco_label_int32(std::uint32_t(k), data.data(), data.size(), table.data(),
+                               table.size(), paid.data(), paid.size(), pairs->data(),
+                               pairs->size(), moves, cycles, at.data(), at.size(), &told);
+    }
+    std::uint32_t expand(const Costs &data, const Costs &paid, std::uint32_t alpha, Labels &at,
+                         gco_outcome &told) const {
+        if (is_each)
+            return gco_expand_pairs_int32(
+                std::uint32_t(k), data.data(), data.size(), std::uint32_t(own.size()),
+                tables.data(), tables.size(), paid.data(), paid.size(), own.data(), own.size(),
+                nullptr, 0, alpha, at.data(), at.size(), &told);
+        return gco_expand_int32(std::uint32_t(k), data.data(), data.size(), table.data(),
+                                table.size(), paid.data(), paid.size(), pairs->data(),
+                                pairs->size(), alpha, at.data(), at.size(), &told);
+    }
+    std::uint32_t swap(const Costs &data, const Costs &paid, std::uint32_t alpha,
+                       std::uint32_t beta, Labels &at, gco_outcome &told) const {
+        if (is_each)
+            return gco_swap_pairs_int32(
+                std::uint32_t(k), data.data(), data.size(), std::uint32_t(own.size()),
+                tables.data(), tables.size(), paid.data(), paid.size(), own.data(), own.size(),
+                nullptr, 0, alpha, beta, at.data(), at.size(), &told);
+        return gco_swap_int32(std::uint32_t(k), data.data(), data.size(), table.data(),
+                              table.size(), paid.data(), paid.size(), pairs->data(),
+                              pairs->size(), alpha, beta, at.data(), at.size(), &told);
     }
 
     const std::vector<gco_pair> &given;
@@ -198,6 +259,8 @@ struct Laid {
     std::vector<std::int32_t> table;
     std::vector<std::uint64_t> weights;   // of each pair, before they are laid down
     std::vector<gco_pair> own;
+    bool is_each = false;   // each pair has a table of its own
+    std::vector<std::int32_t> tables;
 };
 }   // namespace gco_smooth
 

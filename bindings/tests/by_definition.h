@@ -16,6 +16,8 @@ struct Definition {
     std::vector<std::vector<long long>> data,
         smooth;   // by site and label, by label of the first and of the second
     std::vector<Neighbours> pairs;
+    std::vector<std::vector<std::vector<long long>>>
+        own;   // where pairs have costs of their own: a table for each in place of `smooth`
     std::vector<long long> label_costs;
     std::vector<int> at;   // the labelling
     int failing_pair = -1, alpha = -1, beta = -1, cycles = 0;
@@ -28,10 +30,13 @@ struct Definition {
         for (int s = 0; s < sites; s++) sum += data[as(s)][as(f[as(s)])];
         return sum;
     }
+    long long pair_cost(std::size_t i, int a, int b) const {
+        return pairs[i].weight * (own.empty() ? smooth : own[i])[as(a)][as(b)];
+    }
     long long smooth_energy(const std::vector<int> &f) const {
         long long sum = 0;
-        for (const Neighbours &pair : pairs)
-            sum += pair.weight * smooth[as(f[as(pair.p)])][as(f[as(pair.q)])];
+        for (std::size_t i = 0; i < pairs.size(); i++)
+            sum += pair_cost(i, f[as(pairs[i].p)], f[as(pairs[i].q)]);
         return sum;
     }
     long long label_energy(const std::vector<int> &f) const {
@@ -56,9 +61,8 @@ struct Definition {
         for (std::size_t i = 0; i < pairs.size(); i++) {
             long long at_bits[4];
             for (int bits = 0; bits < 4; bits++)
-                at_bits[bits] = pairs[i].weight *
-                                smooth[as(moved(at[as(pairs[i].p)], bits / 2, a, b))]
-                                      [as(moved(at[as(pairs[i].q)], bits % 2, a, b))];
+                at_bits[bits] = pair_cost(i, moved(at[as(pairs[i].p)], bits / 2, a, b),
+                                          moved(at[as(pairs[i].q)], bits % 2, a, b));
             if (at_bits[0] + at_bits[3] <= at_bits[1] + at_bits[2]) continue;
             failing_pair = static_cast<int>(i), alpha = a, beta = b;
             return false;

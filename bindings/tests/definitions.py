@@ -8,8 +8,11 @@ class Problem:
         self.sites, self.labels = len(data), len(smooth)
 
     def parts(self, f):
-        return (sum(self.data[p][f[p]] for p in range(self.sites)), sum(w * self.smooth[f[p]][f[q]] for p, q, w in self.pairs),
+        return (sum(self.data[p][f[p]] for p in range(self.sites)), sum(self.pair_cost(place, f[p], f[q]) for place, (p, q, _) in enumerate(self.pairs)),
                 sum(self.costs[label] for label in set(f)) if self.costs else 0)
+
+    def pair_cost(self, place, a, b):
+        return self.pairs[place][2] * self.smooth[a][b]
 
     def energy(self, f):
         return sum(self.parts(f))
@@ -20,9 +23,9 @@ class Problem:
         return move[bit] if old in move else old
 
     def irregular(self, move, f):
-        for place, (p, q, w) in enumerate(self.pairs):
+        for place, (p, q, _) in enumerate(self.pairs):
             def entry(x, y):
-                return w * self.smooth[self.label_in(move, f[p], x)][self.label_in(move, f[q], y)]
+                return self.pair_cost(place, self.label_in(move, f[p], x), self.label_in(move, f[q], y))
             if entry(0, 0) + entry(1, 1) > entry(0, 1) + entry(1, 0):
                 return place
         return None
@@ -60,6 +63,17 @@ class Problem:
                 yield (f, *self.parts(f), cycle + 1, True)
                 return
         yield (f, *self.parts(f), cycles, False)
+
+
+class PairProblem(Problem):
+    """A problem each of whose pairs has a table of its own."""
+
+    def __init__(self, data, tables, labels, pairs, costs):
+        super().__init__(data, [[0] * labels] * labels, pairs, costs)
+        self.tables = tables
+
+    def pair_cost(self, place, a, b):
+        return self.pairs[place][2] * self.tables[place][a][b]
 
 
 def least_cut(nodes, tedges, edges):

@@ -42,10 +42,11 @@ static gco_pair pairs[] = {{0, 1, 3}, {1, 2, 2}, {2, 3, 2}, {3, 4, 4}, {1, 3, 1}
 static gco_one ones[] = {{0, 0, 0, 2}};
 static gco_two twos[] = {{1, 2, 0, 4, 4, 0}};
 static gco_three threes[] = {{0, 1, 2, 0, 3, 3, 3, 3, 3, 3, 3, 0}};
+static const uint32_t table_of[6];
 static uint32_t labels[5];
 static uint8_t bits[3];
 
-enum { CALLS = 10, WROTE = 99 };
+enum { CALLS = 13, WROTE = 99 };
 
 /* The rest of a run after two moves, whose memory is not refused. What a refusal writes is told by a
  * status of its own. */
@@ -103,6 +104,15 @@ static uint32_t call(int which) {
                                 &told);
     case 8:
         return gco_swap_int32(3, data32, 15, smooth32, 9, NULL, 0, pairs, 6, 0, 2, labels, 5, &told);
+    case 9:
+        return gco_label_pairs(3, data, 15, 1, smooth, 9, costs, 3, pairs, 6, table_of, 6,
+                               GCO_EXPANSION, GCO_ALL_CYCLES, labels, 5, &told);
+    case 10:
+        return gco_expand_pairs_int32(3, data32, 15, 1, smooth32, 9, costs32, 3, pairs, 6, table_of,
+                                      6, 2, labels, 5, &told);
+    case 11:
+        return gco_swap_pairs(3, data, 15, 1, smooth, 9, NULL, 0, pairs, 6, table_of, 6, 0, 2,
+                              labels, 5, &told);
     default: return gco_minimise(10, ones, 1, twos, 1, threes, 1, bits, 3, &found);
     }
 }

@@ -1,5 +1,5 @@
-// 2,000 random problems of labels and 2,000 of yes-no variables and graphs, against the
-// definitions.
+// 2,000 random problems of labels, 2,000 whose pairs have costs of their own, and 2,000 of yes-no
+// variables and graphs, against the definitions.
 #include <memory>
 #include "GCoptimization.h"
 #include "by_definition.h"
@@ -13,13 +13,12 @@ struct Costs : GCoptimization::DataCostFunctor, GCoptimization::SmoothCostFuncto
     const Definition *of;
     std::vector<int> table;
     int compute(int s, int l) { return static_cast<int>(of->data[as(s)][as(l)]); }
-    // a multiple for each pair, times the table
+    // a multiple for each pair, times the table or the pair's own
     int compute(int p, int q, int a, int b) {
-        for (const Neighbours &pair : of->pairs) {
-            if (pair.p == p && pair.q == q)
-                return static_cast<int>(pair.weight * of->smooth[as(a)][as(b)]);
-            if (pair.p == q && pair.q == p)
-                return static_cast<int>(pair.weight * of->smooth[as(b)][as(a)]);
+        for (std::size_t i = 0; i < of->pairs.size(); i++) {
+            const Neighbours &pair = of->pairs[i];
+            if (pair.p == p && pair.q == q) return static_cast<int>(of->pair_cost(i, a, b));
+            if (pair.p == q && pair.q == p) return static_cast<int>(of->pair_cost(i, b, a));
         }
         std::abort();
     }
@@ -62,6 +61,24 @@ static Definition made(Random &random, bool by_function) {
         for (int l = 0; l < k; l++) d.label_costs.push_back(scale * random.below(5));
     for (int s = 0; s < d.sites; s++) d.at.push_back(random.below(k));
     return d;
+}
+
+// a table for each pair: mostly a metric of that pair, else any costs
+static void give_own(Definition &d, Random &random) {
+    const std::size_t k = as(d.labels);
+    const int shape = random.below(3);
+    for (std::size_t i = 0; i < d.pairs.size(); i++) {
+        std::vector<std::vector<long long>> table(k, std::vector<long long>(k));
+        std::vector<int> far;
+        for (std::size_t l = 0; l < k; l++) far.push_back(random.below(6));
+        const int toll = random.below(3);
+        for (std::size_t a = 0; a < k; a++)
+            for (std::size_t b = 0; b < k; b++)
+                table[a][b] = shape == 0 ? random.below(9)
+                              : a == b   ? 0
+                                         : toll + std::abs(far[a] - far[b]);
+        d.own.push_back(table);
+    }
 }
 
 static void hand_over(const Definition &d, GCoptimizationGeneralGraph &gc, Costs &costs,
@@ -109,13 +126,18 @@ struct Counts {
     int answered = 0, irregular = 0, label_cost = 0, heavy = 0;
 };
 
-static void labels_by_definition(Random &random, Counts &counts) {
-    const int kind = random.below(3);   // a table and weights, or the weights inside a function
+static void labels_by_definition(Random &random, Counts &counts, bool has_own) {
+    // a table and weights, or the weights inside a function
+    const int kind = has_own ? random.from(1, 2) : random.below(3);
     Definition d = made(random, kind != 0);
+    if (has_own) give_own(d, random);
     const std::vector<int> start = d.at;
     Costs costs;
     GCoptimizationGeneralGraph gc(d.sites, d.labels);
     hand_over(d, gc, costs, random, kind);
+    // over pairs with tables a run that is watched is made move by move
+    if (has_own && random.below(3) == 0)
+        gc.setWatch([](const GCoptimization::Progress &) { return true; });
     const bool is_swap = random.below(2) != 0;
     const int most = random.below(3) ? 50 : random.below(3);
     bool has_label_cost = false;
@@ -262,15 +284,19 @@ static void energies_by_definition(Random &random, int &refused) {
 int main() {
     Random random(7);
     Counts counts;
-    for (int turn = 0; turn < 2000; turn++) labels_by_definition(random, counts);
+    for (int turn = 0; turn < 2000; turn++) labels_by_definition(random, counts, false);
     WANT(counts.answered > 1000 && counts.irregular > 50 && counts.label_cost > 50 &&
          counts.heavy > 200);
+    Counts own;
+    for (int turn = 0; turn < 2000; turn++) labels_by_definition(random, own, true);
+    WANT(own.answered > 1000 && own.irregular > 50 && own.label_cost > 50);
     int refused = 0;
     for (int turn = 0; turn < 2000; turn++) energies_by_definition(random, refused);
     WANT(refused > 500);
     std::printf("c++: 2,000 random problems of labels by the definition (%d answered, of which %d "
-                "heavy, %d not regular), 2,000 "
-                "energies (%d terms refused)\n",
-                counts.answered, counts.heavy, counts.irregular, refused);
+                "heavy, %d not regular), 2,000 of pairs with costs of their own (%d answered, %d "
+                "not regular), 2,000 energies (%d terms refused)\n",
+                counts.answered, counts.heavy, counts.irregular, own.answered, own.irregular,
+                refused);
     return 0;
 }

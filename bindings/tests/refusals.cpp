@@ -88,6 +88,7 @@ static void pairs() {
 
 static int below(int, int, int a, int b) { return a == 1 && b == 0 ? -4 : a != b; }
 static int steep(int p, int q, int a, int b) { return a == b ? 0 : p + q; }
+static int dear(int p, int, int a, int b) { return p == 2 && a < b ? 5000001 : a != b; }
 
 static void costs() {
     GCoptimizationGeneralGraph gc(3, 3);
@@ -110,6 +111,14 @@ static void costs() {
     gc.setLabel(0, 1);
     gc.setLabel(1, 2);
     WANT(gc.compute_energy() == 4);
+    // costs of the very pair have a limit, with the weight of the pair
+    GCoptimizationGeneralGraph own(3, 2);
+    own.setNeighbors(1, 0);
+    own.setNeighbors(1, 2, 2);
+    own.setSmoothCost(dear);
+    WANT(refused("the smooth cost of sites 2 and 1 at labels 0 and 1 is 10000002: from 0 to "
+                 "10,000,000 is taken where the pairs have costs of their own",
+                 [&] { own.expansion(); }));
     gc.setLabelCost(-3);
     WANT(refused("the cost of label 0 is -3: from 0 to 10,000,000 is taken",
                  [&] { gc.expansion(); }));

@@ -7,6 +7,7 @@ ALL_CYCLES = 2**32 - 1
 ANY_SIZE = 2**64 - 1
 SITE_LIMIT, LABEL_LIMIT, PAIR_LIMIT = 1048576, 256, 4194304
 WEIGHT_LIMIT, DATA_LIMIT, SMOOTH_LIMIT, LABEL_COST_LIMIT = 1000, 10000000, 10000, 10000000
+PAIR_COST_LIMIT = 10000000
 VARIABLE_LIMIT, TERM_LIMIT, VALUE_LIMIT = 2097152, 8388608, 1000000000
 UNFINISHED = 29  # the status of a stretch whose run is not at its end
 MOVES = {"expansion": 0, "swap": 1}
@@ -59,6 +60,7 @@ def _open() -> ctypes.CDLL:
 calls = _open()
 _SLICE, _U32, _OUT = [ctypes.c_void_p, ctypes.c_size_t], ctypes.c_uint32, ctypes.c_void_p
 _TABLES = [_U32, *_SLICE, *_SLICE, *_SLICE, *_SLICE]
+_PAIR_TABLES = [_U32, *_SLICE, _U32, *_SLICE, *_SLICE, *_SLICE, *_SLICE]
 for _call, _types in [
     (calls.gco_label, [*_TABLES, _U32, _U32, *_SLICE, _OUT]),
     (calls.gco_label_int32, [*_TABLES, _U32, _U32, *_SLICE, _OUT]),
@@ -69,6 +71,12 @@ for _call, _types in [
     (calls.gco_expand_int32, [*_TABLES, _U32, *_SLICE, _OUT]),
     (calls.gco_swap, [*_TABLES, _U32, _U32, *_SLICE, _OUT]),
     (calls.gco_swap_int32, [*_TABLES, _U32, _U32, *_SLICE, _OUT]),
+    (calls.gco_label_pairs, [*_PAIR_TABLES, _U32, _U32, *_SLICE, _OUT]),
+    (calls.gco_label_pairs_int32, [*_PAIR_TABLES, _U32, _U32, *_SLICE, _OUT]),
+    (calls.gco_expand_pairs, [*_PAIR_TABLES, _U32, *_SLICE, _OUT]),
+    (calls.gco_expand_pairs_int32, [*_PAIR_TABLES, _U32, *_SLICE, _OUT]),
+    (calls.gco_swap_pairs, [*_PAIR_TABLES, _U32, _U32, *_SLICE, _OUT]),
+    (calls.gco_swap_pairs_int32, [*_PAIR_TABLES, _U32, _U32, *_SLICE, _OUT]),
     (calls.gco_lower_bound, [*_TABLES, _U32, ctypes.c_uint64, *_SLICE, _OUT]),
     (calls.gco_minimise, [ctypes.c_int64, *_SLICE, *_SLICE, *_SLICE, *_SLICE, _OUT]),
 ]:

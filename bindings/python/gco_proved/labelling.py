@@ -78,16 +78,24 @@ class Problem:
         self.owners = [run.owner for run in runs]
         self.slices = [number for run in runs for number in (run.address, run.length)]
         self.slices += [self.pairs.address, self.pairs.length // 3]
+        if self.has_tables:
+            self._look_at_tables()
+            self.slices[2:2] = [self.pairs.length // 3]
+            self.slices += [None, 0]  # pair n has table n
         self._start(start)
         self.told = _library.Outcome()
 
     def _look(self, data, smooth, label_costs):
-        """Looks at the shapes: one smooth cost for each two labels, data costs by label."""
-        shape = _sides(smooth, "smooth", 5)
+        """Looks at the shapes: one smooth cost for each two labels, or for each pair and each two
+        labels, and data costs by label."""
+        self.smooth_shape = shape = _sides(smooth, "smooth", 5)
+        self.has_tables = len(shape) == 3
+        shape = shape[1:] if self.has_tables else shape
         self.label_count = math.isqrt(shape[0]) if len(shape) == 1 else shape[0]
         if shape not in ((self.label_count ** 2,), (self.label_count,) * 2):
             raise Refused(5, words="smooth: one cost for each two labels is wanted, as of shape"
-                          f" {(self.label_count,) * 2}, and not {shape}")
+                          f" {(self.label_count,) * 2}, and not {shape}"
+                          + (" of each pair" if self.has_tables else ""))
         if self.label_count == 0:
             raise Refused(3)
         shape = _sides(data, "data", 4)
@@ -101,6 +109,12 @@ class Problem:
         if costs not in ((0,), (wanted,)):
             raise Refused(7, words=f"label_costs: one cost for each of {wanted} labels is wanted,"
                           f" and the shape is {costs}")
+
+    def _look_at_tables(self):
+        count = self.pairs.length // 3
+        if self.smooth_shape[0] != count:
+            raise Refused(5, words=f"smooth: one table for each of {count} pairs is wanted, and the"
+                          f" shape is {self.smooth_shape}")
 
     def _start(self, start):
         self.sites = math.prod(self.shape)
@@ -152,8 +166,19 @@ class Problem:
             words = f"data: label {place % k} at {self.site(place // k)} costs" \
                 f" {self._at(0, place):,}: a data cost is from 0 to 10,000,000"
         elif status == 16:
-            words = f"smooth: labels {place // k} and {place % k} cost {self._at(1, place):,}: a" \
-                " smooth cost is from 0 to 10,000"
+            words = f"smooth: labels {place // k % k} and {place % k} cost" \
+                f" {self._at(1, place):,}: a smooth cost is from 0 to 10,000"
+            if self.has_tables:
+                first, second, _ = self.pair(place // k**2)
+                words = f"smooth: labels {place // k % k} and {place % k} cost the pair of sites" \
+                    f" {first} and {second} {self._at(1, place):,}: a cost of the very pair is" \
+                    " from 0 to 10,000,000"
+        elif status == 32:
+            first, second, weight = self.pair(place)
+            sites = (first, second)
+            most = max(self._at(1, place * k**2 + at) for at in range(k**2))
+            words = f"smooth: the pair of sites {first} and {second} costs up to {weight} times" \
+                f" {most:,}: a pair costs at most 10,000,000"
         elif status == 17:
             words = f"label_costs: label {place} costs {self._at(2, place):,}: a label cost is" \
                 " from 0 to 10,000,000"
@@ -163,6 +188,11 @@ class Problem:
         elif status == 8:
             words = f"the labels of a move are 0 to {k - 1}"
         return Refused(status, place, told.alpha, told.beta, words=words, sites=sites)
+
+    def call_of(self, name: str) -> Any:
+        """The call of the library that takes these arrays, of those whose names begin so."""
+        tables, width = "_pairs" if self.has_tables else "", "_int32" if self.narrow else ""
+        return getattr(calls, f"{name}{tables}{width}")
 
     def make(self, call: Any, *numbers: int) -> _library.Outcome:
         """One call of the library over these arrays, or a Refused."""
@@ -179,8 +209,7 @@ class Problem:
 
     def run_at_once(self, moves: str, cycles: int) -> None:
         """A run by one call of the library, or a Refused. Of no cycle it tells the energy."""
-        call = calls.gco_label_int32 if self.narrow else calls.gco_label
-        self.make(call, MOVES[moves], cycles)
+        self.make(self.call_of("gco_label"), MOVES[moves], cycles)
 
     def energy(self) -> int:
         return self.told.data + self.told.smooth + self.told.label
@@ -222,7 +251,9 @@ def label(data: Any, smooth: Any, pairs: Any, *, label_costs: Any = None,
     nothing or `cycles` are done.
 
     `data` is an array of shape (.., labels), each cost from 0 to 10,000,000. `smooth` is one of
-    shape (labels, labels), each cost from 0 to 10,000. `pairs` are (p, q, weight) or (p, q), the
+    shape (labels, labels), each cost from 0 to 10,000; or one of shape (pairs, labels, labels), a
+    table for each pair, by the label of its first site and that of its second: then what a pair
+    costs, with its weight, is from 0 to 10,000,000. `pairs` are (p, q, weight) or (p, q), the
     weight from 0 to 1,000, and 1 where it is left out. `label_costs` are one for each label from 0
     to 10,000,000, or none. Raises Refused, ValueError for a wrong shape, TypeError for numbers with
     a fraction, and OverflowError for numbers beyond their bits.
@@ -241,6 +272,9 @@ def label(data: Any, smooth: Any, pairs: Any, *, label_costs: Any = None,
     Scaled in place of a Found. Energies that `progress` is told are those of the whole numbers.
     """
     if scale:
+        if len(shape_of(taken(smooth, "smooth"), "smooth")) == 3:
+            raise ValueError("smooth: costs of each pair are whole numbers: scale and round them"
+                             " first, without scale=True")
         from .cuts import label_by_scale
         return label_by_scale(data, smooth, pairs, label_costs, moves=moves, cycles=cycles,
                               start=start, progress=progress, stoppable=stoppable)
@@ -278,16 +312,15 @@ def expand(data: Any, smooth: Any, pairs: Any, alpha: int, *, label_costs: Any =
            start: Any = None) -> Found:
     """One move: every site keeps its label or takes `alpha`. `settled`: nothing changed."""
     problem = Problem(data, smooth, pairs, label_costs, start, narrow=True)
-    call = calls.gco_expand_int32 if problem.narrow else calls.gco_expand
-    told = problem.make(call, whole(alpha, 0, 2**32 - 1, "alpha"))
+    told = problem.make(problem.call_of("gco_expand"), whole(alpha, 0, 2**32 - 1, "alpha"))
     return problem.found(0, not told.changed)
 
 
 def swap(data: Any, smooth: Any, pairs: Any, alpha: int, beta: int, *, start: Any = None) -> Found:
     """One move: every site that has `alpha` or `beta` takes either. `settled`: nothing changed."""
     problem = Problem(data, smooth, pairs, None, start, narrow=True)
-    call = calls.gco_swap_int32 if problem.narrow else calls.gco_swap
-    told = problem.make(call, whole(alpha, 0, 2**32 - 1, "alpha"), whole(beta, 0, 2**32 - 1, "beta"))
+    told = problem.make(problem.call_of("gco_swap"), whole(alpha, 0, 2**32 - 1, "alpha"),
+                        whole(beta, 0, 2**32 - 1, "beta"))
     return problem.found(0, not told.changed)
 
 

@@ -25,6 +25,9 @@ WORDS = {
     24: "the smooth costs are no metric: the term of pair {place} in the move of labels {alpha} and"
         " {beta} is not regular",
     27: "swaps, and some label costs more than 0 by itself: expansions take label costs",
+    30: "there is not one number of a table for each pair",
+    31: "the table of pair {place} is not there",
+    32: "the weight of pair {place} times one of its smooth costs is above 10,000,000",
 }
 
 

@@ -60,6 +60,36 @@ class _Stretches:
         return self.problem.found(cycle, False)
 
 
+class _Singles(_Stretches):
+    """The same by single moves, where each pair has a table. It ends as the whole run does: moves
+    that were made since a label changed last are left out."""
+
+    def __init__(self, problem: "Problem", moves: str, allowed: int) -> None:
+        super().__init__(problem, moves, allowed)
+        self.call = problem.call_of("gco_expand" if moves == "expansion" else "gco_swap")
+        self.number = self.still = 0  # how many moves are made, and how many since a label changed
+        self.ended = 0
+
+    def make(self, most: int) -> bool:
+        told, end = self.problem.told, self.allowed * self.count
+        if not end:
+            self.problem.run_at_once(self.moves, self.allowed)
+            return False
+        for _ in range(most):
+            change = move_at(self.problem.label_count, self.moves, self.number % self.count)
+            self.problem.make(self.call, *(change if isinstance(change, tuple) else (change,)))
+            self.number += 1
+            self.still = 0 if told.changed else self.still + 1
+            if self.still == self.count or self.number == end:
+                self.ended = -(-self.number // self.count)
+                told.cycles, told.settled = self.ended, int(self.still == self.count)
+                return False
+        return True
+
+    def moves_made(self) -> int:
+        return self.ended * self.count or self.number
+
+
 def run(problem: "Problem", moves: str, allowed: int, progress: Optional[Callable[..., Any]],
         each: bool = False) -> "Found":
     """The cycles of a run, by stretches of some 0.8 s, or move by move where `each` is
@@ -68,7 +98,8 @@ def run(problem: "Problem", moves: str, allowed: int, progress: Optional[Callabl
     A KeyboardInterrupt has what was found till then as `partial`, None before the first move, and
     as `moves_made` how many moves that are.
     """
-    stretches = _Stretches(problem, moves, allowed)
+    kind = _Singles if problem.has_tables else _Stretches
+    stretches = kind(problem, moves, allowed)
     most, goes_on = 1 if each else _moves_of(SECONDS_A_SITE * problem.sites), True
     try:
         while goes_on:

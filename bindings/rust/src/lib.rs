@@ -23,11 +23,13 @@ mod grids;
 mod refusal;
 mod scaling;
 mod stretches;
+mod tables;
 
 pub use grids::{grid_pairs, Neighbours};
 pub use refusal::Refusal;
 pub use scaling::{scale, Scaled, Unscalable};
 pub use stretches::Progress;
+pub use tables::TableProblem;
 
 /// Two sites, numbered from 0, and the weight of their term. A pair that stands twice counts twice.
 #[repr(C)]
@@ -45,7 +47,7 @@ pub enum Moves {
     Swap,
 }
 
-/// A problem of labels, over costs of 64 bits or, for `label` and `label_watched`, of 32.
+/// A problem of labels, over costs of 64 bits or, for all but `lower_bound`, of 32.
 #[derive(Clone, Copy, Debug)]
 pub struct Problem<'a, Cost = i64> {
     pub label_count: u32,
@@ -117,6 +119,9 @@ mod sealed {
         fn stretch() -> super::calls::Stretch<Self>;
         fn expand() -> super::calls::Expand<Self>;
         fn swap() -> super::calls::Swap<Self>;
+        fn label_pairs() -> super::calls::LabelPairs<Self>;
+        fn expand_pairs() -> super::calls::ExpandPairs<Self>;
+        fn swap_pairs() -> super::calls::SwapPairs<Self>;
     }
 }
 
@@ -135,6 +140,15 @@ impl sealed::Sealed for i64 {
     fn swap() -> calls::Swap<i64> {
         calls::gco_swap
     }
+    fn label_pairs() -> calls::LabelPairs<i64> {
+        calls::gco_label_pairs
+    }
+    fn expand_pairs() -> calls::ExpandPairs<i64> {
+        calls::gco_expand_pairs
+    }
+    fn swap_pairs() -> calls::SwapPairs<i64> {
+        calls::gco_swap_pairs
+    }
 }
 impl sealed::Sealed for i32 {
     fn call() -> calls::Label<i32> {
@@ -148,6 +162,15 @@ impl sealed::Sealed for i32 {
     }
     fn swap() -> calls::Swap<i32> {
         calls::gco_swap_int32
+    }
+    fn label_pairs() -> calls::LabelPairs<i32> {
+        calls::gco_label_pairs_int32
+    }
+    fn expand_pairs() -> calls::ExpandPairs<i32> {
+        calls::gco_expand_pairs_int32
+    }
+    fn swap_pairs() -> calls::SwapPairs<i32> {
+        calls::gco_swap_pairs_int32
     }
 }
 impl Cost for i64 {}

@@ -14,7 +14,7 @@ pub enum Refusal {
     LabelCount,
     /// There is not one data cost for each label at each site.
     DataCount,
-    /// There is not one smooth cost for each two labels.
+    /// There is not one smooth cost for each two labels, or there is a part of a table.
     SmoothCount,
     /// There is neither no label cost nor one for each label.
     LabelCostCount,
@@ -44,7 +44,7 @@ pub enum Refusal {
     DataRange {
         place: usize,
     },
-    /// A smooth cost is not from 0 to 10,000.
+    /// A smooth cost is not from 0 to 10,000, or an entry of a table not from 0 to 10,000,000.
     SmoothRange {
         place: usize,
     },
@@ -70,6 +70,16 @@ pub enum Refusal {
     },
     /// A swap, where a label costs more than 0 by itself.
     LabelCostInSwap,
+    /// There are numbers of tables, and not one for each pair.
+    TableOfCount,
+    /// The table of a pair is not there.
+    NoSuchTable {
+        pair: usize,
+    },
+    /// The weight of a pair times an entry of its table is above 10,000,000.
+    PairCostRange {
+        pair: usize,
+    },
     /// A status that this crate does not know.
     Unknown {
         status: u32,
@@ -122,6 +132,9 @@ impl Refusal {
             15 => Refusal::DataRange { place },
             16 => Refusal::SmoothRange { place },
             17 => Refusal::LabelCostRange { label: place },
+            30 => Refusal::TableOfCount,
+            31 => Refusal::NoSuchTable { pair: place },
+            32 => Refusal::PairCostRange { pair: place },
             _ => Refusal::Unknown { status },
         }
     }
@@ -136,7 +149,12 @@ impl fmt::Display for Refusal {
             Refusal::DataCount => {
                 write!(f, "there is not one data cost for each label at each site")
             }
-            Refusal::SmoothCount => write!(f, "there is not one smooth cost for each two labels"),
+            Refusal::SmoothCount => {
+                write!(
+                    f,
+                    "there is not one smooth cost for each two labels of each table"
+                )
+            }
             Refusal::LabelCostCount => write!(f, "there is not one label cost for each label"),
             Refusal::NoSuchMove => write!(f, "a label of the move is not there"),
             Refusal::TooLarge => write!(f, "the bound takes more bytes than are allowed"),
@@ -163,7 +181,10 @@ impl fmt::Display for Refusal {
                 write!(f, "data cost {place} is not from 0 to 10,000,000")
             }
             Refusal::SmoothRange { place } => {
-                write!(f, "smooth cost {place} is not from 0 to 10,000")
+                write!(
+                    f,
+                    "smooth cost {place} is not from 0 to 10,000, or to 10,000,000 in tables of pairs"
+                )
             }
             Refusal::LabelCostRange { label } => {
                 write!(f, "the cost of label {label} is not from 0 to 10,000,000")
@@ -195,6 +216,12 @@ impl fmt::Display for Refusal {
             Refusal::LabelCostInSwap => {
                 write!(f, "a swap, and a label costs more than 0 by itself")
             }
+            Refusal::TableOfCount => write!(f, "there is not one table's number for each pair"),
+            Refusal::NoSuchTable { pair } => write!(f, "the table of pair {pair} is not there"),
+            Refusal::PairCostRange { pair } => write!(
+                f,
+                "the weight of pair {pair} times an entry of its table is above 10,000,000"
+            ),
             Refusal::Unknown { status } => write!(f, "refused {status}"),
         }
     }

@@ -1,5 +1,6 @@
-//! 2,000 random problems of labels and 2,000 of yes-no variables, against the definitions.
-use gco::{minimise, Moves, One, Pair, Problem, Refusal, Three, Two};
+//! 2,000 random problems of labels, 2,000 whose pairs have tables and 2,000 of yes-no variables,
+//! against the definitions.
+use gco::{minimise, Moves, One, Pair, Problem, Refusal, TableProblem, Three, Two};
 
 /// xorshift, the same on each machine.
 struct Random(u64);
@@ -22,6 +23,8 @@ struct Definition {
     smooth: Vec<i64>,
     label_costs: Vec<i64>,
     pairs: Vec<Pair>,
+    /// If pairs have tables: the entries, and the number of each pair's table.
+    tables: Option<(Vec<i64>, Vec<usize>)>,
 }
 
 impl Definition {
@@ -65,11 +68,52 @@ impl Definition {
             smooth,
             label_costs: (0..costs).map(|_| random.from(0, 5)).collect(),
             pairs,
+            tables: None,
         }
     }
 
-    fn smooth(&self, pair: &Pair, a: u32, b: u32) -> i64 {
-        i64::from(pair.weight) * self.smooth[(a * self.labels + b) as usize]
+    /// The same with a table for each pair, or with a few of which each pair has one.
+    fn with_tables(random: &mut Random) -> Definition {
+        let mut definition = Definition::random(random);
+        let (k, count) = (i64::from(definition.labels), definition.pairs.len());
+        let few = random.below(2) == 0;
+        let tables = if few {
+            random.from(1, 3) as usize
+        } else {
+            count
+        };
+        let steep = random.below(3) == 0;
+        let mut entries = Vec::new();
+        for _ in 0..tables {
+            let far: Vec<i64> = (0..k).map(|_| random.from(0, 5)).collect();
+            for (a, b) in (0..k).flat_map(|a| (0..k).map(move |b| (a, b))) {
+                entries.push(match steep {
+                    true => random.from(0, 8),
+                    false => (far[a as usize] - far[b as usize]).abs() + i64::from(a != b),
+                });
+            }
+        }
+        let numbers = (0..count)
+            .map(|n| {
+                if few {
+                    random.below(tables as u64) as usize
+                } else {
+                    n
+                }
+            })
+            .collect();
+        definition.tables = Some((entries, numbers));
+        definition
+    }
+
+    fn smooth(&self, place: usize, a: u32, b: u32) -> i64 {
+        let k = self.labels as usize;
+        let at = a as usize * k + b as usize;
+        let entry = match &self.tables {
+            Some((entries, numbers)) => entries[numbers[place] * k * k + at],
+            None => self.smooth[at],
+        };
+        i64::from(self.pairs[place].weight) * entry
     }
 
     fn parts(&self, f: &[u32]) -> (i64, i64, i64) {
@@ -81,7 +125,8 @@ impl Definition {
         let smooth = self
             .pairs
             .iter()
-            .map(|p| self.smooth(p, f[p.first as usize], f[p.second as usize]))
+            .enumerate()
+            .map(|(n, p)| self.smooth(n, f[p.first as usize], f[p.second as usize]))
             .sum();
         let used = |l: &usize| f.contains(&(*l as u32));
         let label = (0..self.label_costs.len())
@@ -109,7 +154,7 @@ impl Definition {
         for (place, pair) in self.pairs.iter().enumerate() {
             let at = |x, y| {
                 self.smooth(
-                    pair,
+                    place,
                     with(f[pair.first as usize], x),
                     with(f[pair.second as usize], y),
                 )
@@ -234,6 +279,60 @@ fn labels() {
         answered > 1000 && irregular > 50 && costly > 100,
         "{answered} {irregular} {costly}"
     );
+}
+
+#[test]
+fn tables() {
+    let mut random = Random(88172645463325253);
+    let (mut answered, mut irregular) = (0, 0);
+    for _ in 0..2000 {
+        let definition = Definition::with_tables(&mut random);
+        let sites = definition.data.len() / definition.labels as usize;
+        let start: Vec<u32> = (0..sites)
+            .map(|_| random.below(definition.labels.into()) as u32)
+            .collect();
+        let moves = [Moves::Expansion, Moves::Swap][random.below(2) as usize];
+        let most = [0, 1, 2, 50][random.below(4) as usize];
+        let (entries, numbers) = definition.tables.as_ref().unwrap();
+        let mut table_of: Vec<u32> = numbers.iter().map(|number| *number as u32).collect();
+        if numbers.iter().enumerate().all(|(n, number)| n == *number) {
+            table_of.clear();
+        }
+        let problem = TableProblem {
+            label_count: definition.labels,
+            data: &definition.data,
+            tables: entries,
+            table_of: &table_of,
+            label_costs: &definition.label_costs,
+            pairs: &definition.pairs,
+        };
+        let mut labels = start.clone();
+        let told = problem.label(moves, Some(most), &mut labels);
+        match definition.run(moves, most, &start) {
+            Ok((f, cycles, settled)) => {
+                let told = told.unwrap();
+                assert_eq!((&labels, told.cycles, told.settled), (&f, cycles, settled));
+                assert_eq!((told.data, told.smooth, told.label), definition.parts(&f));
+                assert_eq!(told.bound, None);
+                answered += 1;
+            }
+            Err(refusal) => {
+                assert_eq!((told, &labels), (Err(refusal), &start));
+                irregular += usize::from(refusal != Refusal::LabelCostInSwap);
+            }
+        }
+        let a = random.below(definition.labels.into()) as u32;
+        let moved = definition.moved(&labels, a, a);
+        let told = problem.expand(a, &mut labels);
+        assert_eq!(told.is_ok(), moved.is_ok());
+        if let Ok(moved) = moved {
+            assert_eq!(
+                (&labels, told.unwrap().energy()),
+                (&moved, definition.energy(&moved))
+            );
+        }
+    }
+    assert!(answered > 1000 && irregular > 50, "{answered} {irregular}");
 }
 
 /// Whether the bound is the least energy of all labellings; it is never above that, nor below what

@@ -1,5 +1,5 @@
 //! Each refusal, and what it leaves.
-use gco::{minimise, Moves, One, Pair, Problem, Refusal, Three, Two};
+use gco::{minimise, Moves, One, Pair, Problem, Refusal, TableProblem, Three, Two};
 
 const DATA: [i64; 15] = [4, 6, 9, 7, 5, 6, 8, 4, 7, 9, 7, 3, 6, 8, 5];
 const SMOOTH: [i64; 9] = [0, 1, 1, 1, 0, 1, 1, 1, 0];
@@ -33,6 +33,58 @@ fn refused(problem: &Problem, start: &[u32]) -> Refusal {
     assert_eq!(problem.swap(0, 1, &mut labels).unwrap_err(), told);
     assert_eq!(labels, start);
     told
+}
+
+/// Each refusal of pairs that have tables.
+#[test]
+fn tables() {
+    let entries = [0, 2, 4, 0, 0, 9, 1, 0];
+    let problem = TableProblem {
+        label_count: 2,
+        data: &DATA[..6],
+        tables: &entries,
+        table_of: &[1, 0],
+        label_costs: &[],
+        pairs: &PAIRS,
+    };
+    let refused = |problem: TableProblem| {
+        let mut labels = [0; 3];
+        let told = problem
+            .label(Moves::Expansion, None, &mut labels)
+            .unwrap_err();
+        assert_eq!(problem.expand(1, &mut labels), Err(told));
+        assert_eq!(problem.swap(0, 1, &mut labels), Err(told));
+        assert_eq!(labels, [0; 3]);
+        told
+    };
+    let of = |tables| refused(TableProblem { tables, ..problem });
+    assert_eq!(of(&entries[..7]), Refusal::SmoothCount);
+    assert_eq!(of(&entries[..4]), Refusal::NoSuchTable { pair: 0 });
+    assert_eq!(
+        of(&[0, 2, 4, 0, 0, -1, 1, 0]),
+        Refusal::SmoothRange { place: 5 }
+    );
+    let table_of = |table_of| {
+        refused(TableProblem {
+            table_of,
+            ..problem
+        })
+    };
+    assert_eq!(table_of(&[1]), Refusal::TableOfCount);
+    assert_eq!(table_of(&[1, 2]), Refusal::NoSuchTable { pair: 1 });
+    assert_eq!(
+        of(&[0, 5_000_001, 4, 0, 0, 9, 1, 0]),
+        Refusal::PairCostRange { pair: 1 }
+    );
+    let none = TableProblem {
+        label_count: 0,
+        ..problem
+    };
+    assert_eq!(refused(none), Refusal::LabelCount);
+    assert_eq!(
+        Refusal::PairCostRange { pair: 1 }.to_string(),
+        "the weight of pair 1 times an entry of its table is above 10,000,000"
+    );
 }
 
 #[test]

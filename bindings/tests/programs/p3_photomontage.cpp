@@ -1,12 +1,21 @@
 // A montage of photographs: what a seam costs depends on both photographs at both sites, so it is
-// no weight times a table. gco says so in one sentence. A seam that costs by the sites alone is
-// such a product, and is taken.
+// no weight times a table. Each pixel is wanted from one photograph, and a seam is to run where the
+// photographs look alike.
+#include <vector>
 #include "GCoptimization.h"
 #include "wanted.h"
 
+const int WIDTH = 4, HEIGHT = 3, SITES = WIDTH * HEIGHT, PHOTOGRAPHS = 3;
+
 struct Stack {
-    int photographs[3][6];
+    int photographs[PHOTOGRAPHS][SITES];
+    int wanted[SITES];   // of which photograph a pixel is wanted, or -1
 };
+
+static int fit(int p, int l, void *extra) {
+    const Stack *stack = static_cast<Stack *>(extra);
+    return stack->wanted[p] < 0 || stack->wanted[p] == l ? 0 : 1000000;
+}
 
 static int seam(int p, int q, int a, int b, void *extra) {
     const Stack *stack = static_cast<Stack *>(extra);
@@ -15,38 +24,59 @@ static int seam(int p, int q, int a, int b, void *extra) {
            std::abs(stack->photographs[a][q] - stack->photographs[b][q]);
 }
 
-static int edge(int p, int q, int a, int b, void *extra) {
-    const Stack *stack = static_cast<Stack *>(extra);
-    return a == b ? 0 : 2 * (1 + std::abs(stack->photographs[0][p] - stack->photographs[0][q]));
+static long long cost(Stack &stack, const std::vector<int> &f) {
+    long long energy = 0;
+    for (int p = 0; p < SITES; p++) {
+        const int a = f[static_cast<std::size_t>(p)];
+        energy += fit(p, a, &stack);
+        if (p % WIDTH + 1 < WIDTH)
+            energy += seam(p, p + 1, a, f[static_cast<std::size_t>(p + 1)], &stack);
+        if (p + WIDTH < SITES)
+            energy += seam(p, p + WIDTH, a, f[static_cast<std::size_t>(p + WIDTH)], &stack);
+    }
+    return energy;
+}
+
+static std::vector<int> labels_of(const GCoptimization &gc) {
+    std::vector<int> labels;
+    for (int p = 0; p < SITES; p++) labels.push_back(gc.whatLabel(p));
+    return labels;
+}
+
+// the least energy that an expansion reaches, by trying all 2^12
+static long long best_expansion(Stack &stack, const std::vector<int> &from, int label) {
+    long long least = cost(stack, from);
+    for (int bits = 1; bits < 1 << SITES; bits++) {
+        std::vector<int> f = from;
+        for (int p = 0; p < SITES; p++)
+            if (bits >> p & 1) f[static_cast<std::size_t>(p)] = label;
+        least = std::min(least, cost(stack, f));
+    }
+    return least;
 }
 
 int main() {
-    Stack stack = {{{10, 20, 30, 40, 50, 60}, {12, 20, 35, 40, 50, 61}, {90, 80, 70, 60, 50, 40}}};
-    GCoptimizationGridGraph gc(3, 2, 3);
-    for (int s = 0; s < 6; s++)
-        for (int l = 0; l < 3; l++) gc.setDataCost(s, l, l == s % 3 ? 0 : 30);
+    Stack stack = {{{10, 20, 30, 40, 50, 60, 70, 80, 15, 25, 35, 45},
+                    {12, 20, 35, 40, 50, 61, 70, 90, 15, 20, 35, 44},
+                    {90, 80, 31, 41, 50, 40, 71, 80, 15, 25, 36, 99}},
+                   {0, -1, -1, 1, -1, -1, -1, -1, 2, -1, -1, 0}};
+    GCoptimizationGridGraph gc(WIDTH, HEIGHT, PHOTOGRAPHS);
+    gc.setDataCost(fit, &stack);
     gc.setSmoothCost(seam, &stack);
-    WANT(throws<GCException>(
-        "the smooth costs of sites 3 and 0 are not in proportion to those of sites 1 and 0: gco "
-        "takes smooth costs "
-        "that are a weight of the two sites times one table of the labels. If the product is "
-        "rounded, round the weight first: (int)(lambda * exp(-d * d / s)) * min(abs(a - b), T)",
-        [&] { gc.expansion(); }, message_of<GCException>));
-    for (int s = 0; s < 6; s++) WANT(gc.whatLabel(s) == 0);   // a refusal leaves the labels
-    gc.setSmoothCost(edge, &stack);
-    // the least energy, by trying all 3^6 labellings
-    const int pairs[][2] = {{0, 1}, {1, 2}, {3, 4}, {4, 5}, {0, 3}, {1, 4}, {2, 5}};
-    long long least = -1;
-    for (int code = 0; code < 729; code++) {
-        int f[6];
-        long long energy = 0;
-        for (int s = 0, rest = code; s < 6; s++, rest /= 3) f[s] = rest % 3;
-        for (int s = 0; s < 6; s++) energy += f[s] == s % 3 ? 0 : 30;
-        for (const int *pair : pairs)
-            energy += edge(pair[0], pair[1], f[pair[0]], f[pair[1]], &stack);
-        if (least < 0 || energy < least) least = energy;
-    }
-    WANT(gc.expansion() == least);
-    std::printf("p3: a seam of the sites, least energy %lld\n", least);
+    std::vector<int> labels(SITES, 0);
+    // each expansion goes to the best labelling that it reaches
+    for (int round = 0; round < 3; round++)
+        for (int label = 0; label < PHOTOGRAPHS; label++) {
+            const long long due = best_expansion(stack, labels, label);
+            gc.alpha_expansion(label);
+            labels = labels_of(gc);
+            WANT(cost(stack, labels) == due && gc.compute_energy() == due);
+        }
+    for (int p = 0; p < SITES; p++) WANT(stack.wanted[p] < 0 || gc.whatLabel(p) == stack.wanted[p]);
+    const long long single = gc.compute_energy();
+    for (int p = 0; p < SITES; p++) gc.setLabel(p, 0);
+    WANT(gc.expansion() == single && labels_of(gc) == labels && gc.giveDataEnergy() == 0);
+    WANT(gc.swap() <= single && gc.lowerBound() == 0);
+    std::printf("p3: a montage of three photographs, seams of %lld\n", single);
     return 0;
 }
