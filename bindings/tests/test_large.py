@@ -9,6 +9,7 @@ import signal
 import subprocess
 import sys
 import tempfile
+import unittest.mock
 
 try:
     import numpy as np
@@ -17,6 +18,7 @@ except ImportError:
     print("python -m gco by tiles: numpy or Pillow is missing, not tried (Debian: apt-get install python3-numpy python3-pil)")
     sys.exit(0)
 from gco_proved.__main__ import main
+from gco_proved.tiles import WorkerDied
 
 SHAPE = (1000, 1100)
 
@@ -135,23 +137,100 @@ def segmented(folder):
     assert (np.ptp(moved, axis=2)[inside] <= 1).all()
 
 
+def chroma_restored(folder):
+    """--chroma takes the noise out of the colours too, which stay near where they were without it."""
+    rng = np.random.default_rng(4)
+    rows, columns = np.ogrid[:SHAPE[0], :SHAPE[1]]
+    blocks = ((rows // 90 + columns // 110) % 2).astype(bool)[..., None]
+    clean = np.where(blocks, (170, 110, 90), (90, 130, 160))
+    noisy = clean + rng.integers(-40, 41, clean.shape)
+    Image.fromarray(noisy.astype(np.uint8)).save(folder / "blocks.png")
+    said(0, "Cb energy", "Cr energy", "its colours are restored by --chroma", "by tiles",
+         of=("restore", folder / "blocks.png", folder / "blocks out.png", "--levels", 16, "--trunc", 4, "--weight", 2, "--chroma", 3))
+    restored = np.asarray(Image.open(folder / "blocks out.png")).astype(int)
+    for first, second in ((0, 1), (2, 1)):  # red less green and blue less green do not change with the luminance
+        wrong, before = (abs((table[..., first] - table[..., second]) - (clean[..., first] - clean[..., second])).mean() for table in (restored, noisy))
+        assert wrong < before / 2, (wrong, before)
+
+
+def banded(folder):
+    """Stripes so fine that the band along their borders is the whole picture, and no one problem: it goes by tiles, and Ctrl-C tells what was found."""
+    rows, columns = np.ogrid[:SHAPE[0], :SHAPE[1]]
+    stripes = (columns // 6 + rows * 0) % 2
+    rng = np.random.default_rng(5)
+    grey = (np.where(stripes, 180, 70) + rng.integers(-20, 21, SHAPE)).astype(np.uint8)
+    Image.fromarray(grey).save(folder / "stripes.png")
+    strokes = np.zeros((*SHAPE, 3), dtype=np.uint8)
+    strokes[100:900, 3] = (255, 0, 0)
+    strokes[100:900, 9] = (0, 0, 255)
+    Image.fromarray(strokes).save(folder / "stripes strokes.png")
+    words = ["segment", folder / "stripes.png", folder / "stripes strokes.png", folder / "stripes out.png", "--like", "greys", "--low", 70, "--high", 180, "--jobs", 2, "--progress"]
+    told = said(0, "by tiles", "low 70 high 180", of=words)
+    tiles = {int(count) for count in re.findall(r"sweep 1\D.*?/(\d+) \[", told)}
+    assert tiles == {20}, (tiles, told)
+    labels = np.asarray(Image.open(folder / "stripes out.png")) // 255
+    assert (labels == stripes).all()
+    drawn = np.where(strokes[..., 0] > 0, 1, np.where(strokes[..., 2] > 0, 2, 0))
+    data = int(np.where(drawn, 0, abs(grey.astype(int) - np.where(labels, 180, 70))).sum())
+    smooth = sum(int((np.where(abs(grey[one].astype(int) - grey[other]) <= 5, 20, 5) * (labels[one] != labels[other])).sum())
+                 for one, other in ((np.s_[:, 1:], np.s_[:, :-1]), (np.s_[1:], np.s_[:-1])))
+    assert told.endswith(line_of(data, smooth)), (told, data, smooth)
+    told = at_word("sweep 1", lambda run: run.send_signal(signal.SIGINT), 130, *words, "--tile", 40)
+    assert " tiles: " in told and "is what was found till then" in told, told
+    # Ctrl-C over the first of the two bands leaves the segments of the smallest picture
+    from gco_proved.pictures import large
+    runs = iter([KeyboardInterrupt, large.label_tiles])
+
+    def one_stopped(*words, **more):
+        run = next(runs)
+        if run is KeyboardInterrupt:
+            raise run
+        return run(*words, **more)
+
+    with unittest.mock.patch.object(large, "label_tiles", one_stopped):
+        said(130, "stopped after one of two runs over the picture made smaller: ", "is what was found till then", of=words)
+    assert Image.open(folder / "stripes out.png").size == SHAPE[::-1]
+
+
+def one_killed(folder):
+    """A process that dies is replaced: the picture is that of the undisturbed run. Where each dies, a sentence says so."""
+    def kill(run):
+        children = pathlib.Path(f"/proc/{run.pid}/task/{run.pid}/children").read_text().split()
+        assert len(children) == 2, children
+        os.kill(int(children[0]), signal.SIGKILL)
+
+    words = ["restore", folder / "noisy.pgm", folder / "killed.png", "--levels", 4, "--smooth", "potts", "--weight", 1, "--no-scale", "--jobs", 2]
+    if os.path.exists("/proc/self/task"):
+        at_word("sweep 1", kill, 0, *words, "--progress")
+        assert (folder / "killed.png").read_bytes() == (folder / "restored1-256.png").read_bytes()
+    with unittest.mock.patch("gco_proved.pictures.large.label_tiles", side_effect=WorkerDied("a worker died 3 times over the tile of place (0, 0)")):
+        told = said(1, "a worker died 3 times over the tile of place (0, 0), mostly for want of memory: take fewer --jobs", of=words)
+    assert "Traceback" not in told
+
+
+def at_word(seen, act, status, *words):
+    """A command as a process, which is acted on once it says a word, and ends in that status: what it said."""
+    script = "import sys; from gco_proved.__main__ import main; sys.exit(main(sys.argv[1:]))"
+    run = subprocess.Popen([sys.executable, "-c", script, *map(str, words)], stderr=subprocess.PIPE, text=True, env=os.environ)
+    told = ""
+    while seen not in told:
+        told += run.stderr.read(1)
+        assert run.poll() is None, told
+    act(run)
+    told += run.communicate(timeout=240)[1]
+    assert run.returncode == status, (run.returncode, told)
+    return told
+
+
 def stopped(folder):
     """Ctrl-C while tiles are run, over the picture made smaller before them, and over the bound after them: what was found is written."""
-    script = "import sys; from gco_proved.__main__ import main; sys.exit(main(sys.argv[1:]))"
     noisy, texture = (folder / "noisy.pgm", "--levels", "4", "--weight", "3"), (folder / "left.png", "--levels", "64", "--weight", "9")
     for (name, *options), seen, said_then in ((noisy, "sweep 1", " tiles: "), (texture, "cycle 1", " moves over the picture made smaller: "),
                                               ((*noisy, "--cycles", "1", "--gap"), "bound", " the sweeps and before the bound: ")):
         out = folder / "stopped.png"
         out.unlink(missing_ok=True)
-        words = ["restore", name, out, *options, "--tile", "40", "--progress", "--jobs", "2"]
-        run = subprocess.Popen([sys.executable, "-c", script, *map(str, words)], stderr=subprocess.PIPE, text=True, env=os.environ)
-        told = ""
-        while seen not in told:
-            told += run.stderr.read(1)
-            assert run.poll() is None, told
-        run.send_signal(signal.SIGINT)
-        told += run.communicate(timeout=120)[1]
-        assert run.returncode == 130 and said_then in told and "is what was found till then" in told, (run.returncode, told)
+        told = at_word(seen, lambda run: run.send_signal(signal.SIGINT), 130, "restore", name, out, *options, "--tile", "40", "--progress", "--jobs", "2")
+        assert said_then in told and "is what was found till then" in told, told
         assert Image.open(out).size == SHAPE[::-1]
 
 
@@ -160,7 +239,10 @@ try:
     restored(made)
     matched(made)
     segmented(made)
+    chroma_restored(made)
+    banded(made)
+    one_killed(made)
     stopped(made)
-    print("python -m gco by tiles: restored, matched, segmented, stopped")
+    print("python -m gco by tiles: restored, matched, segmented, in a wide band, with a killed process, stopped")
 finally:
     shutil.rmtree(made)

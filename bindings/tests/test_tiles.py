@@ -23,7 +23,7 @@ np = gco.arrays.numpy
 if np is None:
     print("gco_proved.tiles: numpy is missing, not tried (Debian: apt-get install python3-numpy)")
     sys.exit(0)
-from gco_proved.tiles import label_tiles, lower_bound_tiles  # noqa: E402
+from gco_proved.tiles import WorkerDied, boxes, label_tiles, lower_bound_tiles, sweeps as of_tiles  # noqa: E402
 
 STEPS = {(2, 4): [(0, 1), (1, 0)], (2, 8): [(0, 1), (1, 0), (1, 1), (1, -1)], (3, 6): [(0, 0, 1), (0, 1, 0), (1, 0, 0)],
          (3, 26): [step for step in itertools.product((-1, 0, 1), repeat=3) if step > (0, 0, 0)]}
@@ -55,18 +55,30 @@ def tiles_of(shape, tile, overlap):
             yield [sum(at * int(np.prod(shape[axis + 1:])) for axis, at in enumerate(place)) for place in itertools.product(*ranges)]
 
 
-def lowers(problem, moves, labels, free):
-    """Whether a move of the free sites alone reaches a labelling of less energy, all of them tried."""
-    count = problem.labels
-    order = [(a,) for a in range(count)] if moves == "expansion" else list(itertools.combinations(range(count), 2))
-    for move in order:
+def lowered(problem, moves, labels, free):
+    """A labelling of less energy that a move of the free sites alone reaches, all of them tried; None where there is none."""
+    before = problem.energy(labels)
+    for move in problem.order(moves):
         for bits in itertools.product((0, 1), repeat=len(free)):
             moved = list(labels)
             for site, bit in zip(free, bits):
                 moved[site] = problem.label_in(move, labels[site], bit)
-            if problem.energy(moved) < problem.energy(labels):
-                return True
-    return False
+            if problem.energy(moved) < before:
+                return moved
+    return None
+
+
+def lowers(problem, moves, labels, free):
+    return lowered(problem, moves, labels, free) is not None
+
+
+def at_rest(problem, moves, labels, tiles):
+    """Where a descent ends that moves one tile at a time, by the definitions: no move over any of the tiles lowers the energy."""
+    at = 0
+    while at < len(tiles):
+        moved = lowered(problem, moves, labels, tiles[at])
+        labels, at = (labels, at + 1) if moved is None else (moved, 0)
+    return labels
 
 
 def costs_of(rng, shape, steps, count):
@@ -126,6 +138,30 @@ def random_grids(turns):
     return f"{turns} random grids, {fixed} tiles against every labelling"
 
 
+def fixed_points(turns):
+    """What no run over one tile changes, by the definitions, the run leaves as it is: its labels and its energy, in no sweep that lowers it."""
+    rng = random.Random(76)
+    three = moved = 0
+    for _ in range(turns):
+        dimensions = rng.choice([2, 3])
+        shape = tuple(rng.randrange(1, 5 if dimensions == 2 else 3) for _ in range(dimensions))
+        tile = tuple(rng.randrange(1, min(most, 2) + 1) for most in shape)
+        connect = rng.choice([2 * dimensions, 8 if dimensions == 2 else 26])
+        moves, count = rng.choice(["expansion", "swap"]), rng.randrange(2, 4)
+        data, smooth, weights = costs_of(rng, shape, STEPS[dimensions, connect], count)
+        pairs = pairs_of(shape, STEPS[dimensions, connect], [weights] * len(STEPS[dimensions, connect]) if isinstance(weights, int) else weights)
+        problem = Problem(data.reshape(-1, count).tolist(), smooth.tolist(), pairs, [])
+        begun = [rng.randrange(count) for _ in range(problem.sites)]
+        rest = at_rest(problem, moves, begun, list(tiles_of(shape, tile, 0)))
+        start = np.array(rest).reshape(shape)
+        found = label_tiles(data, smooth, weights, tile=tile, connect=connect, moves=moves, start=start)
+        assert found.settled and (found.labels == start).all() and set(found.energies) == {problem.energy(rest)}, (shape, tile, connect)
+        three += dimensions == 3
+        moved += rest != begun
+    assert three > turns // 4 and moved > turns // 2, (three, moved)
+    return f"{turns} fixed points"
+
+
 def pictures_of(side, count, seed=3):
     """A picture of squares with noise as data costs."""
     rng = np.random.default_rng(seed)
@@ -159,7 +195,8 @@ def near_the_whole():
         found = label_tiles(data, smooth, tile=tile)
         assert found.settled and found.energy <= 1.001 * whole.energy, (tile, found.energies, whole.energy)
         assert found.energy == gco.label(data, smooth, gco.grid_pairs(150, 150), start=found.labels, cycles=0).energy
-    # a start by hand: the cheapest label of each site, the first of several
+    # a start by hand: the cheapest label of each site, the first of several; sides as numbers of numpy
+    assert (label_tiles(data, smooth, tile=np.array([40, 25])).labels == found.labels).all() and label_tiles(data, smooth, tile=np.int64(64), sweeps=1).labels.any()
     found = label_tiles(data, smooth, sweeps=0)
     assert (found.labels == data.argmin(axis=-1)).all() and not found.settled and found.energies == [found.energy]
     # one cycle a tile and two sweeps: what is left is due
@@ -169,6 +206,20 @@ def near_the_whole():
     early = label_tiles(data, smooth, tile=40, least_gain=0.1)
     gains = [1 - later / before for before, later in zip(early.energies, early.energies[1:])]
     assert gains[-1] < 0.1 and all(gain >= 0.1 for gain in gains[:-1]) and not early.settled
+
+
+def near_the_whole_volume():
+    """Against one problem of a volume, in tiles that cut each axis, and by the energy of one call."""
+    rng = np.random.default_rng(8)
+    clean = (np.indices((24, 40, 32)) // 8).sum(axis=0) % 3
+    grey = np.where(rng.random(clean.shape) < 0.3, rng.integers(0, 3, clean.shape), clean)
+    data = 4 * abs(grey[..., None] - np.arange(3)).astype(np.int32)
+    pairs = np.array(pairs_of(clean.shape, STEPS[3, 6], [2, 2, 2]))
+    whole = gco.label(data, gco.potts(3), pairs)
+    for tile in ((9, 16, 16), (24, 10, 32)):
+        found = label_tiles(data, gco.potts(3), 2, tile=tile)
+        assert found.settled and found.energy <= 1.001 * whole.energy, (found.energies, whole.energy)
+        assert found.energy == gco.label(data, gco.potts(3), pairs, start=found.labels, cycles=0).energy
 
 
 def kinds_of_costs(folder):
@@ -290,6 +341,18 @@ def dead_over_large_tasks(folder):
     assert marker.exists() and found.energies == whole.energies and (found.labels == whole.labels).all()
 
 
+def named(side):
+    """What the processes of an executor call first."""
+    os.environ["GCO_TEST_SIDE"] = side
+
+
+def named_and_dies_once(marker, box):
+    """The costs of a box, in processes that were begun by `named` alone; one of them dies, of either engine."""
+    if multiprocessing.parent_process() is not None:
+        assert os.environ["GCO_TEST_SIDE"] == "60"
+    return dies_once(marker, box)
+
+
 def always_dies(box):
     if multiprocessing.parent_process() is not None:
         os.kill(os.getpid(), signal.SIGKILL)
@@ -299,8 +362,8 @@ def always_dies(box):
 def engines(folder):
     found = wanted()
 
-    def alike(name, executor, data=DATA, **more):
-        other = label_tiles(data, SMOOTH, WEIGHTS, tile=TILE, executor=executor, **more)
+    def alike(name, executor, data=DATA, weights=WEIGHTS, **more):
+        other = label_tiles(data, SMOOTH, weights, tile=TILE, executor=executor, **more)
         assert other.energies == found.energies and other.labels.tobytes() == found.labels.tobytes(), name
 
     with concurrent.futures.ThreadPoolExecutor(3) as pool:
@@ -312,8 +375,18 @@ def engines(folder):
     # a worker that dies: its own processes are made anew
     alike("a dead worker", 2, functools.partial(dies_once, str(folder / "died")), shape=(60, 60))
     assert (folder / "died").exists()
-    refused(RuntimeError, label_tiles, always_dies, SMOOTH, WEIGHTS, tile=60, shape=(60, 60), executor=2, says="a worker died 3 times")
+    refused(WorkerDied, label_tiles, always_dies, SMOOTH, WEIGHTS, tile=60, shape=(60, 60), executor=2, says="a worker died 3 times")
     dead_over_large_tasks(folder)
+    # and those of an executor that is given, of processes that are begun as its own were
+    for context, begun in itertools.product(("fork", "spawn"), ("once", "always")):
+        marker = folder / f"died of {context}, {begun}"
+        words = dict(mp_context=multiprocessing.get_context(context), initializer=named, initargs=("60",))
+        with concurrent.futures.ProcessPoolExecutor(2, **words) as pool:
+            if begun == "once":
+                alike(marker.name, pool, functools.partial(named_and_dies_once, str(marker)), shape=(60, 60))
+                assert marker.exists()
+            else:
+                refused(WorkerDied, label_tiles, always_dies, SMOOTH, WEIGHTS, tile=60, shape=(60, 60), executor=pool, says="a worker died 3 times")
     refused(TypeError, label_tiles, DATA, SMOOTH, executor="four", says="executor: None, a number of processes")
     try:
         import distributed
@@ -328,7 +401,22 @@ def engines(folder):
         alike("Dask, a dead worker", client, functools.partial(dies_once, str(folder / "died on Dask")), shape=(60, 60))
         assert (folder / "died on Dask").exists()
         import dask.array
-        alike("Dask over dask.array", client, dask.array.from_array(DATA, chunks=(20, 30, 6)).persist())
+        data, *weights = (dask.array.from_array(table, chunks=chunks) for table, chunks in ((DATA, (20, 30, 6)), (WEIGHTS[0], (20, 30)), (WEIGHTS[1], (30, 20))))
+        for kept in ("graphs", "blocks on the cluster"):
+            if kept != "graphs":
+                data, *weights = client.persist([data, *weights])
+            alike(f"Dask over dask.array, {kept}", client, data)
+            alike(f"Dask over dask.array, weights too, {kept}", client, data, weights)
+            low = lower_bound_tiles(data, SMOOTH, weights, tile=TILE, executor=client)
+            assert low == lower_bound_tiles(DATA, SMOOTH, WEIGHTS, tile=TILE), kept
+        # a volume, whose start and free sites lie on the cluster too
+        rng = np.random.default_rng(9)
+        costs, start, free = rng.integers(0, 9, (8, 9, 7, 3)), rng.integers(0, 3, (8, 9, 7)), rng.random((8, 9, 7)) < 0.6
+        words = dict(connect=26, tile=(4, 5, 4), weights=2, smooth=gco.potts(3))
+        alone = label_tiles(costs, start=start, free=free, **words)
+        costs, start, free = client.persist([dask.array.from_array(table, chunks=(5, 4, 6, 3)[:table.ndim]) for table in (costs, start, free)])
+        other = label_tiles(costs, start=start, free=free, executor=client, **words)
+        assert other.energies == alone.energies and other.labels.tobytes() == alone.labels.tobytes()
     return "engines: threads, processes, Dask, and each with a dead worker"
 
 
@@ -449,6 +537,58 @@ def free_sites():
     assert kept.settled and not kept.labels.any() and len(kept.energies) == 1
 
 
+def free_in_a_wide_box():
+    """Free sites that lie far apart go by tiles: no box is read that holds them all."""
+    asked = []
+
+    def costs(box):
+        asked.append(max(part.stop - part.start for part in box))
+        return DATA[box]
+
+    free = np.zeros((60, 60), bool)
+    free[:5, :5] = free[-5:, -5:] = True
+    words = dict(shape=(60, 60), start=np.zeros((60, 60), int), free=free)
+    usual, wide = boxes.USUAL, of_tiles.WIDE
+    boxes.USUAL = {2: (20, 20)}
+    try:
+        together = label_tiles(costs, SMOOTH, WEIGHTS, **words)
+        assert max(asked) == 60
+        asked.clear()
+        of_tiles.WIDE = 60 * 60 - 1
+        apart = label_tiles(costs, SMOOTH, WEIGHTS, **words)
+        assert max(asked) == 20 and (apart.labels == together.labels).all() and apart.settled
+    finally:
+        boxes.USUAL, of_tiles.WIDE = usual, wide
+
+
+def in_little_memory(folder):
+    """A run over costs and labels on the disk takes the memory of its tiles, and each array of the whole would take more than is there."""
+    if not os.path.exists("/proc/self/statm"):
+        return
+    side = 1500
+    made = np.lib.format.open_memmap(folder / "large.npy", "w+", np.int64, (side, side, 2))
+    made[...] = abs((np.add.outer(np.arange(side) // 50, np.arange(side) // 70) % 2)[..., None] - np.arange(2))
+    del made
+    np.lib.format.open_memmap(folder / "large labels.npy", "w+", np.int64, (side, side))
+    told = subprocess.run([sys.executable, __file__, "--in-little-memory", folder], stdout=subprocess.PIPE, text=True, timeout=300, check=True)
+    assert told.stdout == "tiles ran, the whole has no room\n", told.stdout
+
+
+def run_in_little_memory(folder):
+    """A run that may take 12 MiB more than the process has, where the labels of the whole take 18 MB and its costs 36 MB."""
+    import resource
+    costs, labels = np.load(f"{folder}/large.npy", mmap_mode="r"), np.load(f"{folder}/large labels.npy", mmap_mode="r+")
+    label_tiles(DATA, SMOOTH, tile=TILE, sweeps=1)  # what is loaded or begun once
+    taken = int(pathlib.Path("/proc/self/statm").read_text().split()[5]) * resource.getpagesize()
+    resource.setrlimit(resource.RLIMIT_DATA, (taken + (12 << 20),) * 2)
+    found = label_tiles(costs, gco.potts(2), out=labels, tile=64, sweeps=2)
+    assert found.settled and len(found.energies) == 3, found
+    try:
+        np.array(labels)
+    except MemoryError:
+        print("tiles ran, the whole has no room")
+
+
 def bounds():
     """The parts of the tiles add up to each labelling's energy, and no labelling is below the bound."""
     from gco_proved.tiles import bound
@@ -504,6 +644,8 @@ def mistakes():
     wrong(ValueError, says="4,194,304 sites, and at most 1,048,576", of=lambda box: 0, shape=(5000, 5000), tile=2048)
     wrong(ValueError, says="overlap: 8 is half of a tile's side or more", tile=16, overlap=8)
     wrong(ValueError, says="overlap: a whole number from 0 on", overlap=-1)
+    wrong(ValueError, says="tile: 2 sides of at least 1 are wanted, and not 2.5", tile=2.5)
+    wrong(ValueError, says="tile: one of 64 x 64 x 64 with an overlap of 30 has 1,906,624 sites", of=lambda box: 0, shape=(500, 500, 500), overlap=30)
     wrong(ValueError, says="moves: expansion or swap", moves="jump")
     wrong(OverflowError, 1001, says="weights: 1001 is not from 0 to 1000")
     wrong(ValueError, [1], says="one array for each of the 2 offsets")
@@ -533,6 +675,10 @@ def mistakes():
     start = np.array([[0, 0, 0, 0, 0, 2]])
     text = refused(gco.Refused, label_tiles, data, steep, 1, tile=(1, 6), start=start, status=24)
     assert "an expansion of label 1 cannot take the pair of the sites (0, 4) and (0, 5)" in text, text
+    # what stands for the labels around a tile, where data costs are the greatest, has to fit beside its sites
+    words = dict(shape=(1024, 1025), tile=1024, start=np.ones((1024, 1025), np.uint8))
+    wrong(gco.Refused, says=("1,024 sites stand for those around a tile, beside its own 1,048,576", "take a smaller tile"), status=2,
+          of=lambda box: np.broadcast_to([10**7, 0], (*(part.stop - part.start for part in box), 2)), smooth=gco.potts(2), **words)
     # and by processes a refusal comes as it is
     wrong(gco.Refused, says="data: label 4 at (50, 3)", of=costly, status=15, tile=TILE, executor=2)
 
@@ -550,14 +696,20 @@ def threads_side_by_side():
 
 if "--run-and-die" in sys.argv:
     run_and_die(sys.argv[2])
+if "--in-little-memory" in sys.argv:
+    run_in_little_memory(sys.argv[2])
+    sys.exit(0)
 if __name__ == "__main__":
     made = pathlib.Path(tempfile.mkdtemp())
     try:
-        said = [random_grids(400), kinds_of_costs(made), volumes(made), engines(made)]
+        said = [random_grids(400), fixed_points(300), kinds_of_costs(made), volumes(made), engines(made)]
         near_the_whole()
+        near_the_whole_volume()
         stops(made)
         stops_soon()
         free_sites()
+        free_in_a_wide_box()
+        in_little_memory(made)
         bounds()
         mistakes()
         threads_side_by_side()

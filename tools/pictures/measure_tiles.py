@@ -9,8 +9,10 @@ whole       a photograph with noise of 1,000 x 1,000 pixels, by one call of gco.
 photograph  one of 12,000,000 pixels by python3 -m gco: segment along strokes, and restore of 32
             levels
 volume      10^8 sites of four labels from a memory map, in turn and by processes
+band        segments of 1,600 x 1,200 pixels, in bands of several widths: how many pixels are free,
+            and the energy. These do not hang on the machine
 
-Without a PART it does all three. Each line is of one run. Memory is the greatest sum over the
+Without a PART it does all four. Each line is of one run. Memory is the greatest sum over the
 processes of a run, where a page that some of them share counts once. Files are made in a folder of
 their own, in --folder if that is given; those of the volume are 500 MB. With --short all sides are
 an eighth, and the photograph has 1.2 million pixels: so it is seen that all of it runs.
@@ -28,12 +30,14 @@ import numpy as np
 from PIL import Image, ImageOps
 
 import gco_proved as gco
+from gco_proved.pictures import commands, large
+from gco_proved.pictures.options import command_line
 from gco_proved.tiles import label_tiles
 
 EXAMPLES = pathlib.Path(__file__).resolve().parents[2] / "examples"
 CASES = [(4, "potts", 1), (4, "potts", 4), (16, "linear", 1), (32, "linear", 1)]
 GAIN = 0.001  # as python3 -m gco has it
-PICTURE, SHORT_PICTURE = (3000, 4000), (1000, 1200)
+PICTURE, SHORT_PICTURE, BANDED = (3000, 4000), (1000, 1200), (1200, 1600)
 
 
 def side_of(whole, short):
@@ -128,12 +132,17 @@ def whole(jobs, _, short):
               f" {above(settled)} |", flush=True)
 
 
-def large_photograph(jobs, folder, short):
-    sides = SHORT_PICTURE if short else PICTURE
+def stroked(folder, sides):
+    """A photograph in colour, and strokes on it."""
     clean = enlarged("camera.jpg", sides, Image.BICUBIC)
     ImageOps.colorize(clean, "navy", "white", "peru").save(folder / "clean.jpg", quality=95)
-    Image.fromarray(photograph(sides)).save(folder / "noisy.jpg", quality=95)
     enlarged("painted.png", sides, Image.NEAREST).save(folder / "painted.png")
+
+
+def large_photograph(jobs, folder, short):
+    sides = SHORT_PICTURE if short else PICTURE
+    stroked(folder, sides)
+    Image.fromarray(photograph(sides)).save(folder / "noisy.jpg", quality=95)
     print("| python3 -m gco | By the clock | Processor | Memory | Energy |")
     print("|---|---|---|---|---|")
     for words in ("segment clean.jpg painted.png out.png",
@@ -182,12 +191,53 @@ def made_volume(path, side):
     costs.flush()
 
 
-PARTS = {"whole": whole, "photograph": large_photograph, "volume": volume}
+def banded(jobs, folder, short):
+    stroked(folder, SHORT_PICTURE if short else BANDED)
+    print("| Band | Free pixels, smooth by `edges` | Free pixels, energy by `colours` |")
+    print("|---|---|---|")
+    ended = {}
+    for large.BAND in (2, 4, 8, 16, 32):
+        cells = []
+        for like in ("edges", "colours"):
+            told, free, task = segmented(folder, like, jobs)
+            ended[like] = told, task
+            cells.append(f"{100 * free:.1f} %, {worth(told, like):,}")
+        print(f"| {large.BAND} | {' | '.join(cells)} |", flush=True)
+    cells = [f"{worth(by_halves(*ended[like], jobs), like):,}" for like in ("edges", "colours")]
+    print(f"| tiles of half the picture after it | {' | '.join(cells)} |", flush=True)
+
+
+def segmented(folder, like, jobs):
+    """What segment finds in a band along the border, the share of free pixels, and its task."""
+    words = ["segment", folder / "clean.jpg", folder / "painted.png", folder / "out.png"]
+    options = command_line("").parse_args([*map(str, words), "--like", like, "--jobs", str(jobs)])
+    options.moves = "expansion"
+    task = commands.segment(options)
+    first = large.first_labels(task.data, task.smooth, task.pairs, options, False)
+    told = label_tiles(task.data, task.smooth, task.pairs, shape=task.data.shape,
+                       connect=task.pairs.connect, start=first.labels, free=first.free,
+                       least_gain=GAIN, executor=jobs)
+    return told, first.free.mean(), task
+
+
+def worth(found, like):
+    """The energy; by edges without what the pixels cost, which is the same for each labelling."""
+    return found.smooth if like == "edges" else found.energy
+
+
+def by_halves(found, task, jobs):
+    """What tiles of half the sides lower from there, all pixels free."""
+    half = tuple((side + 1) // 2 for side in task.data.shape)
+    return label_tiles(task.data, task.smooth, task.pairs, shape=task.data.shape, tile=half,
+                       connect=task.pairs.connect, start=found.labels, executor=jobs)
+
+
+PARTS = {"whole": whole, "photograph": large_photograph, "volume": volume, "band": banded}
 
 
 def main():
     parser = argparse.ArgumentParser(description=__doc__.split("\n")[0])
-    parser.add_argument("parts", nargs="*", metavar="PART", help="whole, photograph, volume")
+    parser.add_argument("parts", nargs="*", metavar="PART", help="whole, photograph, volume, band")
     parser.add_argument("--jobs", type=int, default=4)
     parser.add_argument("--folder", type=pathlib.Path)
     parser.add_argument("--short", action="store_true")

@@ -3,13 +3,14 @@
 Each function here makes the tables of a picture that one problem takes, and of a larger one a
 source: `piece(box)` are the costs of a tile, and `smaller(sides)` those of the shrunken picture.
 """
+import contextlib
 import math
 import os
 import sys
 from typing import Any, Callable, List, NamedTuple, Optional, Tuple
 
 from .. import labelling, progress
-from ..tiles import label_tiles, lower_bound_tiles
+from ..tiles import WorkerDied, label_tiles, lower_bound_tiles
 from ..tiles.boxes import OFFSETS, ends
 from ..tiles.progress import bar, bound_bar
 from . import colours, costs
@@ -18,8 +19,8 @@ from .running import Ran, in_words
 from .words import Wrong, numpy_and_pillow
 
 SIDE = 256           # of a tile
-FIRST = LIMIT // 4   # pixels of the shrunken picture of restore and stereo
-BAND = 8             # how far from the shrunken segments' border a pixel is free, in its pixels
+FIRST = LIMIT // 4   # pixels of the shrunken picture
+BAND = 8             # how far from the border of smaller segments a pixel is free, in their pixels
 LEAST_GAIN = 0.001   # a sweep that lowers the energy by less than this part of it is the last
 MODELLED = 1 << 20   # so many pixels of a kind are enough to learn its colours from
 ROWS = 256           # rows whose contrasts are made at a time
@@ -158,11 +159,13 @@ class Weights:
         return Piece(_weights, (*_parts([self.plane], box), self.connect, self.function,
                                 self.more))
 
+    def tables(self, sides: Tuple[int, int]) -> Any:
+        """The weights of the shrunken picture, a table for each offset."""
+        return _weights(shrunk(self.plane, sides), self.connect, self.function, self.more)
+
     def smaller(self, sides: Tuple[int, int]) -> Any:
         """The pairs of the shrunken picture."""
-        numpy, _ = numpy_and_pillow()
-        tables = _weights(shrunk(self.plane, sides), self.connect, self.function, self.more)
-        return costs.weighed_pairs(sides, tables)
+        return costs.weighed_pairs(sides, self.tables(sides))
 
 
 def _weights(plane, connect, function, more):
@@ -284,10 +287,11 @@ def notes_of(options: Any, picture: Any) -> Tuple[str, ...]:
 
 def ran(data: Any, smooth: Any, weights: Any, options: Any, drawn: Optional[bool]) -> Ran:
     """The shrunken picture first, then tiles from its labels; of segments the pixels in a band
-    along their border (Lombaert, Sun, Grady and Xu 2005). Ctrl-C leaves what was found."""
+    along their border, at LIMIT pixels before it is at full size (Lombaert, Sun, Grady and Xu
+    2005). Ctrl-C leaves what was found."""
     if drawn is None:
         drawn = sys.stderr.isatty()
-    with in_words():
+    with _in_words():
         first = first_labels(data, smooth, weights, options, drawn)
         ended = _by_tiles(data, smooth, weights, options, drawn, first)
         if not options.gap or ended.stopped:
@@ -299,6 +303,17 @@ def ran(data: Any, smooth: Any, weights: Any, options: Any, drawn: Optional[bool
                 progress=bound_bar() if drawn else None))
         except KeyboardInterrupt:
             return ended._replace(stopped=True, done="the sweeps and before the bound")
+
+
+@contextlib.contextmanager
+def _in_words():
+    """Tells a refusal, and that processes die, in a sentence that says what to do."""
+    try:
+        with in_words():
+            yield
+    except WorkerDied as died:
+        raise Wrong(f"{died}, mostly for want of memory: take fewer --jobs, or a smaller --tile") \
+            from None
 
 
 def _by_tiles(data, smooth, weights, options, drawn, first):
@@ -342,28 +357,53 @@ class First(NamedTuple):
 
 def first_labels(data: Any, smooth: Any, weights: Any, options: Any, drawn: bool) -> First:
     """The labels of the shrunken picture at the picture's size; and of segments which pixels are
-    free: those near their border, and near a seed that the shrunken picture lost. Without any cycle
-    all are 0."""
+    free. Without any cycle all are 0."""
     numpy, _ = numpy_and_pillow()
     if not options.cycles:
         return First(numpy.zeros(data.shape, dtype=numpy.uint8))
-    sides = shrunken_sides(data.shape, FIRST if data.seeds is None else LIMIT)
+    sides = shrunken_sides(data.shape, FIRST)
     table, labels = data.smaller(sides)
     few = numpy.asarray(smooth)[labels][:, labels]
     small, done = _stopped_or_whole(table, few, weights.smaller(sides), options, drawn)
-    start = spread_out(numpy.asarray(labels, dtype=numpy.uint8)[small], data.shape)
     if data.seeds is None:
-        return First(start, None, done)
+        return First(spread_out(numpy.asarray(labels, dtype=numpy.uint8)[small], data.shape), None,
+                     done)
+    if done is None:
+        small, done = _less_shrunken(data, smooth, weights, options, small)
+    return First(*band(small, data.seeds), done)
+
+
+def _less_shrunken(data, smooth, weights, options, small):
+    """Segments at LIMIT pixels, in a band along those of a smaller picture; and where Ctrl-C
+    stopped the run, how far it came."""
+    sides = shrunken_sides(data.shape, LIMIT)
+    start, free = band(small, shrunk_seeds(data.seeds, sides))
+    try:
+        label_tiles(data.smaller(sides)[0], smooth, weights.tables(sides), connect=weights.connect,
+                    start=start, out=start, free=free, sweeps=options.cycles,
+                    least_gain=LEAST_GAIN, executor=options.jobs)
+    except KeyboardInterrupt:
+        return start, "one of two runs over the picture made smaller"
+    return start, None
+
+
+def band(small: Any, seeds: Any) -> Tuple[Any, Any]:
+    """The segments of a smaller picture at the seeds' size, and each seed in its own; and which
+    pixels are free: those near the segments' border, and near a seed that the smaller picture
+    lost."""
+    numpy, _ = numpy_and_pillow()
+    sides, shape = small.shape, seeds.shape
+    start = spread_out(small.astype(numpy.uint8), shape)
     near = numpy.zeros(sides, dtype=bool)
     across, along = small[:, 1:] != small[:, :-1], small[1:] != small[:-1]
     near[:, 1:] |= across
     near[:, :-1] |= across
     near[1:] |= along
     near[:-1] |= along
-    rows, columns = numpy.nonzero((data.seeds > 0) & (start != data.seeds.astype(int) - 1))
-    near[rows * sides[0] // data.shape[0], columns * sides[1] // data.shape[1]] = True
-    start[rows, columns] = data.seeds[rows, columns] - 1
-    return First(start, spread_out(_widened(near, BAND), data.shape), done)
+    rows, columns = numpy.nonzero((seeds > 0) & (start != seeds.astype(int) - 1))
+    near[rows * sides[0] // shape[0], columns * sides[1] // shape[1]] = True
+    start[rows, columns] = seeds[rows, columns] - 1
+    return start, spread_out(_widened(near, BAND), shape)
 
 
 def _stopped_or_whole(data, smooth, pairs, options, drawn):

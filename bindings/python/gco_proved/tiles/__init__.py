@@ -8,6 +8,7 @@ A tile whose surroundings are fixed is a problem of its own: a pair over the bor
 data cost of the site inside. So a run over a tile never raises the energy of the whole.
 """
 from .bound import lower_bound_tiles
+from .engines import WorkerDied
 from .sweeps import Tiled, label_tiles
 
-__all__ = ["Tiled", "label_tiles", "lower_bound_tiles"]
+__all__ = ["Tiled", "WorkerDied", "label_tiles", "lower_bound_tiles"]

@@ -1,5 +1,6 @@
 """Boxes of a grid: the tiles of a sweep, which of them share no border, and how each is grown."""
 import itertools
+import operator
 from typing import Any, Dict, Iterator, List, Optional, Sequence, Tuple
 
 from .._library import PAIR_LIMIT, SITE_LIMIT
@@ -27,14 +28,11 @@ def offsets_of(dimensions: int, connect: Optional[int]) -> List[Shape]:
 def sides_of(tile: Any, shape: Shape, overlap: int, offsets: Sequence[Shape]) -> Shape:
     """The sides of a tile, each at most that of the grid; a ValueError for one that is too large.
     """
-    asked = USUAL[len(shape)] if tile is None else tile
-    if isinstance(asked, int):
-        asked = (asked,) * len(shape)
-    sides = tuple(asked)
-    if len(sides) != len(shape) or not all(isinstance(side, int) and side > 0 for side in sides):
+    sides = USUAL[len(shape)] if tile is None else _numbers(tile, len(shape))
+    if len(sides) != len(shape) or min(sides) < 1:
         raise ValueError(f"tile: {len(shape)} sides of at least 1 are wanted, and not {tile!r}")
     sides = tuple(min(one, most) for one, most in zip(sides, shape))
-    if not isinstance(overlap, int) or overlap < 0:
+    if not hasattr(overlap, "__index__") or overlap < 0:
         raise ValueError(f"overlap: a whole number from 0 on is wanted, and not {overlap!r}")
     if any(2 * overlap >= side for side, most in zip(sides, shape) if side < most):
         raise ValueError(f"overlap: {overlap} is half of a tile's side or more: the sides are"
@@ -43,10 +41,20 @@ def sides_of(tile: Any, shape: Shape, overlap: int, offsets: Sequence[Shape]) ->
     for side, most in zip(sides, shape):
         count *= min(side + 2 * overlap, most)
     most_sites = min(SITE_LIMIT, PAIR_LIMIT // len(offsets))
-    if tile is not None and count > most_sites:
+    if count > most_sites:
         raise ValueError(f"tile: one of {' x '.join(map(str, sides))} with an overlap of {overlap}"
                          f" has {count:,} sites, and at most {most_sites:,} are taken")
     return sides
+
+
+def _numbers(value: Any, count: int) -> Shape:
+    """So many times a whole number, or those of a sequence; none where there are others."""
+    try:
+        if hasattr(value, "__iter__"):
+            return tuple(map(operator.index, value))
+        return (operator.index(value),) * count
+    except TypeError:
+        return ()
 
 
 def shifts_of(sides: Shape, shape: Shape) -> List[Shape]:
@@ -123,6 +131,12 @@ def around(places: Any, box: Box) -> Box:
         along = places.any(axis=others).nonzero()[0]
         inner.append(slice(part.start + int(along[0]), part.start + int(along[-1]) + 1))
     return tuple(inner)
+
+
+def joined(first: Box, second: Box) -> Box:
+    """The least box around two."""
+    return tuple(slice(min(one.start, other.start), max(one.stop, other.stop))
+                 for one, other in zip(first, second))
 
 
 def sides_of_box(box: Box) -> Shape:

@@ -1,14 +1,17 @@
 """Engines: what runs tiles, in turn, by threads, by processes or on a cluster."""
 import concurrent.futures
+import functools
+import itertools
 import multiprocessing
 import multiprocessing.connection
 import pickle
 import signal
 import traceback
-from typing import Any, Callable, Dict, Iterator, List, Tuple
+from concurrent.futures.process import BrokenProcessPool
+from typing import Any, Callable, Dict, Iterator, List, Optional, Tuple
 
 from .. import arrays
-from .costs import Held, Lazy
+from .costs import Held, Lazy, Several
 
 Keyed = Iterator[Tuple[Any, Any]]
 TRIES = 3
@@ -60,17 +63,53 @@ class _Window:
 
 
 class Pool(_Window):
-    """An executor of concurrent.futures that the caller made, of threads or processes."""
+    """An executor of concurrent.futures that the caller made, of threads or processes.
+
+    Where a process of it dies, it takes no task any more. Then what has no answer, and all that
+    comes, goes to as many processes of our own, which are begun as the executor begins its own.
+    """
 
     def __init__(self, executor: Any) -> None:
         self.executor = executor
-        self.room = 2 * (getattr(executor, "_max_workers", None) or 4)
+        self.count = getattr(executor, "_max_workers", None) or 4
+        self.room = 2 * self.count
+        self.own: Any = None
 
     def submit(self, function, task):
         return self.executor.submit(function, task)
 
     def some_done(self, futures):
         return list(concurrent.futures.wait(futures, return_when="FIRST_COMPLETED").done)
+
+    def answers(self, function: Callable[[Any], Any], tasks: Keyed) -> Keyed:
+        unanswered: Dict[Any, Any] = {}
+
+        def noted() -> Keyed:
+            for key, task in tasks:
+                unanswered[key] = task
+                yield key, task
+
+        if self.own is None:
+            try:
+                for key, answer in super().answers(function, noted()):
+                    del unanswered[key]
+                    yield key, answer
+                return
+            except BrokenProcessPool:
+                self.own = self._processes()
+        yield from self.own.answers(function, itertools.chain(unanswered.items(), tasks))
+
+    def _processes(self):
+        """Processes of our own that begin as those of the executor."""
+        executor = self.executor
+        begin = getattr(executor, "_initializer", None)
+        if begin is not None:
+            begin = functools.partial(begin, *executor._initargs)
+        return Processes(self.count, getattr(executor, "_mp_context", None), begin)
+
+    def close(self) -> None:
+        if self.own is not None:
+            self.own.close()
 
 
 class Cluster(_Window):
@@ -81,19 +120,38 @@ class Cluster(_Window):
         self.room = 2 * max(sum(client.nthreads().values()), 1)
 
     def submit(self, function, task):
-        if isinstance(task.data, Lazy):  # a block that lies on the cluster stays there
-            block = self.client.compute(task.data.block)
-            return self.client.submit(_with_block, function, task._replace(data=None), block,
-                                      pure=False)
-        return self.client.submit(function, task, pure=False)
+        pieces = _pieces(task)
+        if not any(isinstance(piece, Lazy) for piece in pieces):
+            return self.client.submit(function, task, pure=False)
+        # blocks that lie on the cluster stay there
+        blocks = [self.client.compute(piece.block) if isinstance(piece, Lazy) else None
+                  for piece in pieces]
+        rest = [None if isinstance(piece, Lazy) else piece for piece in pieces]
+        return self.client.submit(_with_blocks, function, _with_pieces(task, rest), blocks,
+                                  pure=False)
 
     def some_done(self, futures):
         from distributed import wait
         return list(wait(futures, return_when="FIRST_COMPLETED").done)
 
 
-def _with_block(function, task, block):
-    return function(task._replace(data=Held(block)))
+def _pieces(task):
+    """The pieces of a task's costs, and of its weights if there is one for each offset."""
+    weights = task.weights
+    return [task.data, *weights.pieces] if isinstance(weights, Several) else [task.data]
+
+
+def _with_pieces(task, pieces):
+    """The task with others in the place of these."""
+    data, *weights = pieces
+    task = task._replace(data=data)
+    return task._replace(weights=Several(weights)) if weights else task
+
+
+def _with_blocks(function, task, blocks):
+    pieces = [piece if block is None else Held(block)
+              for piece, block in zip(_pieces(task), blocks)]
+    return function(_with_pieces(task, pieces))
 
 
 class Processes:
@@ -103,9 +161,15 @@ class Processes:
     a process dies while a task of more than 64 KB is on its way to it (gh-94777).
     """
 
-    def __init__(self, count: int) -> None:
-        self.count = count
+    def __init__(self, count: int, context: Any = None,
+                 begin: Optional[Callable[[], Any]] = None) -> None:
+        """`context` is one of multiprocessing, by which a process is begun, and `begin` what each
+        calls first."""
+        self.count, self.context, self.begin = count, context or multiprocessing, begin
         self.idle: List[_Worker] = []
+
+    def _worker(self):
+        return self.idle.pop() if self.idle else _Worker(self.context, self.begin)
 
     def answers(self, function: Callable[[Any], Any], tasks: Keyed) -> Keyed:
         """The answers as they come. Where one is an exception, or the caller leaves, the processes
@@ -119,7 +183,7 @@ class Processes:
                     key, task, turn = again.pop() if again else next(due, (None, None, 0))
                     if not turn:
                         break
-                    worker = self.idle.pop() if self.idle else _Worker()
+                    worker = self._worker()
                     at_work[worker.pipe] = worker, key, task, turn
                     worker.give(function, task)
                 if not at_work:
@@ -140,19 +204,23 @@ class Processes:
             self.idle.pop().leave()
 
 
+class WorkerDied(RuntimeError):
+    """Each worker that a tile was given to died over it."""
+
+
 def _next_turn(key, turn):
     if turn == TRIES:
-        raise RuntimeError(f"a worker died {TRIES} times over the tile of place {key}")
+        raise WorkerDied(f"a worker died {TRIES} times over the tile of place {key}")
     return turn + 1
 
 
 class _Worker:
     """A process that answers tasks, and this end of its pipe."""
 
-    def __init__(self) -> None:
-        self.pipe, there = multiprocessing.Pipe()
+    def __init__(self, context: Any, begin: Optional[Callable[[], Any]]) -> None:
+        self.pipe, there = context.Pipe()
         self.told: Any = None
-        self.process = multiprocessing.Process(target=_serve, args=(there, self.pipe))
+        self.process = context.Process(target=_serve, args=(there, self.pipe, begin))
         self.process.start()
         there.close()
 
@@ -193,11 +261,13 @@ class _Worker:
         self.pipe.close()
 
 
-def _serve(pipe, other_end):
+def _serve(pipe, other_end, begin):
     """Answers tasks until there are no more, or the process that hands them out has gone. Ctrl-C is
     for that one."""
     signal.signal(signal.SIGINT, signal.SIG_IGN)
     other_end.close()
+    if begin is not None:
+        begin()
     try:
         for function, task in iter(pipe.recv, None):
             try:

@@ -1,13 +1,17 @@
 """label_tiles: a labelling of any size by runs over tiles, the sites around each fixed."""
+import math
 from typing import Any, Callable, Dict, Iterator, List, NamedTuple, Optional, Set, Tuple
 
 from .. import arrays
 from .._library import LABEL_LIMIT, MOVES, PAIR_LIMIT, SITE_LIMIT, SMOOTH_LIMIT
 from ..refusals import Refused
 from . import costs, tile as work
-from .boxes import Box, Shape, Sweep, around, grown, offsets_of, shifts_of, sides_of
+from .boxes import Box, Shape, Sweep, around, grown, joined, offsets_of, shifts_of, sides_of, \
+    sides_of_box
 from .engines import engine_of
 from .progress import bar
+
+WIDE = 1 << 25  # the most sites of a box that is read whole for the free ones in it
 
 
 class Tiled(NamedTuple):
@@ -101,18 +105,20 @@ def label_tiles(data: Any, smooth: Any, weights: Any = 1, *, shape: Any = None, 
 
     `tile` has the sides of a tile, by default 256 x 256 or 64 x 64 x 64. Each tile's run also looks
     at so many sites as `overlap` says beside it. `free` is an array of yes and no: the other sites
-    keep their labels. Free sites that one problem can take are one tile by default. `start` is each
-    site's cheapest label where none is given. `out` is where labels are written, as a memory map or
-    zarr, by default an array of one byte a label. `start` and `out` may be one: so a run that was
-    stopped goes on.
+    keep their labels. Free sites that one problem can take are one tile by default, if they lie in
+    a box of at most 33,554,432 sites. `start` is each site's cheapest label where none is given.
+    `out` is where labels are written, as a memory map or zarr, by default an array of one byte a
+    label. `start` and `out` may be one: so a run that was stopped goes on.
 
     `executor` is None (one tile after another), a number of processes, an executor of
-    concurrent.futures or a Client of Dask. The labels are the same from each. `progress` is called
-    after each tile with the sweep (from 1), how many of its tiles are done and how many there are,
-    and the energy; where it answers False the run stops. True stands for a bar.
+    concurrent.futures or a Client of Dask. The labels are the same from each. A tile whose worker
+    dies is given to another one. `progress` is called after each tile with the sweep (from 1), how
+    many of its tiles are done and how many there are, and the energy; where it answers False the
+    run stops. True stands for a bar.
 
-    Raises what gco_proved.label raises. A KeyboardInterrupt has what was found till then as
-    `partial`, None before the first sweep. Label costs are refused: they are no sum over tiles.
+    Raises what gco_proved.label raises, and WorkerDied where workers die over one tile. A
+    KeyboardInterrupt has what was found till then as `partial`, None before the first sweep. Label
+    costs are refused: they are no sum over tiles.
     """
     if arrays.numpy is None:
         raise ImportError("label_tiles: numpy is wanted: pip install numpy")
@@ -150,13 +156,21 @@ class Run:
         self.data = self.smooth = 0
 
     def _few_are_free(self):
-        """Whether not all sites are free, and one tile can take those that are."""
+        """Whether not all sites are free, and one tile can take those that are: its box is read
+        whole, so that may not be too large either."""
         whole, numpy = self.whole, self.whole.numpy
         if whole.free is None:
             return False
-        count = sum(int(numpy.count_nonzero(whole.free_in(self.plain.box(place))))
-                    for place in self.plain.places())
-        return count <= min(SITE_LIMIT, PAIR_LIMIT // len(whole.offsets))
+        count, least = 0, None
+        for place in self.plain.places():
+            box = self.plain.box(place)
+            free = whole.free_in(box)
+            if free.any():
+                count += int(numpy.count_nonzero(free))
+                box = around(free, box)
+                least = box if least is None else joined(least, box)
+        return count <= min(SITE_LIMIT, PAIR_LIMIT // len(whole.offsets)) and (
+            least is None or math.prod(sides_of_box(least)) <= WIDE)
 
     @property
     def energy(self) -> int:
@@ -241,13 +255,15 @@ class Run:
         return boxes
 
     def sweep(self, shift: int, boxes: Dict[Shape, Box]) -> bool:
-        """One sweep over the tiles that are due; False where it is to be the last."""
+        """One sweep over the tiles that are due, of each colour the largest first, so that no
+        worker waits long for the last ones; False where it is to be the last."""
         whole, sweep = self.whole, self.sweeps[shift]
         colours = sorted({sweep.colour(place) for place in boxes})
+        falling = sorted(boxes.items(), key=lambda item: -math.prod(sides_of_box(item[1])))
         done = 0
         for colour in colours:
             tasks = ((place, whole.task(box, whole.free_in(box)))
-                     for place, box in boxes.items() if sweep.colour(place) == colour)
+                     for place, box in falling if sweep.colour(place) == colour)
             for place, answer in whole.engine.answers(work.run, tasks):
                 self._take(shift, place, boxes[place], answer)
                 done += 1

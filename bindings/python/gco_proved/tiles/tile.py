@@ -2,6 +2,7 @@
 from typing import Any, List, NamedTuple, Optional, Tuple
 
 from .. import arrays, labelling
+from .._library import DATA_LIMIT, PAIR_LIMIT, SITE_LIMIT
 from ..refusals import Refused
 from . import costs
 from .boxes import Box, Shape, sides_of_box, within
@@ -87,6 +88,7 @@ def run(task: Task) -> Answer:
     rows = _rows_of(task)
     weights = costs.weights_read(task.weights, task.window, task.labels.shape, task.offsets)
     problem = problem_of(rows, free, task.labels, weights, task.offsets, task.smooth)
+    _look_at_size(problem)
     start = free.labels_of(task.labels).astype(numpy.uint32)
     begun = numpy.concatenate([start, problem.pinned])
     found = _found(task, free, problem, begun)
@@ -99,6 +101,15 @@ def run(task: Task) -> Answer:
     free.write(labels, after)
     labels = labels[within(task.box, task.window)].astype(numpy.uint8)
     return Answer(labels, data, rise - data, found.settled)
+
+
+def _look_at_size(problem):
+    """One problem may have no room for what stands for the fixed sites around a large tile."""
+    sites, pairs = len(problem.data), len(problem.pairs)
+    if sites > SITE_LIMIT or pairs > PAIR_LIMIT:
+        raise Refused(2 if sites > SITE_LIMIT else 13, words=f"tile: some data costs come near"
+                      f" {DATA_LIMIT:,}, so {len(problem.pinned):,} sites stand for those around a"
+                      f" tile, beside its own {problem.sites:,}: take a smaller tile")
 
 
 def _found(task, free, problem, start):
