@@ -6,6 +6,7 @@
 #include <stdlib.h>
 #include <string.h>
 #include "gco.h"
+#include "told.h"
 
 #define WANT(x)                                                   \
     do {                                                          \
@@ -21,18 +22,6 @@ static gco_pair pairs[] = {{0, 1, 3}, {1, 2, 2}, {2, 3, 2}, {3, 4, 4}, {1, 3, 1}
 static int64_t costs[] = {0, 0, 0};
 static uint32_t labels[5];
 static const uint32_t zero[5];
-static gco_outcome told;
-
-/* whether the last call told this, and 0 in each field that is not named */
-static int tells(gco_outcome due) {
-    return told.data == due.data && told.smooth == due.smooth && told.label == due.label && told.place == due.place
-        && told.vmin == due.vmin && told.vmax == due.vmax && told.cycles == due.cycles && told.settled == due.settled
-        && told.changed == due.changed && told.alpha == due.alpha && told.beta == due.beta;
-}
-
-/* a call whose outcome was filled with ones before; and one that is refused and tells a place, and nothing else */
-#define FRESH(call) (memset(&told, 0xff, sizeof told), (call))
-#define REFUSED(call, status, at) WANT(FRESH(call) == (status) && tells((gco_outcome){.place = (at)}))
 
 static uint32_t run(uint32_t label_count, size_t data_count, size_t smooth_count, size_t cost_count, uint32_t moves, uint32_t cycles) {
     memset(&told, 0xff, sizeof told);

@@ -5,6 +5,7 @@
 #include <stdlib.h>
 #include <string.h>
 #include "gco.h"
+#include "told.h"
 
 #define WANT(x)                                                   \
     do {                                                          \
@@ -13,17 +14,6 @@
             return 1;                                             \
         }                                                         \
     } while (0)
-
-static gco_outcome told;
-
-/* whether the last call told this, and 0 in each field that is not named */
-static int tells(gco_outcome due) {
-    return told.data == due.data && told.smooth == due.smooth && told.label == due.label && told.place == due.place
-        && told.vmin == due.vmin && told.vmax == due.vmax && told.cycles == due.cycles && told.settled == due.settled
-        && told.changed == due.changed && told.alpha == due.alpha && told.beta == due.beta;
-}
-#define FRESH(call) (memset(&told, 0xff, sizeof told), (call))
-#define REFUSED(call, status, at) WANT(FRESH(call) == (status) && tells((gco_outcome){.place = (at)}))
 
 /* a row of three sites; the first pair costs 2, 4, 6 and 0 at the labels 00, 01, 10 and 11, the second 0, 2, 4 and 4 */
 static int64_t data[] = {0, 2, 3, 0, 7, 1}, tables[] = {1, 2, 3, 0, 0, 1, 2, 2}, costs[] = {0, 0};
