@@ -1,5 +1,6 @@
 """gco_proved.tiles against the definitions tried in every case, from each kind of costs and each engine."""
 import concurrent.futures
+import contextlib
 import functools
 import itertools
 import logging
@@ -449,25 +450,38 @@ def stops(folder):
             os.kill(os.getpid(), signal.SIGINT)
         told.append(energy)
 
-    for executor in (None, 2):
-        told.clear()
+    with contextlib.ExitStack() as open_till_then:
+        executors = [None, 2]
+        for kind in (concurrent.futures.ThreadPoolExecutor, concurrent.futures.ProcessPoolExecutor):
+            executors.append(open_till_then.enter_context(kind(2)))
         try:
-            label_tiles(DATA, SMOOTH, WEIGHTS, tile=TILE, progress=ctrl_c, executor=executor)
-        except KeyboardInterrupt as stop:
-            kept = stop.partial
-            check = label_tiles(DATA, SMOOTH, WEIGHTS, start=kept.labels, sweeps=0)
-            assert kept.energy == check.energy < found.energies[0] and not kept.settled
+            import distributed
+        except ImportError:
+            pass
         else:
-            raise AssertionError("no KeyboardInterrupt")
+            cluster = open_till_then.enter_context(distributed.LocalCluster(n_workers=2, threads_per_worker=1, dashboard_address=None))
+            executors.append(open_till_then.enter_context(distributed.Client(cluster)))
+        for executor in executors:
+            told.clear()
+            try:
+                label_tiles(DATA, SMOOTH, WEIGHTS, tile=TILE, progress=ctrl_c, executor=executor)
+            except KeyboardInterrupt as stop:
+                kept = stop.partial
+                check = label_tiles(DATA, SMOOTH, WEIGHTS, start=kept.labels, sweeps=0)
+                assert kept.energy == check.energy < found.energies[0] and not kept.settled, executor
+            else:
+                raise AssertionError("no KeyboardInterrupt")
+            if executor is not None:  # it serves the next run
+                assert label_tiles(DATA, SMOOTH, WEIGHTS, tile=TILE, executor=executor).energies == found.energies, executor
 
 
-def run_and_die(out):
+def run_and_die(out, executor):
     """A run whose process is killed after nine tiles."""
     def step(sweep, done, tiles, energy):
         if done == 9:
             os.kill(os.getpid(), signal.SIGKILL)
 
-    label_tiles(DATA, SMOOTH, WEIGHTS, tile=TILE, out=opened(out), progress=step)
+    label_tiles(DATA, SMOOTH, WEIGHTS, tile=TILE, out=opened(out), progress=step, executor=executor)
 
 
 def opened(path):
@@ -479,13 +493,17 @@ def opened(path):
 
 
 def killed(out, path):
-    """A run whose process is killed: another one goes on from what is on the disk."""
+    """A run whose process is killed: its own processes end, and another run goes on from what is on the disk."""
     path = f"{path}.npy" if isinstance(out, np.memmap) else f"{path}.zarr"
-    run = subprocess.run([sys.executable, __file__, "--run-and-die", path], stderr=subprocess.DEVNULL, timeout=120)
-    assert run.returncode == -signal.SIGKILL, run.returncode
-    whole, out = wanted(), opened(path)
-    rest = label_tiles(DATA, SMOOTH, WEIGHTS, tile=TILE, start=out, out=out)
-    assert whole.energy < rest.energies[0] < whole.energies[0] and rest.settled and rest.energy <= 1.001 * whole.energy
+    whole = wanted()
+    for executor in (1, 2):
+        out[...] = 0
+        # the pipe is at its end when the last process that holds it has ended
+        run = subprocess.run([sys.executable, __file__, "--run-and-die", path, str(executor)], stdout=subprocess.PIPE, stderr=subprocess.DEVNULL, timeout=120)
+        assert run.returncode == -signal.SIGKILL, run.returncode
+        out = opened(path)
+        rest = label_tiles(DATA, SMOOTH, WEIGHTS, tile=TILE, start=out, out=out)
+        assert whole.energy < rest.energies[0] < whole.energies[0] and rest.settled and rest.energy <= 1.001 * whole.energy
 
 
 def slow(box):
@@ -695,7 +713,7 @@ def threads_side_by_side():
 
 
 if "--run-and-die" in sys.argv:
-    run_and_die(sys.argv[2])
+    run_and_die(sys.argv[2], int(sys.argv[3]))
 if "--in-little-memory" in sys.argv:
     run_in_little_memory(sys.argv[2])
     sys.exit(0)
