@@ -52,21 +52,24 @@ foreach(program long short)
   target_link_libraries(${program}_shared gco::shared)
 endforeach()
 LISTS
-    for wanted in 0.1 0.2 "$version"; do
+    first=${version%%.*}
+    for wanted in "$first" "$first.0" "$version"; do
         configured "$wanted" || { cat "$folder/told"; exit 1; }
     done
     cmake --build "$folder/$version" > "$folder/told" 2>&1 || { cat "$folder/told"; exit 1; }
     for program in long_static long_shared short_static short_shared; do
         "$folder/$version/$program"
     done
-    for wanted in 0.99 1.0; do
+    older=$((first - 1)).9 later=$first.999 next=$((first + 1)).0
+    for wanted in "$older" "$later" "$next"; do
         if configured "$wanted"; then
             echo "find_package(gco $wanted) is answered by $version"
             exit 1
         fi
         grep -q "version: $version" "$folder/told" || { cat "$folder/told"; exit 1; }
     done
-    echo "installed: CMake, static and shared, for 0.1, 0.2 and $version, not for 0.99 or 1.0"
+    echo "installed: CMake, static and shared, for $first, $first.0 and $version," \
+        "not for $older, $later or $next"
 else
     echo "installed: cmake is missing, not tried (Debian: apt-get install cmake)"
 fi
