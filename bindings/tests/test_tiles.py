@@ -360,7 +360,22 @@ def always_dies(box):
     return DATA[box]
 
 
-def engines(folder):
+@contextlib.contextmanager
+def dask_client():
+    """A client of two workers on this machine, or None, which is said."""
+    try:
+        import distributed
+    except ImportError:
+        print("distributed is missing, not tried (Debian: apt-get install python3-distributed)")
+        yield None
+        return
+    for name in ("distributed", "distributed.client"):
+        logging.getLogger(name).setLevel(logging.CRITICAL)
+    with distributed.LocalCluster(n_workers=2, threads_per_worker=1, dashboard_address=None) as cluster, distributed.Client(cluster) as client:
+        yield client
+
+
+def engines(folder, client):
     found = wanted()
 
     def alike(name, executor, data=DATA, weights=WEIGHTS, **more):
@@ -389,39 +404,33 @@ def engines(folder):
             else:
                 refused(WorkerDied, label_tiles, always_dies, SMOOTH, WEIGHTS, tile=60, shape=(60, 60), executor=pool, says="a worker died 3 times")
     refused(TypeError, label_tiles, DATA, SMOOTH, executor="four", says="executor: None, a number of processes")
-    try:
-        import distributed
-    except ImportError:
-        print("distributed is missing, not tried (Debian: apt-get install python3-distributed)")
+    if client is None:
         return "engines: threads, processes"
-    for name in ("distributed", "distributed.client"):
-        logging.getLogger(name).setLevel(logging.CRITICAL)
-    with distributed.LocalCluster(n_workers=2, threads_per_worker=1, dashboard_address=None) as cluster, distributed.Client(cluster) as client:
-        alike("Dask", client)
-        alike("Dask, a function", client, data_of, shape=(60, 60))
-        alike("Dask, a dead worker", client, functools.partial(dies_once, str(folder / "died on Dask")), shape=(60, 60))
-        assert (folder / "died on Dask").exists()
-        import dask.array
-        data, *weights = (dask.array.from_array(table, chunks=chunks) for table, chunks in ((DATA, (20, 30, 6)), (WEIGHTS[0], (20, 30)), (WEIGHTS[1], (30, 20))))
-        for kept in ("graphs", "blocks on the cluster"):
-            if kept != "graphs":
-                data, *weights = client.persist([data, *weights])
-            alike(f"Dask over dask.array, {kept}", client, data)
-            alike(f"Dask over dask.array, weights too, {kept}", client, data, weights)
-            low = lower_bound_tiles(data, SMOOTH, weights, tile=TILE, executor=client)
-            assert low == lower_bound_tiles(DATA, SMOOTH, WEIGHTS, tile=TILE), kept
-        # a volume, whose start and free sites lie on the cluster too
-        rng = np.random.default_rng(9)
-        costs, start, free = rng.integers(0, 9, (8, 9, 7, 3)), rng.integers(0, 3, (8, 9, 7)), rng.random((8, 9, 7)) < 0.6
-        words = dict(connect=26, tile=(4, 5, 4), weights=2, smooth=gco.potts(3))
-        alone = label_tiles(costs, start=start, free=free, **words)
-        costs, start, free = client.persist([dask.array.from_array(table, chunks=(5, 4, 6, 3)[:table.ndim]) for table in (costs, start, free)])
-        other = label_tiles(costs, start=start, free=free, executor=client, **words)
-        assert other.energies == alone.energies and other.labels.tobytes() == alone.labels.tobytes()
+    alike("Dask", client)
+    alike("Dask, a function", client, data_of, shape=(60, 60))
+    alike("Dask, a dead worker", client, functools.partial(dies_once, str(folder / "died on Dask")), shape=(60, 60))
+    assert (folder / "died on Dask").exists()
+    import dask.array
+    data, *weights = (dask.array.from_array(table, chunks=chunks) for table, chunks in ((DATA, (20, 30, 6)), (WEIGHTS[0], (20, 30)), (WEIGHTS[1], (30, 20))))
+    for kept in ("graphs", "blocks on the cluster"):
+        if kept != "graphs":
+            data, *weights = client.persist([data, *weights])
+        alike(f"Dask over dask.array, {kept}", client, data)
+        alike(f"Dask over dask.array, weights too, {kept}", client, data, weights)
+        low = lower_bound_tiles(data, SMOOTH, weights, tile=TILE, executor=client)
+        assert low == lower_bound_tiles(DATA, SMOOTH, WEIGHTS, tile=TILE), kept
+    # a volume, whose start and free sites lie on the cluster too
+    rng = np.random.default_rng(9)
+    costs, start, free = rng.integers(0, 9, (8, 9, 7, 3)), rng.integers(0, 3, (8, 9, 7)), rng.random((8, 9, 7)) < 0.6
+    words = dict(connect=26, tile=(4, 5, 4), weights=2, smooth=gco.potts(3))
+    alone = label_tiles(costs, start=start, free=free, **words)
+    costs, start, free = client.persist([dask.array.from_array(table, chunks=(5, 4, 6, 3)[:table.ndim]) for table in (costs, start, free)])
+    other = label_tiles(costs, start=start, free=free, executor=client, **words)
+    assert other.energies == alone.energies and other.labels.tobytes() == alone.labels.tobytes()
     return "engines: threads, processes, Dask, and each with a dead worker"
 
 
-def stops(folder):
+def stops(folder, client):
     """A run that is stopped goes on from what is on the disk."""
     found = wanted()
     out = np.lib.format.open_memmap(folder / "stopped.npy", "w+", np.uint8, (60, 60))
@@ -451,16 +460,9 @@ def stops(folder):
         told.append(energy)
 
     with contextlib.ExitStack() as open_till_then:
-        executors = [None, 2]
+        executors = [None, 2] if client is None else [None, 2, client]
         for kind in (concurrent.futures.ThreadPoolExecutor, concurrent.futures.ProcessPoolExecutor):
             executors.append(open_till_then.enter_context(kind(2)))
-        try:
-            import distributed
-        except ImportError:
-            pass
-        else:
-            cluster = open_till_then.enter_context(distributed.LocalCluster(n_workers=2, threads_per_worker=1, dashboard_address=None))
-            executors.append(open_till_then.enter_context(distributed.Client(cluster)))
         for executor in executors:
             told.clear()
             try:
@@ -720,10 +722,11 @@ if "--in-little-memory" in sys.argv:
 if __name__ == "__main__":
     made = pathlib.Path(tempfile.mkdtemp())
     try:
-        said = [random_grids(400), fixed_points(300), kinds_of_costs(made), volumes(made), engines(made)]
-        near_the_whole()
-        near_the_whole_volume()
-        stops(made)
+        with dask_client() as client:
+            said = [random_grids(400), fixed_points(300), kinds_of_costs(made), volumes(made), engines(made, client)]
+            near_the_whole()
+            near_the_whole_volume()
+            stops(made, client)
         stops_soon()
         free_sites()
         free_in_a_wide_box()
