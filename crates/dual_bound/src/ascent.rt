@@ -6,10 +6,10 @@
 //! reaches its other site. Nothing of this is promised: whatever the messages are, the bound that
 //! they prove is one.
 ghost use Rattle.std.specs.Prelude.{◌≡◌, ℕ, ◌+◌, ◌*◌, ◌^◌, ◌<◌, ◌≤◌, All, IfOk, IfSome, length};
-ghost use Rattle.std.specs.Prelude.{false};
 ghost use Rattle.cost_store.specs.Posed.{IsPosed, FitsProblem};
 ghost use Rattle.label_field.specs.Limits.{label_limit};
-ghost use Rattle.label_field.specs.PairLists.{IsPair};
+ghost use Rattle.label_field.specs.PairLists.{IsPair, IsWeightIn};
+ghost use Rattle.message_bound.specs.PairTables.{ServesPairs};
 ghost use Rattle.dual_bound.specs.Ends.{ArePairEnds};
 ghost use Rattle.counting_sort.specs.Grouping.{start_of};
 
@@ -17,7 +17,7 @@ use crate::squares::spread_squares;
 use cost_store::Problem;
 use counting_sort::{Groups, group};
 use label_field::{Labelling, Pair, Pairs};
-use message_bound::{Form, PARTS, form_of, least, smooth_costs};
+use message_bound::{Form, PARTS, PairCosts, least};
 use std::alloc::{AllocError, Global};
 
 /// It is above every number of a message.
@@ -285,12 +285,39 @@ fn send(
     lowest.wrapping_sub(ABOVE)
 }
 
+/// Passes on what reaches the other site of a pair of this weight, or of this number, and tells how
+/// much of it reaches each label there.
+fn send_pair<F: Fn(u32, u32) -> i64 + Sync, V: Fn(u32, u32) -> i64 + Sync>(
+    problem: &Problem<F, V>,
+    costs: &mut PairCosts,
+    sums: &[u64],
+    own: &mut [u64],
+    out: &mut [u64],
+    message: &mut [u32],
+    weight: u32,
+    from_first: bool,
+) -> u64
+    requires posed { IsPosed F.Fn V.Fn problem.now }
+    requires serves { ServesPairs F.Fn V.Fn problem.now costs.old }
+    requires weight { IsWeightIn problem.now.pairs weight }
+    requires sums { length sums.now ≡ problem.now.data_cost.labels }
+    requires few { length sums.now < 2 ^ 32 }
+    requires own { length own.old ≡ length sums.now }
+    requires out { length out.old ≡ length sums.now }
+    requires message { length message.old ≡ length sums.now }
+    ensures { ServesPairs F.Fn V.Fn problem.now costs.new }
+{
+    let times = costs.load(problem, weight);
+    let form = costs.form();
+    let entries = costs.as_slice();
+    send(entries, form, sums, own, out, message, times, from_first)
+}
+
 /// Passes on what reaches the sites ahead, and tells how much of it reaches each label there.
-fn send_ahead(
-    pairs: &Pairs,
+fn send_ahead<F: Fn(u32, u32) -> i64 + Sync, V: Fn(u32, u32) -> i64 + Sync>(
+    problem: &Problem<F, V>,
     ends: &Groups,
-    costs: &[u32],
-    form: Form,
+    costs: &mut PairCosts,
     messages: &mut [u32],
     sums: &[u64],
     own: &mut [u64],
@@ -298,14 +325,18 @@ fn send_ahead(
     site: u32,
     forward: bool,
 ) -> u64
-    requires ends { ArePairEnds pairs.now ends.now }
-    requires site { site < pairs.now.sites }
+    requires posed { IsPosed F.Fn V.Fn problem.now }
+    requires ends { ArePairEnds problem.now.pairs ends.now }
+    requires site { site < problem.now.pairs.sites }
+    requires serves { ServesPairs F.Fn V.Fn problem.now costs.old }
+    requires sums { length sums.now ≡ problem.now.data_cost.labels }
     requires few { length sums.now < 2 ^ 32 }
-    requires costs { length costs.now ≡ length sums.now * length sums.now }
-    requires messages { length messages.old ≡ length pairs.now.list * length sums.now }
+    requires messages { length messages.old ≡ length problem.now.pairs.list * length sums.now }
     requires own { length own.old ≡ length sums.now }
     requires out { length out.old ≡ length sums.now }
+    ensures { ServesPairs F.Fn V.Fn problem.now costs.new }
 {
+    let pairs = &problem.pairs;
     let labels = sums.len();
     let mut reached = 0u64;
     for place in ends.starts[site as usize]..ends.starts[site as usize + 1] {
@@ -314,15 +345,16 @@ fn send_ahead(
         if is_ahead(pair, site, forward) {
             let from = index * labels;
             let message = &mut messages[from..from + labels];
-            let least = send(
+            let from_first = pair.first == site;
+            let least = send_pair(
+                problem,
                 costs,
-                form,
                 sums,
                 own,
                 out,
                 message,
                 pair.weight,
-                pair.first == site,
+                from_first,
             );
             reached = reached.wrapping_add(least);
         }
@@ -335,8 +367,7 @@ fn send_ahead(
 fn sweep<F: Fn(u32, u32) -> i64 + Sync, V: Fn(u32, u32) -> i64 + Sync>(
     problem: &Problem<F, V>,
     ends: &Groups,
-    costs: &[u32],
-    form: Form,
+    costs: &mut PairCosts,
     messages: &mut [u32],
     sums: &mut [u64],
     own: &mut [u64],
@@ -345,12 +376,13 @@ fn sweep<F: Fn(u32, u32) -> i64 + Sync, V: Fn(u32, u32) -> i64 + Sync>(
 ) -> u64
     requires posed { IsPosed F.Fn V.Fn problem.now }
     requires ends { ArePairEnds problem.now.pairs ends.now }
+    requires serves { ServesPairs F.Fn V.Fn problem.now costs.old }
     requires sums { length sums.old ≡ problem.now.data_cost.labels }
     requires few { length sums.old < 2 ^ 32 }
-    requires costs { length costs.now ≡ length sums.old * length sums.old }
     requires messages { length messages.old ≡ length problem.now.pairs.list * length sums.old }
     requires own { length own.old ≡ length sums.old }
     requires out { length out.old ≡ length sums.old }
+    ensures { ServesPairs F.Fn V.Fn problem.now costs.new }
 {
     let sites = problem.pairs.sites();
     let mut bound = 0u64;
@@ -363,16 +395,7 @@ fn sweep<F: Fn(u32, u32) -> i64 + Sync, V: Fn(u32, u32) -> i64 + Sync>(
         if ways > 0 {
             share(sums, least, ways);
             let reached = send_ahead(
-                &problem.pairs,
-                ends,
-                costs,
-                form,
-                messages,
-                sums,
-                own,
-                out,
-                site,
-                forward,
+                problem, ends, costs, messages, sums, own, out, site, forward,
             );
             bound = bound.wrapping_add(reached);
         }
@@ -419,30 +442,30 @@ fn least_label(sums: &[u64]) -> u32
 
 /// Adds what a pair says of the labels of one of its sites: what the label of the other costs with
 /// each, where that site is above and has its label, else the message that came from there.
-fn add_pair(
+fn add_pair<F: Fn(u32, u32) -> i64 + Sync, V: Fn(u32, u32) -> i64 + Sync>(
+    problem: &Problem<F, V>,
+    costs: &mut PairCosts,
     sums: &mut [u64],
-    costs: &[u32],
     message: &[u32],
     labelling: &Labelling,
     pair: Pair,
     site: u32,
 )
-    requires costs { length costs.now ≡ length sums.old * length sums.old }
+    requires posed { IsPosed F.Fn V.Fn problem.now }
+    requires serves { ServesPairs F.Fn V.Fn problem.now costs.old }
+    requires weight { IsWeightIn problem.now.pairs pair.weight }
+    requires sums { length sums.old ≡ problem.now.data_cost.labels }
     requires message { length message.now ≡ length sums.old }
-    requires labels { labelling.now.labels ≡ length sums.old }
-    requires pair { IsPair (length labelling.now.at) pair }
+    requires fits { FitsProblem problem.now labelling.now }
+    requires pair { IsPair problem.now.pairs.sites pair }
+    ensures { ServesPairs F.Fn V.Fn problem.now costs.new }
 {
     let from_first = pair.first == site;
     let other = if from_first { pair.second } else { pair.first };
     if site < other {
-        let label = labelling.as_slice()[other as usize];
-        add_costs(
-            sums,
-            costs,
-            u64::from(pair.weight),
-            label as usize,
-            from_first,
-        );
+        let label = labelling.as_slice()[other as usize] as usize;
+        let times = costs.load(problem, pair.weight);
+        add_costs(sums, costs.as_slice(), u64::from(times), label, from_first);
     } else {
         add_message(sums, message);
     }
@@ -452,7 +475,7 @@ fn add_pair(
 fn read_label<F: Fn(u32, u32) -> i64 + Sync, V: Fn(u32, u32) -> i64 + Sync>(
     problem: &Problem<F, V>,
     ends: &Groups,
-    costs: &[u32],
+    costs: &mut PairCosts,
     messages: &[u32],
     sums: &mut [u64],
     labelling: &Labelling,
@@ -461,12 +484,13 @@ fn read_label<F: Fn(u32, u32) -> i64 + Sync, V: Fn(u32, u32) -> i64 + Sync>(
     requires posed { IsPosed F.Fn V.Fn problem.now }
     requires ends { ArePairEnds problem.now.pairs ends.now }
     requires site { site < problem.now.pairs.sites }
+    requires serves { ServesPairs F.Fn V.Fn problem.now costs.old }
     requires sums { length sums.old ≡ problem.now.data_cost.labels }
     requires few { (0 < length sums.old) × (length sums.old ≤ label_limit) }
-    requires costs { length costs.now ≡ length sums.old * length sums.old }
     requires messages { length messages.now ≡ length problem.now.pairs.list * length sums.old }
     requires fits { FitsProblem problem.now labelling.now }
-    ensures { result < problem.now.data_cost.labels }
+    ensures label { result < problem.now.data_cost.labels }
+    ensures serves { ServesPairs F.Fn V.Fn problem.now costs.new }
 {
     load_costs(problem, site, sums);
     let labels = sums.len();
@@ -475,7 +499,7 @@ fn read_label<F: Fn(u32, u32) -> i64 + Sync, V: Fn(u32, u32) -> i64 + Sync>(
         let from = index * labels;
         let message = &messages[from..from + labels];
         let pair = problem.pairs.get(index);
-        add_pair(sums, costs, message, labelling, pair, site);
+        add_pair(problem, costs, sums, message, labelling, pair, site);
     }
     least_label(sums)
 }
@@ -485,19 +509,20 @@ fn read_label<F: Fn(u32, u32) -> i64 + Sync, V: Fn(u32, u32) -> i64 + Sync>(
 fn read_labels<F: Fn(u32, u32) -> i64 + Sync, V: Fn(u32, u32) -> i64 + Sync>(
     problem: &Problem<F, V>,
     ends: &Groups,
-    costs: &[u32],
+    costs: &mut PairCosts,
     messages: &[u32],
     sums: &mut [u64],
     labelling: &mut Labelling,
 )
     requires posed { IsPosed F.Fn V.Fn problem.now }
     requires ends { ArePairEnds problem.now.pairs ends.now }
+    requires serves { ServesPairs F.Fn V.Fn problem.now costs.old }
     requires sums { length sums.old ≡ problem.now.data_cost.labels }
     requires few { (0 < length sums.old) × (length sums.old ≤ label_limit) }
-    requires costs { length costs.now ≡ length sums.old * length sums.old }
     requires messages { length messages.now ≡ length problem.now.pairs.list * length sums.old }
     requires fits { FitsProblem problem.now labelling.old }
-    ensures { FitsProblem problem.now labelling.new }
+    ensures fits { FitsProblem problem.now labelling.new }
+    ensures serves { ServesPairs F.Fn V.Fn problem.now costs.new }
 {
     for site in (0..problem.pairs.sites()).rev() {
         let label = read_label(problem, ends, costs, messages, sums, labelling, site);
@@ -507,29 +532,30 @@ fn read_labels<F: Fn(u32, u32) -> i64 + Sync, V: Fn(u32, u32) -> i64 + Sync>(
 
 /// Turns the messages that came to the first site of their pair last, that of a pair whose first
 /// site is above its second, to the second.
-fn turn(
-    pairs: &Pairs,
-    costs: &[u32],
-    form: Form,
+fn turn<F: Fn(u32, u32) -> i64 + Sync, V: Fn(u32, u32) -> i64 + Sync>(
+    problem: &Problem<F, V>,
+    costs: &mut PairCosts,
     messages: &mut [u32],
     sums: &mut [u64],
     own: &mut [u64],
     out: &mut [u64],
 )
+    requires posed { IsPosed F.Fn V.Fn problem.now }
+    requires serves { ServesPairs F.Fn V.Fn problem.now costs.old }
+    requires sums { length sums.old ≡ problem.now.data_cost.labels }
     requires few { length sums.old < 2 ^ 32 }
-    requires costs { length costs.now ≡ length sums.old * length sums.old }
-    requires messages { length messages.old ≡ length pairs.now.list * length sums.old }
+    requires messages { length messages.old ≡ length problem.now.pairs.list * length sums.old }
     requires own { length own.old ≡ length sums.old }
     requires out { length out.old ≡ length sums.old }
 {
     let labels = sums.len();
     sums.fill(0);
-    for index in 0..pairs.len() {
-        let pair = pairs.get(index);
+    for index in 0..problem.pairs.len() {
+        let pair = problem.pairs.get(index);
         if pair.second < pair.first {
             let from = index * labels;
             let message = &mut messages[from..from + labels];
-            let _ = send(costs, form, sums, own, out, message, pair.weight, true);
+            let _ = send_pair(problem, costs, sums, own, out, message, pair.weight, true);
         }
     }
 }
@@ -544,7 +570,6 @@ pub(crate) fn messages_after<F: Fn(u32, u32) -> i64 + Sync, V: Fn(u32, u32) -> i
     passes: u32,
 ) -> Result<Vec<u32>, AllocError>
     requires posed { IsPosed F.Fn V.Fn problem.now }
-    requires weighted { problem.now.pairs.numbered ≡ false }
     requires fits { FitsProblem problem.now labelling.old }
     ensures size { IfOk result (λ messages. length messages.items
         ≡ length problem.now.pairs.list * problem.now.data_cost.labels) }
@@ -552,8 +577,7 @@ pub(crate) fn messages_after<F: Fn(u32, u32) -> i64 + Sync, V: Fn(u32, u32) -> i
 {
     let labels = labelling.labels() as usize;
     let ends = ends_of(alloc, &problem.pairs)?;
-    let costs = smooth_costs(alloc, problem)?;
-    let form = form_of(costs.as_slice(), labels);
+    let mut costs = PairCosts::new(alloc, problem)?;
     let mut messages = vec![in alloc; 0u32; problem.pairs.len() * labels]?;
     let mut sums = vec![in alloc; 0u64; labels]?;
     let mut own = vec![in alloc; 0u64; labels]?;
@@ -564,8 +588,7 @@ pub(crate) fn messages_after<F: Fn(u32, u32) -> i64 + Sync, V: Fn(u32, u32) -> i
         let bound = sweep(
             problem,
             &ends,
-            costs.as_slice(),
-            form,
+            &mut costs,
             messages.as_mut_slice(),
             sums.as_mut_slice(),
             own.as_mut_slice(),
@@ -580,15 +603,14 @@ pub(crate) fn messages_after<F: Fn(u32, u32) -> i64 + Sync, V: Fn(u32, u32) -> i
     read_labels(
         problem,
         &ends,
-        costs.as_slice(),
+        &mut costs,
         messages.as_slice(),
         sums.as_mut_slice(),
         labelling,
     );
     turn(
-        &problem.pairs,
-        costs.as_slice(),
-        form,
+        problem,
+        &mut costs,
         messages.as_mut_slice(),
         sums.as_mut_slice(),
         own.as_mut_slice(),

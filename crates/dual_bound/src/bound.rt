@@ -47,10 +47,9 @@ pub fn search_bytes<F: Fn(u32, u32) -> i64 + Sync, V: Fn(u32, u32) -> i64 + Sync
 /// A bound from below of the energies of all labellings: what messages prove after sweeps over the
 /// sites, and at least what the cheapest labels cost the sites. There are `passes` sweeps, or fewer
 /// once two of them raise the bound by less than a part in 10,000. More sweeps take longer, and
-/// mostly bring it nearer to the least energy. Where each pair has costs of its own, there are no
-/// sweeps, and the bound is what the cheapest labels cost the sites. Refuses before any work where
-/// the search takes more bytes than are allowed, as `search_bytes` counts them, and else only where
-/// memory runs out.
+/// mostly bring it nearer to the least energy. Where each pair has costs of its own, a sweep asks
+/// for all of them. Refuses before any work where the search takes more bytes than are allowed, as
+/// `search_bytes` counts them, and else only where memory runs out.
 pub fn lower_bound<F: Fn(u32, u32) -> i64 + Sync, V: Fn(u32, u32) -> i64 + Sync>(
     alloc: Global,
     problem: &Problem<F, V>,
@@ -97,12 +96,6 @@ fn bound_after<F: Fn(u32, u32) -> i64 + Sync, V: Fn(u32, u32) -> i64 + Sync>(
 {
     let sites = bound_of_sites(problem) as i64;
     let mut labelling = Labelling::new(alloc, problem.pairs.sites(), problem.data_cost.labels)?;
-    if problem.pairs.are_numbered() {
-        return Ok(LowerBound {
-            low: sites,
-            labelling,
-        });
-    }
     let messages = messages_after(alloc, problem, &mut labelling, passes)?;
     let bound = bound_by_messages(alloc, problem, messages.as_slice())?;
     let low = greater(bound, sites);

@@ -1,4 +1,5 @@
 pub mod Entries
+pub mod Filled
 pub mod Gentle
 pub mod Level
 pub mod Under

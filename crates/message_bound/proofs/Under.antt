@@ -12,7 +12,8 @@ use Rattle.sums.proofs.SumLemmas.{sum_below-same}
 use Rattle.label_field.specs.declared.pair.Pair.{Pair}
 use Rattle.label_energies.specs.Energies.{Instance, energy, data_energy, pair_cost}
 use Rattle.message_bound.specs.Rows.{ground, AreRaised, row_entry, entries_of}
-use Rattle.message_bound.specs.Costs.{parts, AreSmoothCosts}
+use Rattle.message_bound.specs.Costs.{parts}
+use Rattle.message_bound.specs.PairTables.{ArePairCosts}
 use Rattle.message_bound.specs.Bounds.{ArePaid, AreUnder, IsLowerBound}
 use Rattle.message_bound.proofs.Entries.{entries_raised, sum_above}
 
@@ -33,12 +34,12 @@ first_under m n w rows sites labels each g labelled =
     subst P (sym labels) (omega (arith, total))
 
 -- one message passed
-pub passed : (m : Instance) (index n w c d e : ℕ) (pair : Pair) (list : List Pair) (costs taken given added old low mid new : List ℕ)
-    → m.sites ≡ n → m.labels ≡ w → m.pairs ≡ list → AreSmoothCosts m w costs → index < length list → slice_get list index ≡ Some pair
+pub passed : (m : Instance) (index n w c d e times : ℕ) (pair : Pair) (list : List Pair) (costs taken given added old low mid new : List ℕ)
+    → m.sites ≡ n → m.labels ≡ w → m.pairs ≡ list → ArePairCosts m w pair.weight costs times → index < length list → slice_get list index ≡ Some pair
     → pair.first < n → pair.second < n → c ≡ w → e ≡ w → d ≡ w
     → AreRaised (pair.first * w) c taken low old → AreRaised (pair.first * w) e given low mid → AreRaised (pair.second * w) d added mid new
-    → ArePaid w (λ a b. pair.weight * get_or costs (a * w + b) 0) added taken given → AreUnder m index old → AreUnder m (index + 1) new
-passed m index n w c d e pair list costs taken given added old low mid new sites labels pairs are within here first second cw ew dw lowered gave raised paid under g labelled =
+    → ArePaid w (λ a b. times * get_or costs (a * w + b) 0) added taken given → AreUnder m index old → AreUnder m (index + 1) new
+passed m index n w c d e times pair list costs taken given added old low mid new sites labels pairs are within here first second cw ew dw lowered gave raised paid under g labelled =
     let lf : pair.first < m.sites = omega (arith, first, sites) in
     let ls : pair.second < m.sites = omega (arith, second, sites) in
     let each = λ (p : ℕ) (l : p < m.sites). let h : g p < w = omega (arith, labelled p l, labels) in h in
@@ -46,7 +47,7 @@ passed m index n w c d e pair list costs taken given added old low mid new sites
     let between = entries_raised m.sites w pair.first e given low mid g lf each ew gave in
     let behind = entries_raised m.sites w pair.second d added mid new g ls each dw raised in
     let due = paid (g pair.first) (g pair.second) (each pair.first lf) (each pair.second ls) in
-    let entry_is = are (g pair.first) (g pair.second) pair.weight (each pair.first lf) (each pair.second ls) in
+    let entry_is = are (g pair.first) (g pair.second) (each pair.first lf) (each pair.second ls) in
     let inside : index < length m.pairs = omega (arith, within, ap (λ (ps : List Pair). length ps) pairs) in
     let read : get_or m.pairs index pair ≡ pair = ap (λ (ps : List Pair). get_or ps index pair) pairs ∙ get_or_from_slice_get list index pair pair here in
     let more = sum_by_more (pair_cost m g) m.pairs index pair inside in

@@ -1,6 +1,6 @@
 -- Weak duality: messages move costs between sites and pairs, and whatever they are, what the sites
 -- cost at least then is a bound from below.
-use Rattle.std.specs.Prelude.{◌==◌, ℕ, suc, ◌*◌, ◌<◌, ℤ, pos, ◌+ℤ◌, ◌≤ℤ◌, List, [], ◌∷◌}
+use Rattle.std.specs.Prelude.{◌==◌, ℕ, suc, ◌<◌, ℤ, pos, ◌+ℤ◌, ◌≤ℤ◌, List, [], ◌∷◌}
 use Rattle.sums.specs.IntegerSums.{int_sum_below, int_counted}
 use Rattle.label_field.specs.declared.pair.Pair.{Pair}
 use Rattle.label_energies.specs.Energies.{Instance, IsInstance}

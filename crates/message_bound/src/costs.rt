@@ -47,7 +47,7 @@ fn smooth_parts<F: Fn(u32, u32) -> i64 + Sync, V: Fn(u32, u32) -> i64 + Sync>(
 }
 
 /// The table of what two labels cost, in parts, row after row.
-pub fn smooth_costs<F: Fn(u32, u32) -> i64 + Sync, V: Fn(u32, u32) -> i64 + Sync>(
+pub(crate) fn smooth_costs<F: Fn(u32, u32) -> i64 + Sync, V: Fn(u32, u32) -> i64 + Sync>(
     alloc: Global,
     problem: &Problem<F, V>,
 ) -> Result<Vec<u32>, AllocError>
@@ -152,7 +152,7 @@ fn square_of(costs: &[u32], labels: usize) -> Option<Slope>
 }
 
 /// The form of the costs of so many labels.
-pub fn form_of(costs: &[u32], labels: usize) -> Form
+pub(crate) fn form_of(costs: &[u32], labels: usize) -> Form
     requires size { length costs.now ≡ labels * labels }
     requires few { labels ≤ label_limit }
     ensures { IsOfForm labels costs.now result }

@@ -11,8 +11,10 @@ pub mod laws;
 mod messages;
 mod rows;
 mod sites;
+mod tables;
 
-pub use costs::{Form, PARTS, Slope, form_of, smooth_costs};
+pub use costs::{Form, PARTS, Slope};
 pub use messages::bound_by_messages;
 pub use rows::least;
 pub use sites::bound_of_sites;
+pub use tables::PairCosts;

@@ -1,19 +1,18 @@
 //! The bound that messages prove, whatever they are.
 ghost use Rattle.std.specs.Prelude.{◌≡◌, ℕ, pos, ◌+◌, ◌-◌, ◌*◌, ◌^◌, ◌<◌, ◌≤◌, length, slice_index};
-ghost use Rattle.std.specs.Prelude.{IfOk, IfSome, IsTrue, List, false};
+ghost use Rattle.std.specs.Prelude.{IfOk, IfSome, IsTrue, List};
 ghost use Rattle.label_field.specs.Limits.{label_limit, weight_limit};
-ghost use Rattle.label_energies.specs.Energies.{Instance};
 ghost use Rattle.cost_store.specs.Posed.{IsPosed, WhereMeant};
 ghost use Rattle.message_bound.specs.Rows.{ground, AreRowsInRange};
 ghost use Rattle.message_bound.specs.Bounds.{IsLowerBound, ArePaid, AreTakenOff, AreUnder};
-ghost use Rattle.message_bound.specs.Costs.{parts, AreSmoothCosts, IsSlopeOf, IsQuadraticOf};
-ghost use Rattle.message_bound.specs.Costs.{IsOfForm};
+ghost use Rattle.message_bound.specs.Costs.{parts, IsSlopeOf, IsQuadraticOf, IsOfForm};
+ghost use Rattle.message_bound.specs.PairTables.{ServesPairs};
 
 use crate::bends::{are_level, take_squares};
-use crate::costs::{Form, PARTS, Slope, are_gentle, form_of, smooth_costs};
+use crate::costs::{Form, PARTS, Slope, are_gentle};
 use crate::rows::{GROUND, least_above_ground, lower, raise};
+use crate::tables::PairCosts;
 use cost_store::Problem;
-use label_field::Pairs;
 use std::alloc::{AllocError, Global};
 
 /// What a label costs a site, in parts, above the ground.
@@ -212,66 +211,65 @@ fn take(costs: &[u32], form: Form, weight: u32, added: &[u32], taken: &mut [u32]
 
 /// Passes the message of one pair: what it adds at the labels of its second site, and what is taken
 /// off for it or given at those of its first. `taken` and `given` are room for one number a label.
-fn pass_message(
-    pairs: &Pairs,
-    costs: &[u32],
-    form: Form,
+fn pass_message<F: Fn(u32, u32) -> i64 + Sync, V: Fn(u32, u32) -> i64 + Sync>(
+    problem: &Problem<F, V>,
+    costs: &mut PairCosts,
     rows: &mut [u64],
     index: usize,
     added: &[u32],
     taken: &mut [u32],
     given: &mut [u32],
 )
-    requires weighted { pairs.now.numbered ≡ false }
-    requires index { index < length pairs.now.list }
-    requires size { length rows.old ≡ pairs.now.sites * length added.now }
-    requires costs { length costs.now ≡ length added.now * length added.now }
-    requires form { IsOfForm (length added.now) costs.now form }
+    requires posed { IsPosed F.Fn V.Fn problem.now }
+    requires serves { ServesPairs F.Fn V.Fn problem.now costs.old }
+    requires index { index < length problem.now.pairs.list }
+    requires added { length added.now ≡ problem.now.data_cost.labels }
     requires few { length added.now ≤ label_limit }
+    requires size { length rows.old ≡ problem.now.pairs.sites * length added.now }
     requires range { AreRowsInRange index rows.old }
     requires taken { length taken.old ≡ length added.now }
     requires given { length given.old ≡ length added.now }
+    ensures serves { ServesPairs F.Fn V.Fn problem.now costs.new }
     ensures range { AreRowsInRange (index + 1) rows.new }
-    ensures under { (m : Instance) → m.sites ≡ pairs.now.sites → m.labels ≡ length added.now
-        → m.pairs ≡ pairs.now.list → AreSmoothCosts m (length added.now) costs.now
-        → AreUnder m index rows.old → AreUnder m (index + 1) rows.new }
+    ensures under { WhereMeant F.Fn V.Fn problem.now
+        (λ m. AreUnder m index rows.old → AreUnder m (index + 1) rows.new) }
 {
-    pairs.keeps();
+    problem.pairs.keeps();
     let labels = added.len();
-    let pair = pairs.get(index);
-    take(costs, form, pair.weight, added, taken, given);
+    let pair = problem.pairs.get(index);
+    let weight = costs.load(problem, pair.weight);
+    take(costs.as_slice(), costs.form(), weight, added, taken, given);
     lower(rows, pair.first as usize * labels, taken);
     raise(rows, pair.first as usize * labels, given);
     raise(rows, pair.second as usize * labels, added);
 }
 
 /// Passes the messages of all pairs.
-fn pass_all(
-    pairs: &Pairs,
-    labels: usize,
-    costs: &[u32],
+fn pass_all<F: Fn(u32, u32) -> i64 + Sync, V: Fn(u32, u32) -> i64 + Sync>(
+    problem: &Problem<F, V>,
+    costs: &mut PairCosts,
     rows: &mut [u64],
     messages: &[u32],
     taken: &mut [u32],
     given: &mut [u32],
 )
-    requires weighted { pairs.now.numbered ≡ false }
-    requires size { length rows.old ≡ pairs.now.sites * labels }
-    requires few { labels ≤ label_limit }
-    requires costs { length costs.now ≡ labels * labels }
+    requires posed { IsPosed F.Fn V.Fn problem.now }
+    requires serves { ServesPairs F.Fn V.Fn problem.now costs.old }
+    requires few { problem.now.data_cost.labels ≤ label_limit }
+    requires size { length rows.old ≡ problem.now.pairs.sites * problem.now.data_cost.labels }
     requires range { AreRowsInRange 0 rows.old }
-    requires messages { length messages.now ≡ length pairs.now.list * labels }
-    requires taken { length taken.old ≡ labels }
-    requires given { length given.old ≡ labels }
-    ensures { (m : Instance) → m.sites ≡ pairs.now.sites → m.labels ≡ labels
-        → m.pairs ≡ pairs.now.list → AreSmoothCosts m labels costs.now
-        → AreUnder m 0 rows.old → AreUnder m (length pairs.now.list) rows.new }
+    requires messages { length messages.now
+        ≡ length problem.now.pairs.list * problem.now.data_cost.labels }
+    requires taken { length taken.old ≡ problem.now.data_cost.labels }
+    requires given { length given.old ≡ problem.now.data_cost.labels }
+    ensures { WhereMeant F.Fn V.Fn problem.now (λ m. AreUnder m 0 rows.old
+        → AreUnder m (length problem.now.pairs.list) rows.new) }
 {
-    let form = form_of(costs, labels);
-    for index in 0..pairs.len() {
+    let labels = problem.data_cost.labels as usize;
+    for index in 0..problem.pairs.len() {
         let from = index * labels;
         let added = &messages[from..from + labels];
-        pass_message(pairs, costs, form, rows, index, added, taken, given);
+        pass_message(problem, costs, rows, index, added, taken, given);
     }
 }
 
@@ -298,7 +296,6 @@ pub fn bound_by_messages<F: Fn(u32, u32) -> i64 + Sync, V: Fn(u32, u32) -> i64 +
     messages: &[u32],
 ) -> Result<i64, AllocError>
     requires posed { IsPosed F.Fn V.Fn problem.now }
-    requires weighted { problem.now.pairs.numbered ≡ false }
     requires few { problem.now.data_cost.labels ≤ label_limit }
     requires messages { length messages.now
         ≡ length problem.now.pairs.list * problem.now.data_cost.labels }
@@ -306,15 +303,14 @@ pub fn bound_by_messages<F: Fn(u32, u32) -> i64 + Sync, V: Fn(u32, u32) -> i64 +
 {
     let labels = problem.data_cost.labels as usize;
     let sites = problem.pairs.sites() as usize;
-    let costs = smooth_costs(alloc, problem)?;
+    let mut costs = PairCosts::new(alloc, problem)?;
     let mut rows = first_rows(alloc, problem)?;
     let mut taken = vec![in alloc; 0u32; labels]?;
     let mut given = vec![in alloc; 0u32; labels]?;
     let entries = rows.as_mut_slice();
     pass_all(
-        &problem.pairs,
-        labels,
-        costs.as_slice(),
+        problem,
+        &mut costs,
         entries,
         messages,
         taken.as_mut_slice(),
