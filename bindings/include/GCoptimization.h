@@ -10,8 +10,8 @@
 // - Arrays are copied when they are set.
 // - Smooth costs by a function or functor are asked for at every pair and all labels in each call.
 //   If they are no weight of the two sites times one table of the labels, a call makes a table for
-//   each pair: 4 bytes for each two labels. Then a cost is at most 10,000,000, a bound counts the
-//   sites alone, and what is watched or printed is made move by move.
+//   each pair: 4 bytes for each two labels, and 12 for a bound. Then a cost is at most 10,000,000,
+//   and what is watched or printed is made move by move.
 // - A smooth cost or weight below 0 is refused. A common factor moves between weights and smooth
 //   costs. A weight that stays above 1,000 is laid down as several pairs of the same sites, which
 //   counts the same. After that a smooth cost is at most 10,000, and there are at most 4,194,304
@@ -546,15 +546,8 @@ private:
         }
         EnergyType bound(int passes, std::vector<std::uint32_t> &labels) {
             gco_bound told;
-            // no pair costs less than 0, so a bound without those that have tables is one, too
-            const std::size_t pair_count = laid.is_each ? 0 : laid.pairs->size();
-            const std::vector<std::int64_t> wide(costs.begin(), costs.end()),
-                paid(own.begin(), own.end()), smooth(laid.table.begin(), laid.table.end());
-            const std::uint32_t status = gco_lower_bound(
-                std::uint32_t(of.label_count_), wide.data(), wide.size(), smooth.data(),
-                smooth.size(), paid.data(), paid.size(), laid.pairs->data(), pair_count,
-                passes < 0 ? GCO_ALL_PASSES : std::uint32_t(passes), GCO_ANY_SIZE, labels.data(),
-                labels.size(), &told);
+            const std::uint32_t status = laid.bound(
+                costs, own, passes < 0 ? GCO_ALL_PASSES : std::uint32_t(passes), labels, told);
             of.outcome_ = gco_outcome();
             of.outcome_.place = told.place;
             check(status);

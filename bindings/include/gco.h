@@ -90,7 +90,7 @@ enum {
     GCO_WEIGHT_RANGE = 14,      /* the weight of pairs[place] (a number of a term) is out of its range */
     GCO_NO_SUCH_LABEL = 11,     /* labels[place], as it was given, is not below label_count */
     GCO_NO_SUCH_MOVE = 8,       /* gco_expand, gco_swap: alpha or beta is not below label_count */
-    GCO_TOO_LARGE = 9,          /* gco_lower_bound: it would take more bytes than `allowed` */
+    GCO_TOO_LARGE = 9,          /* gco_lower_bound, _pairs: it would take more bytes than `allowed` */
     GCO_LABEL_COST_IN_SWAP = 27, /* swaps, where some label costs more than 0 by itself */
     GCO_NOT_REGULAR = 24,       /* the term of pairs[place] in the move of alpha and beta is not regular: the smooth costs
                                  * are no metric */
@@ -253,7 +253,7 @@ uint32_t gco_swap_int32(uint32_t label_count,
  * No metric is asked for. Each move tests the terms of all pairs, and refuses the first that is not regular. No expansion
  * is refused so where the costs of each pair are a metric.
  *
- * The tables are read where they lie. No bound is told.
+ * The tables are read where they lie. No bound is told: gco_lower_bound_pairs tells one.
  *
  * Told: data, smooth, label, cycles, settled. */
 uint32_t gco_label_pairs(uint32_t label_count,
@@ -320,7 +320,7 @@ uint32_t gco_swap_pairs_int32(uint32_t label_count,
                               uint32_t *labels, size_t site_count,
                               gco_outcome *told);
 
-/* What gco_lower_bound tells beside its status and its labels; all of it is written by each call. */
+/* What a call for a bound tells beside its status and its labels; all of it is written by each call. */
 typedef struct gco_bound {
     int64_t low;    /* the bound; else 0 */
     uint64_t place; /* refused: the place in the array that the status names, from 0; else 0 */
@@ -345,6 +345,19 @@ uint32_t gco_lower_bound(uint32_t label_count,
                          uint32_t passes, uint64_t allowed,
                          uint32_t *labels, size_t site_count,
                          gco_bound *told);
+
+/* What gco_lower_bound tells, over the pairs of gco_label_pairs. It takes as many bytes.
+ *
+ * Told: low. */
+uint32_t gco_lower_bound_pairs(uint32_t label_count,
+                               const int64_t *data, size_t data_count,
+                               uint32_t table_count, const int64_t *tables, size_t entry_count,
+                               const int64_t *label_costs, size_t label_cost_count,
+                               const gco_pair *pairs, size_t pair_count,
+                               const uint32_t *table_of, size_t table_of_count,
+                               uint32_t passes, uint64_t allowed,
+                               uint32_t *labels, size_t site_count,
+                               gco_bound *told);
 #define GCO_ALL_PASSES UINT32_MAX /* until the bound rises little */
 #define GCO_ANY_SIZE UINT64_MAX
 

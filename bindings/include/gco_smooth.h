@@ -252,6 +252,23 @@ struct Laid {
                               pairs->size(), alpha, beta, at.data(), at.size(), &told);
     }
 
+    // over a copy of all costs in 64 bits
+    std::uint32_t bound(const Costs &data, const Costs &paid, std::uint32_t passes, Labels &at,
+                        gco_bound &told) const {
+        const Costs &laid = is_each ? tables : table;
+        const std::vector<std::int64_t> wide(data.begin(), data.end()),
+            smooth(laid.begin(), laid.end()), label_costs(paid.begin(), paid.end());
+        if (is_each)
+            return gco_lower_bound_pairs(
+                std::uint32_t(k), wide.data(), wide.size(), std::uint32_t(own.size()),
+                smooth.data(), smooth.size(), label_costs.data(), label_costs.size(), own.data(),
+                own.size(), nullptr, 0, passes, GCO_ANY_SIZE, at.data(), at.size(), &told);
+        return gco_lower_bound(std::uint32_t(k), wide.data(), wide.size(), smooth.data(),
+                               smooth.size(), label_costs.data(), label_costs.size(),
+                               pairs->data(), pairs->size(), passes, GCO_ANY_SIZE, at.data(),
+                               at.size(), &told);
+    }
+
     const std::vector<gco_pair> &given;
     const Function &function;
     const std::size_t k;

@@ -46,7 +46,7 @@ static const uint32_t table_of[6];
 static uint32_t labels[5];
 static uint8_t bits[3];
 
-enum { CALLS = 13, WROTE = 99 };
+enum { CALLS = 14, WROTE = 99 };
 
 /* The rest of a run after two moves, whose memory is not refused. What a refusal writes is told by a
  * status of its own. */
@@ -113,6 +113,9 @@ static uint32_t call(int which) {
     case 11:
         return gco_swap_pairs(3, data, 15, 1, smooth, 9, NULL, 0, pairs, 6, table_of, 6, 0, 2,
                               labels, 5, &told);
+    case 12:
+        return gco_lower_bound_pairs(3, data, 15, 1, smooth, 9, costs, 3, pairs, 6, table_of, 6, 9,
+                                     GCO_ANY_SIZE, labels, 5, &bound);
     default: return gco_minimise(10, ones, 1, twos, 1, threes, 1, bits, 3, &found);
     }
 }

@@ -145,6 +145,48 @@ static int refused(void) {
     return 0;
 }
 
+static gco_bound bound;
+#define BFRESH(call) (memset(&bound, 0xff, sizeof bound), (call))
+#define UNBOUND(call, status, at) WANT(BFRESH(call) == (status) && bound.low == 0 && bound.place == (at))
+
+static uint32_t bound_of(uint32_t label_count, size_t data_count, uint32_t table_count, size_t entry_count, size_t cost_count,
+                         size_t number_count, uint64_t allowed) {
+    return gco_lower_bound_pairs(label_count, data, data_count, table_count, tables, entry_count, costs, cost_count, pairs, 2, table_of,
+                                 number_count, 50, allowed, labels, 3, &bound);
+}
+
+static int bounded(void) {
+    /* a row's bound is its least energy, which its labels have: of the tables as they stand, and exchanged */
+    WANT(BFRESH(bound_of(2, 6, 2, 8, 0, 0, 64)) == GCO_OK && bound.low == 7 && bound.place == 0);
+    WANT(labels[0] == 1 && labels[1] == 1 && labels[2] == 1);
+    WANT(BFRESH(bound_of(2, 6, 2, 8, 2, 2, 64)) == GCO_OK && bound.low == 3 && bound.place == 0);
+    WANT(labels[0] == 0 && labels[1] == 1 && labels[2] == 1);
+    /* no pass, and nothing at all */
+    WANT(BFRESH(gco_lower_bound_pairs(2, data, 6, 2, tables, 8, NULL, 0, pairs, 2, NULL, 0, 0, 64, labels, 3, &bound)) == GCO_OK);
+    WANT(bound.low >= 1 && bound.low <= 7 && bound.place == 0);
+    WANT(BFRESH(gco_lower_bound_pairs(1, NULL, 0, 0, NULL, 0, NULL, 0, NULL, 0, NULL, 0, 1, 0, NULL, 0, &bound)) == GCO_OK);
+    WANT(bound.low == 0 && bound.place == 0);
+    memset(labels, 0, sizeof labels);
+    UNBOUND(bound_of(2, 6, 2, 8, 0, 0, 63), GCO_TOO_LARGE, 0);
+    UNBOUND(bound_of(0, 6, 2, 8, 0, 0, 64), GCO_LABEL_COUNT, 0);
+    UNBOUND(bound_of(2, 5, 2, 8, 0, 0, 64), GCO_DATA_COUNT, 0);
+    UNBOUND(bound_of(2, 6, 2, 7, 0, 0, 64), GCO_SMOOTH_COUNT, 0);
+    UNBOUND(bound_of(2, 6, 2, 8, 1, 0, 64), GCO_LABEL_COST_COUNT, 0);
+    UNBOUND(bound_of(2, 6, 2, 8, 0, 1, 64), GCO_TABLE_OF_COUNT, 0);
+    UNBOUND(bound_of(2, 6, 1, 4, 0, 0, 64), GCO_NO_SUCH_TABLE, 1);
+    tables[6] = GCO_PAIR_COST_LIMIT / 2 + 1;
+    UNBOUND(bound_of(2, 6, 2, 8, 0, 0, 0), GCO_PAIR_COST_RANGE, 1);
+    tables[6] = GCO_PAIR_COST_LIMIT / 2;
+    WANT(BFRESH(bound_of(2, 6, 2, 8, 0, 0, 64)) == GCO_OK && bound.low == 7);
+    tables[6] = 2;
+    labels[0] = labels[1] = 0;
+    labels[2] = 2;
+    UNBOUND(bound_of(2, 6, 2, 8, 0, 0, 64), GCO_NO_SUCH_LABEL, 2);
+    labels[2] = 0;
+    WANT(!memcmp(labels, zero, sizeof labels));
+    return 0;
+}
+
 /* a small problem, and its chain of best moves */
 enum { SITES = 5, LABELS = 3, PAIRS = 10, TABLES = 12 };
 static struct {
@@ -255,8 +297,38 @@ static void make(void) {
     for (int s = 0; s < p.sites; s++) p.at[s] = (uint32_t)below(k);
 }
 
-static int by_definition(int *answered, int *irregular) {
+/* the bound is at most the least energy of all labellings, and at least what the cheapest labels cost the sites */
+static int bounded_by_definition(int *met) {
+    const uint32_t k = (uint32_t)p.labels;
+    const size_t n = (size_t)p.sites, entries = (size_t)p.tables * k * k, numbers = p.numbered ? (size_t)p.pairs : 0;
+    uint32_t f[SITES] = {0}, at[SITES];
+    int64_t least = energy(f), cheapest = 0;
+    for (int s = 0; s < p.sites;) {
+        if (++f[s] == k) {
+            f[s++] = 0;
+            continue;
+        }
+        const int64_t value = energy(f);
+        least = value < least ? value : least;
+        s = 0;
+    }
+    for (int s = 0; s < p.sites; s++) {
+        int64_t low = p.data[s * p.labels];
+        for (int l = 1; l < p.labels; l++) low = p.data[s * p.labels + l] < low ? p.data[s * p.labels + l] : low;
+        cheapest += low;
+    }
+    memcpy(at, p.at, sizeof at);
+    WANT(BFRESH(gco_lower_bound_pairs(k, p.data, n * k, (uint32_t)p.tables, p.table, entries, p.paid, k, p.pair, (size_t)p.pairs, p.number,
+                                      numbers, (uint32_t)(below(3) ? 50 : below(3)), GCO_ANY_SIZE, at, n, &bound)) == GCO_OK);
+    WANT(cheapest <= bound.low && bound.low <= least && bound.place == 0);
+    for (int s = 0; s < p.sites; s++) WANT(at[s] < k);
+    *met += bound.low == least;
+    return 0;
+}
+
+static int by_definition(int *answered, int *irregular, int *met) {
     make();
+    if (bounded_by_definition(met)) return 1;
     const uint32_t k = (uint32_t)p.labels;
     const size_t n = (size_t)p.sites, entries = (size_t)p.tables * k * k, numbers = p.numbered ? (size_t)p.pairs : 0;
     const int is_swap = below(2), most = below(3) ? 50 : below(3), is_single = below(3) == 0, a = below(p.labels), b = below(p.labels);
@@ -298,11 +370,12 @@ static int by_definition(int *answered, int *irregular) {
 }
 
 int main(void) {
-    int answered = 0, irregular = 0;
-    if (worked() || refused()) return 1;
+    int answered = 0, irregular = 0, met = 0;
+    if (worked() || refused() || bounded()) return 1;
     for (int turn = 0; turn < 2000; turn++)
-        if (by_definition(&answered, &irregular)) return 1;
-    WANT(answered > 1000 && irregular > 100);
-    printf("c: pairs with costs of their own, 2,000 random problems by the definition (%d answered, %d not regular)\n", answered, irregular);
+        if (by_definition(&answered, &irregular, &met)) return 1;
+    WANT(answered > 1000 && irregular > 100 && met > 1000);
+    printf("c: pairs with costs of their own, 2,000 random problems by the definition (%d answered, %d not regular, %d whose bound is the least energy)\n",
+           answered, irregular, met);
     return 0;
 }

@@ -123,8 +123,26 @@ static std::string irregular(const Definition &d) {
 }
 
 struct Counts {
-    int answered = 0, irregular = 0, label_cost = 0, heavy = 0;
+    int answered = 0, irregular = 0, label_cost = 0, heavy = 0, met = 0;
 };
+
+// whether some labelling costs just what the bound is: none costs less, and the cheapest labels of
+// the sites no more
+static bool is_met(const Definition &d, long long low) {
+    std::vector<int> f(as(d.sites), 0);
+    long long least = d.energy(f), cheapest = 0;
+    for (std::size_t s = 0; s < f.size();) {
+        if (++f[s] == d.labels) {
+            f[s++] = 0;
+            continue;
+        }
+        least = std::min(least, d.energy(f));
+        s = 0;
+    }
+    for (const auto &row : d.data) cheapest += *std::min_element(row.begin(), row.end());
+    WANT(cheapest <= low && low <= least);
+    return low == least;
+}
 
 static void labels_by_definition(Random &random, Counts &counts, bool has_own) {
     // a table and weights, or the weights inside a function
@@ -143,6 +161,7 @@ static void labels_by_definition(Random &random, Counts &counts, bool has_own) {
     bool has_label_cost = false;
     for (long long cost : d.label_costs) has_label_cost = has_label_cost || cost > 0;
     WANT(gc.compute_energy() == d.energy(start));
+    counts.met += is_met(d, gc.lowerBound(random.below(3) ? -1 : random.below(3)));
     std::string told;
     long long energy = 0;
     try {
@@ -286,10 +305,10 @@ int main() {
     Counts counts;
     for (int turn = 0; turn < 2000; turn++) labels_by_definition(random, counts, false);
     WANT(counts.answered > 1000 && counts.irregular > 50 && counts.label_cost > 50 &&
-         counts.heavy > 200);
+         counts.heavy > 200 && counts.met > 1000);
     Counts own;
     for (int turn = 0; turn < 2000; turn++) labels_by_definition(random, own, true);
-    WANT(own.answered > 1000 && own.irregular > 50 && own.label_cost > 50);
+    WANT(own.answered > 1000 && own.irregular > 50 && own.label_cost > 50 && own.met > 1000);
     int refused = 0;
     for (int turn = 0; turn < 2000; turn++) energies_by_definition(random, refused);
     WANT(refused > 500);

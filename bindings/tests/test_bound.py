@@ -9,7 +9,7 @@ import sys
 if "--without-numpy" in sys.argv:
     sys.modules["numpy"] = None
 import gco
-from definitions import Problem
+from definitions import PairProblem, Problem
 from refusing import flat, refused
 
 DATA = [[4, 6, 9], [7, 5, 6], [8, 4, 7], [9, 7, 3], [6, 8, 5]]
@@ -54,7 +54,10 @@ def by_every_labelling(count):
         kind, smooth = smooth_costs(rng, k)
         shape, pairs = pairs_of(rng, sites)
         costs = [rng.randrange(0, 5) for _ in range(k)] if rng.random() < 0.2 else []
-        problem = Problem(data, smooth, pairs, costs)
+        problem, freed = Problem(data, smooth, pairs, costs), Problem(data, smooth, pairs, [])
+        if pairs and rng.random() < 0.3:  # a table for each pair
+            smooth = [smooth_costs(rng, k)[1] for _ in pairs]
+            problem, freed = PairProblem(data, smooth, k, pairs, costs), PairProblem(data, smooth, k, pairs, [])
         least = min(map(problem.energy, itertools.product(range(k), repeat=sites)))
         bound = gco.lower_bound(data, smooth, pairs, label_costs=costs, passes=rng.choice([0, 1, 3, 20, 100]))
         where = (data, smooth, pairs, costs, bound)
@@ -65,7 +68,7 @@ def by_every_labelling(count):
         start = gco.label(data, smooth, pairs, label_costs=costs, cycles=0, start=bound.labels)
         assert start.energy == problem.energy(labels), where
         more = gco.lower_bound(data, smooth, pairs, passes=100).low
-        free = min(map(Problem(data, smooth, pairs, []).energy, itertools.product(range(k), repeat=sites)))
+        free = min(map(freed.energy, itertools.product(range(k), repeat=sites)))
         assert more <= free, where
         all_of[shape] = all_of.get(shape, 0) + 1
         met[shape] = met.get(shape, 0) + (more == free)
@@ -108,6 +111,12 @@ def refusals():
     refused(gco.Refused, gco.lower_bound, DATA, [[0, 1, 1], [1, 0, 1], [1, 10001, 0]], PAIRS, status=16, place=7)
     refused(gco.Refused, gco.lower_bound, DATA, potts, PAIRS, label_costs=[0, -1, 0], status=17, place=1)
     refused(gco.Refused, gco.lower_bound, DATA, potts, PAIRS, label_costs=[0], status=7)
+    tables = [potts] * 6
+    assert gco.lower_bound(DATA, tables, PAIRS, most_bytes=bytes_taken).low == gco.lower_bound(DATA, potts, PAIRS).low
+    refused(gco.Refused, gco.lower_bound, DATA, tables, PAIRS, most_bytes=bytes_taken - 1, status=9, says="most_bytes")
+    refused(gco.Refused, gco.lower_bound, DATA, tables[1:], PAIRS, status=5)
+    refused(gco.Refused, gco.lower_bound, DATA, [[[0, 5000001], [1, 0]]], [(0, 1, 2)], status=4)
+    refused(gco.Refused, gco.lower_bound, [[1, 2]] * 2, [[[0, 5000001], [1, 0]]], [(0, 1, 2)], status=32, place=0)
     refused(OverflowError, gco.lower_bound, DATA, potts, PAIRS, passes=-1, says="passes")
     refused(TypeError, gco.lower_bound, DATA, potts, PAIRS, passes=1.5, says="passes")
     refused(TypeError, gco.lower_bound, [[0.5, 1]], gco.potts(2), [])
@@ -126,6 +135,10 @@ def limits():
     energy = side * side * 10_000_000 + len(pairs) * 10_000_000
     assert side * side * 10_000_000 <= bound.low <= energy, bound.low
     assert bound.low == energy, (bound.low, energy)
+    # the same by a table for each pair
+    tables = np.full((len(pairs), 2, 2), 10000, dtype=np.int64)
+    assert gco.lower_bound(data, tables, pairs, passes=2).low == energy
+    del tables
     # costs of 0 and of the limit side by side
     data[::2, :, 0] = 0
     data[1::2, :, 1] = 0

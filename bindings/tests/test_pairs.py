@@ -21,7 +21,8 @@ def worked():
     assert list(found.labels) == [1, 1, 1] and found[1:] == (7, 3, 4, 0, 2, True, None), found
     found = gco.label(DATA, TABLES[::-1], PAIRS, moves="swap")
     assert list(found.labels) == [0, 1, 1] and found[1:] == (3, 1, 2, 0, 2, True, None), found
-    assert found.gap() == 2.0 and gco.lower_bound(DATA, TABLES, PAIRS).low == 1
+    bound = gco.lower_bound(DATA, TABLES, PAIRS)
+    assert found.gap() == 0.0 and (bound.low, list(bound.labels)) == (7, [1, 1, 1]), bound
     moved = gco.expand(DATA, TABLES, PAIRS, 1)
     assert (list(moved.labels), moved.energy, moved.settled) == ([1, 1, 1], 7, False)
     moved = gco.swap(DATA, TABLES[::-1], PAIRS, 0, 1, start=moved.labels)
@@ -60,7 +61,7 @@ def given(rng, problem):
 
 def by_definition(count):
     rng = random.Random(41)
-    kinds = {"answered": 0, 24: 0, 27: 0}
+    kinds = {"answered": 0, 24: 0, 27: 0, "bound met": 0}
     for turn in range(count):
         problem, start = a_problem(rng)
         moves, cycles = rng.choice(["expansion", "swap"]), rng.choice([0, 1, 2, 50])
@@ -72,14 +73,31 @@ def by_definition(count):
                 got = (tuple(flat(f.labels)), f.data, f.smooth, f.label, f.cycles, f.settled)
                 kinds["answered"] += 1
                 assert f.bound is None
-                low = gco.lower_bound(*given(rng, problem), problem.pairs, label_costs=problem.costs or None).low
-                assert sum(map(min, problem.data)) <= low <= min(map(problem.energy, itertools.product(range(problem.labels), repeat=problem.sites)))
+                passes = rng.choice([0, 1, 2, 50])
+                low = gco.lower_bound(*given(rng, problem), problem.pairs, label_costs=problem.costs or None, passes=passes).low
+                least = min(map(problem.energy, itertools.product(range(problem.labels), repeat=problem.sites)))
+                assert sum(map(min, problem.data)) <= low <= least
+                kinds["bound met"] += low == least
             except gco.Refused as error:
                 got = ("refused", error.status, error.place, error.alpha, error.beta)
                 kinds[error.status] += 1
             assert got == wanted, (turn, problem.__dict__, start, moves, cycles, wanted, got, more)
     assert all(kinds.values()), kinds
     return kinds
+
+
+def rows(count):
+    """Of a row of sites the bound is the least energy, however its pairs stand."""
+    rng = random.Random(44)
+    for _ in range(count):
+        sites, k = rng.randrange(1, 6), rng.randrange(1, 4)
+        data = [[rng.randrange(10) for _ in range(k)] for _ in range(sites)]
+        pairs = [((p, p + 1) if rng.random() < 0.5 else (p + 1, p)) + (rng.randrange(4),) for p in range(sites - 1)]
+        if not pairs:
+            continue
+        problem = PairProblem(data, [a_table(rng, "any", k) for _ in pairs], k, pairs, [])
+        found = gco.lower_bound(*given(rng, problem), pairs, passes=rng.choice([1, 2, 50]))
+        assert found.low == min(map(problem.energy, itertools.product(range(k), repeat=sites))), (problem.__dict__, found)
 
 
 def bad_input():
@@ -128,6 +146,7 @@ def stopped():
 
 
 worked()
+rows(300)
 bad_input()
 stopped()
 print("pairs with costs of their own:", by_definition(2000))

@@ -78,6 +78,7 @@ for _call, _types in [
     (calls.gco_swap_pairs, [*_PAIR_TABLES, _U32, _U32, *_SLICE, _OUT]),
     (calls.gco_swap_pairs_int32, [*_PAIR_TABLES, _U32, _U32, *_SLICE, _OUT]),
     (calls.gco_lower_bound, [*_TABLES, _U32, ctypes.c_uint64, *_SLICE, _OUT]),
+    (calls.gco_lower_bound_pairs, [*_PAIR_TABLES, _U32, ctypes.c_uint64, *_SLICE, _OUT]),
     (calls.gco_minimise, [ctypes.c_int64, *_SLICE, *_SLICE, *_SLICE, *_SLICE, _OUT]),
 ]:
     _call.restype, _call.argtypes = _U32, _types

@@ -10,7 +10,7 @@ from fractions import Fraction
 from typing import Any, NamedTuple, Optional
 
 from . import _library, arrays
-from ._library import ALL_CYCLES, ANY_SIZE, calls
+from ._library import ALL_CYCLES, ANY_SIZE
 from .arrays import whole
 from .labelling import Found, Problem, label
 from .scaling import costs_below
@@ -30,8 +30,7 @@ def lower_bound(data: Any, smooth: Any, pairs: Any, *, label_costs: Any = None,
                 passes: int = PASSES, most_bytes: Optional[int] = None) -> LowerBound:
     """A bound from below of the energy of every labelling of the problem.
 
-    The arrays are those of `label`; the smooth costs need be no metric. If each pair has a table,
-    the bound counts the sites alone. There are `passes` passes
+    The arrays are those of `label`; the smooth costs need be no metric. There are `passes` passes
     over the sites, or fewer if two of them raise the bound by less than a part in 10,000. Nothing
     is promised of how near the bound comes. It takes 8 bytes a site and label and 4 a pair and
     label; if these are more than `most_bytes`, it raises Refused, of status 9, at once. It raises
@@ -44,12 +43,8 @@ def bound_of(problem: Problem, passes: int, most_bytes: Optional[int] = None) ->
     """The bound of a problem of 64 bits, whose labels become those that the messages tell."""
     allowed = ANY_SIZE if most_bytes is None else whole(most_bytes, 0, ANY_SIZE, "most_bytes")
     told = _library.Bound()
-    slices, free = problem.slices, arrays.zeros(2 * problem.label_count**2)
-    if problem.has_tables:  # no pair costs less than 0: that of no pair is a bound, too
-        slices = [*slices[:2], arrays.run_of_labels(free)[0], problem.label_count**2, *slices[5:7],
-                  None, 0]
-    status = calls.gco_lower_bound(
-        problem.label_count, *slices, whole(passes, 0, ALL_CYCLES, "passes"), allowed,
+    status = problem.call_of("gco_lower_bound")(
+        problem.label_count, *problem.slices, whole(passes, 0, ALL_CYCLES, "passes"), allowed,
         problem.at, problem.sites, ctypes.addressof(told))
     if status:
         problem.told.place = told.place

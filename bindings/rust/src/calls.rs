@@ -450,6 +450,25 @@ extern "C" {
         site_count: usize,
         told: *mut Bound,
     ) -> u32;
+    pub fn gco_lower_bound_pairs(
+        label_count: u32,
+        data: *const i64,
+        data_count: usize,
+        table_count: u32,
+        tables: *const i64,
+        entry_count: usize,
+        label_costs: *const i64,
+        label_cost_count: usize,
+        pairs: *const Pair,
+        pair_count: usize,
+        table_of: *const u32,
+        table_of_count: usize,
+        passes: u32,
+        allowed: u64,
+        labels: *mut u32,
+        site_count: usize,
+        told: *mut Bound,
+    ) -> u32;
     pub fn gco_minimise(
         constant: i64,
         ones: *const One,

@@ -1,5 +1,5 @@
 //! Pairs each of which has costs of its own.
-use crate::calls::Outcome;
+use crate::calls::{gco_lower_bound_pairs, Bound, Outcome};
 use crate::{moved, Cost, Move, Moves, Pair, Refusal, Run};
 
 /// A problem of labels whose pairs have tables of costs: a pair costs its weight times the entry of
@@ -38,8 +38,8 @@ pub struct TableProblem<'a, Cost = i64> {
 
 /// The status of a call over the arrays of a problem, with the call's own numbers, and what it told.
 macro_rules! call_over_tables {
-    ($call:expr, $problem:expr, $labels:expr, $($number:expr),+) => {{
-        let mut told = Outcome::default();
+    ($told:ty, $call:expr, $problem:expr, $labels:expr, $($number:expr),+) => {{
+        let mut told = <$told>::default();
         // Safety: each pointer is of a slice with its length, and the labels and `told` are
         // borrowed by this call alone.
         let status = unsafe {
@@ -83,7 +83,7 @@ impl<C: Cost> TableProblem<'_, C> {
     ) -> Result<Run, Refusal> {
         let cycles = cycles.unwrap_or(u32::MAX);
         let (status, told) =
-            call_over_tables!(C::label_pairs(), self, labels, moves as u32, cycles);
+            call_over_tables!(Outcome, C::label_pairs(), self, labels, moves as u32, cycles);
         if status != 0 {
             return Err(Refusal::of_outcome(status, &told));
         }
@@ -92,13 +92,37 @@ impl<C: Cost> TableProblem<'_, C> {
 
     /// One move: every site keeps its label or takes `alpha`.
     pub fn expand(&self, alpha: u32, labels: &mut [u32]) -> Result<Move, Refusal> {
-        let (status, told) = call_over_tables!(C::expand_pairs(), self, labels, alpha);
+        let (status, told) = call_over_tables!(Outcome, C::expand_pairs(), self, labels, alpha);
         moved(status, &told)
     }
 
     /// One move: every site that has `alpha` or `beta` takes either.
     pub fn swap(&self, alpha: u32, beta: u32, labels: &mut [u32]) -> Result<Move, Refusal> {
-        let (status, told) = call_over_tables!(C::swap_pairs(), self, labels, alpha, beta);
+        let (status, told) =
+            call_over_tables!(Outcome, C::swap_pairs(), self, labels, alpha, beta);
         moved(status, &told)
+    }
+}
+
+impl TableProblem<'_, i64> {
+    /// What `Problem::lower_bound` does.
+    pub fn lower_bound(
+        &self,
+        passes: Option<u32>,
+        allowed: Option<u64>,
+        labels: &mut [u32],
+    ) -> Result<i64, Refusal> {
+        let (status, told) = call_over_tables!(
+            Bound,
+            gco_lower_bound_pairs,
+            self,
+            labels,
+            passes.unwrap_or(u32::MAX),
+            allowed.unwrap_or(u64::MAX)
+        );
+        if status != 0 {
+            return Err(Refusal::of_place(status, told.place as usize));
+        }
+        Ok(told.low)
     }
 }

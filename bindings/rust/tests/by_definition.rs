@@ -272,7 +272,9 @@ fn labels() {
             }
         }
         single_moves(&definition, &problem, &start, &mut random);
-        met += usize::from(is_bound_met(&definition, &problem, &start));
+        let mut at = start.clone();
+        let low = problem.lower_bound(None, None, &mut at).unwrap();
+        met += usize::from(is_bound_met(&definition, low, &at));
     }
     assert!(met > 1000, "{met}");
     assert!(
@@ -284,7 +286,7 @@ fn labels() {
 #[test]
 fn tables() {
     let mut random = Random(88172645463325253);
-    let (mut answered, mut irregular) = (0, 0);
+    let (mut answered, mut irregular, mut met) = (0, 0, 0);
     for _ in 0..2000 {
         let definition = Definition::with_tables(&mut random);
         let sites = definition.data.len() / definition.labels as usize;
@@ -321,6 +323,9 @@ fn tables() {
                 irregular += usize::from(refusal != Refusal::LabelCostInSwap);
             }
         }
+        let mut at = start.clone();
+        let low = problem.lower_bound(None, None, &mut at).unwrap();
+        met += usize::from(is_bound_met(&definition, low, &at));
         let a = random.below(definition.labels.into()) as u32;
         let moved = definition.moved(&labels, a, a);
         let told = problem.expand(a, &mut labels);
@@ -332,19 +337,18 @@ fn tables() {
             );
         }
     }
+    assert!(met > 1000, "{met}");
     assert!(answered > 1000 && irregular > 50, "{answered} {irregular}");
 }
 
-/// Whether the bound is the least energy of all labellings; it is never above that, nor below what
+/// Whether a bound is the least energy of all labellings; it is never above that, nor below what
 /// the cheapest labels cost.
-fn is_bound_met(definition: &Definition, problem: &Problem, start: &[u32]) -> bool {
-    let mut labels = start.to_vec();
-    let low = problem.lower_bound(None, None, &mut labels).unwrap();
+fn is_bound_met(definition: &Definition, low: i64, labels: &[u32]) -> bool {
     let k = definition.labels as usize;
-    let least = (0..k.pow(start.len() as u32))
+    let least = (0..k.pow(labels.len() as u32))
         .map(|number| {
             let label = |site: usize| (number / k.pow(site as u32) % k) as u32;
-            definition.energy(&(0..start.len()).map(label).collect::<Vec<u32>>())
+            definition.energy(&(0..labels.len()).map(label).collect::<Vec<u32>>())
         })
         .min()
         .unwrap();

@@ -1,10 +1,12 @@
 //! Bounds from below for C.
 ghost use Rattle.std.specs.Prelude.{◌≡◌, ◌≢◌};
 ghost use Rattle.gco_arrays.specs.Calls.{call_arrays};
+ghost use Rattle.gco_arrays.specs.PairCalls.{pair_call};
 ghost use Rattle.gco_calls.specs.Bounds.{IsBoundTold, IsBoundRefusalTold};
+ghost use Rattle.gco_calls.specs.PairBounds.{IsPairBoundRefusalTold, IsPairBoundTold};
 
-use gco_arrays::{Arrays, GcoPair};
-use gco_calls::{GcoBound, answer_bound};
+use gco_arrays::{Arrays, GcoPair, PairArrays};
+use gco_calls::{GcoBound, answer_bound, answer_pair_bound};
 use std::alloc::Global;
 
 /// A number that no labelling's energy is below, after at most so many passes over the sites, and
@@ -40,4 +42,46 @@ pub extern "C" fn gco_lower_bound(
         pairs,
     };
     answer_bound(alloc, &given, passes, allowed, labels, bound)
+}
+
+/// What `gco_lower_bound` tells, over pairs each of which has costs of its own: its weight times
+/// the entries of its table.
+#[unsafe(no_mangle)]
+pub extern "C" fn gco_lower_bound_pairs(
+    alloc: Global,
+    label_count: u32,
+    data: &[i64],
+    table_count: u32,
+    tables: &[i64],
+    label_costs: &[i64],
+    pairs: &[GcoPair],
+    table_of: &[u32],
+    passes: u32,
+    allowed: u64,
+    labels: &mut [u32],
+    bound: &mut GcoBound,
+) -> u32
+    ensures bound { result ≡ 0 → IsPairBoundTold (pair_call
+        (call_arrays label_count data.now tables.now label_costs.now pairs.now labels.old)
+        table_count table_of.now)
+        allowed labels.new bound.new }
+    ensures unchanged { result ≢ 0 → labels.new ≡ labels.old }
+    ensures refused { result ≢ 0 → IsPairBoundRefusalTold (pair_call
+        (call_arrays label_count data.now tables.now label_costs.now pairs.now labels.old)
+        table_count table_of.now)
+        allowed result bound.new }
+{
+    let arrays = Arrays {
+        label_count,
+        data,
+        smooth: tables,
+        label_costs,
+        pairs,
+    };
+    let given = PairArrays {
+        arrays,
+        table_count,
+        table_of,
+    };
+    answer_pair_bound(alloc, &given, passes, allowed, labels, bound)
 }

@@ -11,7 +11,7 @@ mod stretch;
 #[cfg(test)]
 mod tests;
 
-pub use bound::gco_lower_bound;
+pub use bound::{gco_lower_bound, gco_lower_bound_pairs};
 pub use gco_arrays::{GcoOne, GcoPair, GcoThree, GcoTwo};
 pub use gco_calls::{GcoBound, GcoCourse, GcoMinimum, GcoOutcome};
 pub use label::{gco_label, gco_label_int32};

@@ -1,8 +1,8 @@
 //! Each call of C once, with a worked example.
 use crate::{
     GcoBound, GcoMinimum, GcoOne, GcoOutcome, GcoPair, GcoThree, GcoTwo, gco_expand,
-    gco_expand_pairs, gco_label, gco_label_int32, gco_label_pairs, gco_lower_bound, gco_minimise,
-    gco_swap,
+    gco_expand_pairs, gco_label, gco_label_int32, gco_label_pairs, gco_lower_bound,
+    gco_lower_bound_pairs, gco_minimise, gco_swap,
 };
 use std::test::Fail;
 
@@ -455,5 +455,32 @@ fn pairs_of_their_own(rt: HostRuntime) -> Result<(), Fail> {
     );
     assert!(rt; status == [0, 31, 30, 0] && labels == [1, 1, 1]);
     assert!(rt; tells(&told, [3, 4, 0], [0; 3], [0, 0, 1, 0, 0]));
+    Ok(())
+}
+
+/// That row again: no labelling costs less than 7, and 1 1 1 costs it. It takes 64 bytes.
+#[test]
+fn bound_of_pairs_of_their_own(rt: HostRuntime) -> Result<(), Fail> {
+    let mut labels = [0u32; 3];
+    let mut told = GcoBound { low: 9, place: 9 };
+    let mut status = [9u32; 2];
+    for (place, allowed) in [63u64, 64].iter().enumerate() {
+        status[place] = gco_lower_bound_pairs(
+            rt.alloc(),
+            2,
+            &ROW_DATA,
+            2,
+            &OWN_TABLES,
+            &[],
+            &ROW,
+            &[],
+            20,
+            *allowed,
+            &mut labels,
+            &mut told,
+        );
+    }
+    assert!(rt; status == [9, 0] && labels == [1, 1, 1]);
+    assert!(rt; told.low == 7 && told.place == 0);
     Ok(())
 }

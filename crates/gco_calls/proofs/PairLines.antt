@@ -14,6 +14,9 @@ use Rattle.gco_arrays.specs.PairCalls.{ArePartsOfCall, IsPairCallGiven, IsPriceI
 use Rattle.gco_arrays.specs.declared.pairs.GcoPair.{GcoPair}
 use Rattle.gco_arrays.specs.declared.ready.Ready.{Ready}
 use Rattle.gco_arrays.proofs.Entries.{place_in}
+use Rattle.dual_bound.specs.declared.bound.LowerBound.{LowerBound}
+use Rattle.dual_bound.specs.declared.error.BoundError.{BoundError}
+use Rattle.gco_calls.specs.Bounds.{AnswersBound}
 use Rattle.gco_calls.specs.PairRuns.{AnswersAsked}
 use Rattle.gco_calls.specs.declared.asked.Asked.{Asked}
 use Rattle.gco_calls.specs.declared.asked.Made.{Made}
@@ -58,6 +61,11 @@ pub asked_given : (a : PairCall) (ready : Ready) (asked : Asked) (r : Result Mad
     → AnswersAsked (instance_of_call (call_of_parts a ready)) asked ready.start.at r → AnswersAsked (instance_of_call a) asked a.arrays.start r
 asked_given a ready asked r is answers =
     let P : PairCall → Type 0 = λ c. AnswersAsked (instance_of_call c) asked c.arrays.start r in subst P (same_call a ready is) answers
+
+pub bound_of_call : (a : PairCall) (ready : Ready) (allowed : ℕ) (r : Result LowerBound BoundError) → ArePartsOfCall a ready
+    → AnswersBound (instance_of_call (call_of_parts a ready)) allowed r → AnswersBound (instance_of_call a) allowed r
+bound_of_call a ready allowed r is answers =
+    let P : PairCall → Type 0 = λ c. AnswersBound (instance_of_call c) allowed r in subst P (same_call a ready is) answers
 
 -- how many pairs and sites the parts have
 pub parts_pairs : (a : PairCall) (ready : Ready) → ArePartsOfCall a ready → ready.pairs.list ≡ map pair_from_c a.arrays.pairs

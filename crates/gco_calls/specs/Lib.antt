@@ -1,4 +1,5 @@
 pub mod Bounds
+pub mod PairBounds
 pub mod Calls
 pub mod Minima
 pub mod Moved

@@ -122,7 +122,7 @@ fn bound_over<N: Number>(
 }
 
 /// Finds a bound of a problem.
-fn bound_problem<F: Fn(u32, u32) -> i64 + Sync, V: Fn(u32, u32) -> i64 + Sync>(
+pub(crate) fn bound_problem<F: Fn(u32, u32) -> i64 + Sync, V: Fn(u32, u32) -> i64 + Sync>(
     alloc: Global,
     problem: &Problem<F, V>,
     passes: u32,
@@ -143,7 +143,7 @@ fn bound_problem<F: Fn(u32, u32) -> i64 + Sync, V: Fn(u32, u32) -> i64 + Sync>(
 }
 
 /// The refusal of a call whose bound was refused.
-fn refusal_of(error: BoundError) -> Refusal
+pub(crate) fn refusal_of(error: BoundError) -> Refusal
     ensures { result ≡ bound_refusal error }
 {
     match error {
@@ -153,14 +153,14 @@ fn refusal_of(error: BoundError) -> Refusal
 }
 
 /// Tells a bound, and nothing else.
-fn tell(bound: &mut GcoBound, low: i64)
+pub(crate) fn tell(bound: &mut GcoBound, low: i64)
     ensures { bound.new ≡ bound_told low }
 {
     *bound = GcoBound { low, place: 0 };
 }
 
 /// Tells a refusal, and nothing else.
-fn refuse(bound: &mut GcoBound, refusal: Refusal) -> u32
+pub(crate) fn refuse(bound: &mut GcoBound, refusal: Refusal) -> u32
     ensures some { result ≢ 0 }
     ensures status { result ≡ status_of refusal }
     ensures told { bound.new ≡ bound_refusal_told refusal }
