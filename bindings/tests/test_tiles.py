@@ -722,10 +722,11 @@ if "--in-little-memory" in sys.argv:
 if __name__ == "__main__":
     made = pathlib.Path(tempfile.mkdtemp())
     try:
+        said = [random_grids(400), fixed_points(300), kinds_of_costs(made), volumes(made)]
+        near_the_whole()
+        near_the_whole_volume()
         with dask_client() as client:
-            said = [random_grids(400), fixed_points(300), kinds_of_costs(made), volumes(made), engines(made, client)]
-            near_the_whole()
-            near_the_whole_volume()
+            said.append(engines(made, client))
             stops(made, client)
         stops_soon()
         free_sites()
