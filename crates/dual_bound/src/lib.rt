@@ -9,8 +9,6 @@ mod ascent;
 mod bound;
 mod error;
 mod squares;
-#[cfg(test)]
-mod tests;
 
 pub use bound::{LowerBound, lower_bound, search_bytes};
 pub use error::BoundError;

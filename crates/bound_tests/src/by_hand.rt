@@ -1,8 +1,8 @@
 //! Bounds that meet the least energy, which was found by trying every labelling.
 ghost use Rattle.std.specs.Prelude.{◌<◌, ◌≤ℤ◌, pos};
 
-use crate::lower_bound;
 use cost_store::{DataCost, Problem, SmoothCost};
+use dual_bound::lower_bound;
 use label_field::Pairs;
 use std::test::Fail;
 
