@@ -179,6 +179,7 @@ impl Bounds {
 
     /// Sums the next site, which is open, and decides it or lets it wait if its bounds tell its
     /// value.
+    #[inline(always)]
     fn sum_site(&mut self, form: &SiteForm, site: u32) -> Result<(), AllocError>
         requires over { IsOverPairs form.now }
         requires site { (site < length form.now.at.now) × (summed_count self.old ≡ site) }

@@ -8,7 +8,8 @@ ghost use Rattle.site_bounds.specs.Prelude.{KnowsCosts, HasNoCosts, label_limit,
 ghost use Rattle.site_bounds.specs.Prelude.{IsSwap, AreOpenSites, IsPosed, IsAsked};
 ghost use Rattle.site_bounds.specs.Prelude.{IsOverPairs, AreUnsummed, DecidesSites, AreUndecided};
 ghost use Rattle.label_energies.specs.Moves.{IsMoveOf};
-ghost use Rattle.site_forms.specs.Lists.{CoversChanges};
+ghost use Rattle.site_forms.specs.Lists.{CoversChanges, HasTermsOf};
+ghost use Rattle.move_energy.specs.Terms.{AreTermsTested};
 
 use crate::{Bounds, Lists};
 use cost_store::Problem;
@@ -68,11 +69,45 @@ fn read_costs<F: Fn(u32, u32) -> i64 + Sync, V: Fn(u32, u32) -> i64 + Sync>(
     ensures lists { OnOk result (AreFormLists problem.now.pairs ends.now at.now numbers.new) }
     ensures read { OnOk result (WhereMeant F.Fn V.Fn problem.now
         (λ m. IsReadOf m change ends.now at.now numbers.new)) }
+    ensures terms { OnOk result (WhereMeant F.Fn V.Fn problem.now
+        (λ m. HasTermsOf m change at.now numbers.new)) }
 {
     match change {
         Move::Expand(_) => numbers.read(problem, ends, at, change),
         Move::Swap(_, _) => numbers.read_among(problem, ends, at, change, swapped),
     }
+}
+
+/// Reads the costs of a move and tests its terms. Where each pair has costs of its own, they are
+/// asked once for both.
+fn read_tested<F: Fn(u32, u32) -> i64 + Sync, V: Fn(u32, u32) -> i64 + Sync>(
+    numbers: &mut FormLists,
+    swapped: &[u32],
+    problem: &Problem<F, V>,
+    ends: &Neighbours,
+    at: &[u8],
+    change: Move,
+) -> Result<(), BuildError>
+    requires posed { IsPosed F.Fn V.Fn problem.now }
+    requires asked { IsAsked problem.now at.now change }
+    requires by_site { AreBySite problem.now.pairs ends.now }
+    requires few { problem.now.data_cost.labels ≤ label_limit }
+    requires known { KnowsCosts F.Fn V.Fn problem.now numbers.old }
+    requires covers { IsSwap change → CoversChanges change at.now swapped.now }
+    ensures known { KnowsCosts F.Fn V.Fn problem.now numbers.new }
+    ensures tested { WhereMeant F.Fn V.Fn problem.now
+        (λ m. AreTermsTested m change (labelling at.now) result) }
+    ensures lists { OnOk result (AreFormLists problem.now.pairs ends.now at.now numbers.new) }
+    ensures read { OnOk result (WhereMeant F.Fn V.Fn problem.now
+        (λ m. IsReadOf m change ends.now at.now numbers.new)) }
+{
+    if problem.pairs.are_numbered() {
+        read_costs(numbers, swapped, problem, ends, at, change)?;
+        return numbers.test_terms();
+    }
+    test_terms(problem, at, change)?;
+    read_costs(numbers, swapped, problem, ends, at, change)?;
+    Ok(())
 }
 
 /// Decides the open sites of a move. Of a swap, of which they are listed, no other is looked at.
@@ -159,9 +194,8 @@ impl Deciding {
         ensures refused { OnErr result (self.new.lists.listed ≡ false) }
     {
         self.lists.listed = false;
-        test_terms(problem, at, change)?;
         open_move(&mut self.bounds, &mut self.swapped, at, change)?;
-        read_costs(
+        read_tested(
             &mut self.numbers,
             &self.swapped,
             problem,
@@ -203,9 +237,8 @@ impl Deciding {
             IfErr result (IsPrepareRefusal m change (labelling at.now))) }
     {
         self.lists.listed = false;
-        test_terms(problem, at, change)?;
         open_move(&mut self.bounds, &mut self.swapped, at, change)?;
-        read_costs(
+        read_tested(
             &mut self.numbers,
             &self.swapped,
             problem,

@@ -195,6 +195,7 @@ impl Bounds {
     }
 
     /// Decides the sites that wait, and those whose values then can be told, until none is left.
+    #[inline(always)]
     pub(crate) fn decide_waiting(&mut self, form: &SiteForm) -> Result<(), AllocError>
         requires over { IsOverPairs form.now }
         requires budget { IsInBudget form.now self.old }

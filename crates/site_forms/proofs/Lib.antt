@@ -9,4 +9,5 @@ pub mod Filling
 pub mod Asking
 pub mod Taking
 pub mod Near
+pub mod ByPair
 pub mod ByPlace

@@ -3,12 +3,11 @@ use Rattle.std.proofs.Common.{◌≡◌, ℕ, ◌*◌, ◌<◌, ◌≤◌, Bool,
 use Rattle.std.proofs.lemmas.List.Elements.{All-nil}
 use Rattle.label_energies.specs.declared.change.Move.{Move}
 use Rattle.label_energies.specs.declared.change.Move.TheVariants.{Expand, Swap}
-use Rattle.label_energies.specs.Energies.{Instance, labelling}
+use Rattle.label_energies.specs.Energies.{Instance}
 use Rattle.label_energies.specs.Moves.{IsMoveOf, label_after}
 use Rattle.cost_store.specs.declared.problem.Problem.{Problem}
 use Rattle.cost_store.specs.Posed.{Closure, IsMeant, IsAsked}
 use Rattle.move_energy.proofs.Values.{label_below}
-use Rattle.move_energy.specs.MoveValues.{data_rise}
 use Rattle.move_energy.specs.declared.rises.EndRises.{EndRises}
 use Rattle.site_forms.specs.declared.smooth_costs.AskedCosts.{AskedCosts}
 use Rattle.site_forms.specs.Fields.{own_at, IsMadeLabel, AreRisesRead, HaveRowsOf, AreSymmetric, AreUnitRises, unit_rises_at, AreReadableLists}

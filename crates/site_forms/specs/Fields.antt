@@ -3,15 +3,17 @@ use Rattle.std.specs.Prelude.{◌≡◌, ℕ, ◌+◌, ◌*◌, ◌<◌, ◌≤�
 use Rattle.std.specs.Prelude.{List, length, slice_index, slice_index_or, unsigned_abs}
 use Rattle.std.specs.List.{All}
 use Rattle.label_field.specs.Limits.{site_limit, label_limit, weight_limit}
+use Rattle.label_field.specs.declared.pair.Pair.{Pair}
 use Rattle.label_energies.specs.declared.change.Move.{Move}
 use Rattle.label_energies.specs.Energies.{Instance, labelling}
 use Rattle.label_energies.specs.Moves.{label_after}
 use Rattle.cost_store.specs.Limits.{site_cost_limit, pair_cost_limit}
 use Rattle.move_energy.specs.declared.by_site.Neighbours.{Neighbours}
-use Rattle.move_energy.specs.BySite.{neighbours_start, neighbour_at, weight_at, is_first}
+use Rattle.move_energy.specs.BySite.{neighbours_start, neighbour_at, weight_at, is_first, pair_in}
 use Rattle.move_energy.specs.MoveValues.{data_rise}
 use Rattle.move_energy.specs.declared.rises.EndRises.{EndRises}
 use Rattle.move_energy.specs.Rising.{entry_place, table_labels, AreRises}
+use Rattle.site_forms.specs.declared.by_pair.PairRises.{PairRises}
 
 -- what a pair of weight 1 costs by a table of costs, whose first end, or its second, has the one
 -- label and its other end the other
@@ -152,6 +154,36 @@ AreRisesBelow n m move ends at rises =
 -- and of all
 abbrev pub AreRisesRead : Instance → Move → Neighbours → List ℕ → List EndRises → Type 0
 AreRisesRead m move ends at rises = AreRisesBelow (length at) m move ends at rises
+
+-- what a pair rises by at its two ends was read of it
+pub record AreSidesOf (m : Instance) (move : Move) (f : ℕ → ℕ) (pair : Pair) (sides : PairRises)
+    : Type 0 where
+  pub first : AreRises m move pair.weight true (f pair.first) (f pair.second) sides.first
+  pub second : AreRises m move pair.weight false (f pair.second) (f pair.first) sides.second
+
+-- the rises of the pair at a place of a list
+abbrev pub sides_in : List PairRises → ℕ → PairRises
+sides_in sides i =
+    slice_index_or sides i (record {
+      first = record { low = pos 0; high = pos 0 };
+      second = record { low = pos 0; high = pos 0 };
+    })
+
+-- those of each pair were read of it
+abbrev pub AreSidesRead : Instance → Move → (ℕ → ℕ) → List PairRises → Type 0
+AreSidesRead m move f sides =
+    (i : ℕ) → i < length sides → AreSidesOf m move f (pair_in m.pairs i) (sides_in sides i)
+
+-- none of a pair's rises is larger than its cost
+pub record AreSidesSmall (sides : PairRises) : Type 0 where
+  pub first : (unsigned_abs sides.first.low ≤ pair_cost_limit)
+      × (unsigned_abs sides.first.high ≤ pair_cost_limit)
+  pub second : (unsigned_abs sides.second.low ≤ pair_cost_limit)
+      × (unsigned_abs sides.second.high ≤ pair_cost_limit)
+
+-- nor of any pair's
+abbrev pub AreAllSmall : List PairRises → Type 0
+AreAllSmall sides = (i : ℕ) → i < length sides → AreSidesSmall (sides_in sides i)
 
 -- the lists were read of a move from these labels: what each label becomes, and what each site's
 -- own rise is

@@ -15,8 +15,10 @@ use Rattle.cost_store.specs.Posed.{Closure, WhereMeant}
 use Rattle.move_energy.specs.declared.by_site.Neighbours.{Neighbours}
 use Rattle.move_energy.specs.Choices.{Changes}
 use Rattle.move_energy.specs.MoveValues.{data_rise}
-use Rattle.site_forms.specs.Fields.{AreReadableLists, AreReadOf, AreSymmetric, own_at}
+use Rattle.site_forms.specs.Fields.{AreReadableLists, AreSymmetric, own_at}
 use Rattle.site_forms.specs.Fields.{AreListedRises, AreCostsRead, AreRisesRead}
+use Rattle.site_forms.specs.Fields.{AreSidesRead, AreAllSmall}
+use Rattle.site_forms.specs.declared.by_pair.PairRises.{PairRises}
 use Rattle.site_forms.specs.declared.lists.FormLists.{FormLists}
 use Rattle.site_forms.specs.declared.smooth_costs.AskedCosts.{AskedCosts}
 
@@ -138,6 +140,18 @@ pub record ArePairsRead (m : Instance) (move : Move) (ends : Neighbours) (at : L
       × (slice_index lists.turns.items old ≡ label_after move old true)
   pub costs : lists.listed ≡ false → AreCostsRead m move at lists.smooth.costs.items
   pub rises : lists.listed ≡ true → AreRisesRead m move ends at lists.rises.items
+
+-- where the pairs are numbered, the rises of each pair were read
+pub record HasTermsOf (m : Instance) (move : Move) (at : List ℕ) (lists : FormLists) : Type 0 where
+  pub count : lists.listed ≡ true → length lists.sides.items ≡ length m.pairs
+  pub read : lists.listed ≡ true → AreSidesRead m move (labelling at) lists.sides.items
+
+-- a list has the rises of each pair of a problem in a move, none of them large
+pub record HasSidesOf {F V : Type 0} (f : Closure F) (v : Closure V) (problem : Problem F V)
+    (at : List ℕ) (move : Move) (sides : List PairRises) : Type 0 where
+  pub count : length sides ≡ length problem.pairs.list
+  pub small : AreAllSmall sides
+  pub read : WhereMeant f v problem (λ m. AreSidesRead m move (labelling at) sides)
 
 -- and what labels cost the sites
 pub record IsReadOf (m : Instance) (move : Move) (ends : Neighbours) (at : List ℕ)

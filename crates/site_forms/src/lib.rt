@@ -7,6 +7,7 @@
 //! thread can read it.
 #![tactic(auto)]
 
+mod by_pair;
 mod by_place;
 mod ends;
 pub mod laws;

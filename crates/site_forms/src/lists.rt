@@ -1,6 +1,6 @@
 //! The door: the costs of a move, read once into lists. Only this file asks a problem for costs.
 ghost use Rattle.std.specs.Prelude.{◌≡◌, ◌⊎◌, ◌<◌, ◌≤◌, ℕ, length, slice_index, OnOk};
-ghost use Rattle.std.specs.Prelude.{true, false, unsigned_abs, Bool, ◌+◌, ◌*◌, pos, [], All};
+ghost use Rattle.std.specs.Prelude.{true, false, unsigned_abs, Bool, ◌+◌, ◌*◌, pos, [], All, List};
 ghost use Rattle.label_field.specs.Limits.{label_limit};
 ghost use Rattle.label_energies.specs.Energies.{labelling, Instance};
 ghost use Rattle.label_energies.specs.Moves.{IsMoveOf, label_after, IsAllowed};
@@ -15,11 +15,13 @@ ghost use Rattle.site_forms.specs.Fields.{unit_rises_at, HaveRowsOf};
 ghost use Rattle.site_forms.specs.Lists.{AreFormLists, IsReadOf, KnowsCosts, HasNoCosts};
 ghost use Rattle.site_forms.specs.Lists.{AreCostsSmall, AreRisesNear, IsReadNear, CoversChanges};
 ghost use Rattle.site_forms.specs.Lists.{HasCostRoom, AreMadeAsked, AreMoveLabels, ArePairLists};
-ghost use Rattle.site_forms.specs.Lists.{ArePairsRead};
+ghost use Rattle.site_forms.specs.Lists.{ArePairsRead, HasTermsOf};
+ghost use Rattle.move_energy.specs.Terms.{AreTermsTested};
 ghost use Rattle.label_field.specs.PairLists.{PairList};
 ghost use Rattle.move_energy.specs.declared.by_site.Neighbours.{Neighbours as NeighbourLists};
 ghost use Rattle.site_forms.specs.Numbers.{IsFormOf, IsOverPairs};
 
+use crate::by_pair::{PairRises, list_sides, test_sides};
 use crate::by_place::list_rises;
 use crate::numbers::SiteForm;
 use crate::reading::{smooth_of, table_place};
@@ -27,7 +29,7 @@ use crate::smooth_costs::AskedCosts;
 use cost_store::Problem;
 use label_energies::Move;
 use label_field::{LABEL_LIMIT, Pairs};
-use move_energy::{EndRises, Neighbours, data_rise};
+use move_energy::{BuildError, EndRises, Neighbours, data_rise};
 use std::alloc::{AllocError, Global};
 
 /// The most labels of which a move has a table of rises.
@@ -39,7 +41,7 @@ const ENTRIES: usize = 8192;
 
 /// The lists of a form. They keep their memory from move to move: 4 bytes a site, 512 a label, and
 /// 64 KB where there are at most 64 labels. They keep the smooth costs too, so that a run asks each
-/// two labels once. Where each pair has costs of its own, they take 16 bytes a pair.
+/// two labels once. Where each pair has costs of its own, they take 32 bytes a pair.
 #[derive(Drop)]
 pub struct FormLists {
     own: Vec<i32>,
@@ -48,8 +50,10 @@ pub struct FormLists {
     smooth: AskedCosts,
     few: bool,
     table: Vec<EndRises>,
-    /// Whether the rises of pairs are listed by place, since each pair has costs of its own.
+    /// Whether the rises of pairs are listed by pair and by place, since each pair has costs of its
+    /// own.
     listed: bool,
+    sides: Vec<PairRises>,
     rises: Vec<EndRises>,
 }
 
@@ -259,6 +263,7 @@ impl FormLists {
             few: false,
             table: Vec::new(alloc),
             listed: false,
+            sides: Vec::new(alloc),
             rises: Vec::new(alloc),
         }
     }
@@ -342,12 +347,15 @@ impl FormLists {
         ensures lists { OnOk result (ArePairLists problem.now.pairs ends.now at.now self.new) }
         ensures read { OnOk result (WhereMeant F.Fn V.Fn problem.now
             (λ m. ArePairsRead m change ends.now at.now self.new)) }
+        ensures terms { OnOk result (WhereMeant F.Fn V.Fn problem.now
+            (λ m. HasTermsOf m change at.now self.new)) }
     {
         self.begin_pairs(problem, at, change)?;
         self.listed = problem.pairs.are_numbered();
         if self.listed {
             self.few = false;
-            return list_rises(&mut self.rises, problem, ends, at, change);
+            list_sides(&mut self.sides, problem, at, change)?;
+            return list_rises(&mut self.rises, &self.sides, problem, ends, at, change);
         }
         self.make_table(problem.data_cost.labels, at.len())
     }
@@ -370,6 +378,8 @@ impl FormLists {
         ensures lists { OnOk result (AreFormLists problem.now.pairs ends.now at.now self.new) }
         ensures read { OnOk result (WhereMeant F.Fn V.Fn problem.now
             (λ m. IsReadOf m change ends.now at.now self.new)) }
+        ensures terms { OnOk result (WhereMeant F.Fn V.Fn problem.now
+            (λ m. HasTermsOf m change at.now self.new)) }
     {
         self.read_pairs(problem, ends, at, change)?;
         list_own_rises(&mut self.own, problem, at, change)
@@ -393,6 +403,8 @@ impl FormLists {
         ensures lists { OnOk result (AreFormLists problem.now.pairs ends.now at.now self.new) }
         ensures read { OnOk result (WhereMeant F.Fn V.Fn problem.now
             (λ m. IsReadNear m change ends.now at.now self.new [])) }
+        ensures terms { OnOk result (WhereMeant F.Fn V.Fn problem.now
+            (λ m. HasTermsOf m change at.now self.new)) }
     {
         self.read_pairs(problem, ends, at, change)?;
         clear_rises(&mut self.own, at.len())
@@ -412,6 +424,7 @@ impl FormLists {
         requires small { (u : ℕ) → unsigned_abs (own_at self.old.own.items u) ≤ site_cost_limit }
         requires inside { All (λ p. p < length at.now) sites.now }
         ensures smooth { self.new.smooth ≡ self.old.smooth }
+        ensures sides { (self.new.sides ≡ self.old.sides) × (self.new.listed ≡ self.old.listed) }
         ensures lists { (pairs : PairList) (ends : NeighbourLists) →
             AreFormLists pairs ends at.now self.old → AreFormLists pairs ends at.now self.new }
         ensures read { WhereMeant F.Fn V.Fn problem.now (λ m. (ends : NeighbourLists) →
@@ -441,10 +454,21 @@ impl FormLists {
         ensures lists { OnOk result (AreFormLists problem.now.pairs ends.now at.now self.new) }
         ensures read { OnOk result (WhereMeant F.Fn V.Fn problem.now
             (λ m. IsReadOf m change ends.now at.now self.new)) }
+        ensures terms { OnOk result (WhereMeant F.Fn V.Fn problem.now
+            (λ m. HasTermsOf m change at.now self.new)) }
     {
         self.begin(problem, ends, at, change)?;
         self.read_sites(problem, at, change, sites);
         Ok(())
+    }
+
+    /// Tests the term of each pair, where the pairs' costs are their own, and refuses the first
+    /// that is not regular. It asks for no cost.
+    pub fn test_terms(&self) -> Result<(), BuildError>
+        ensures { (m : Instance) (move : AnyMove) (at : List ℕ) → self.now.listed ≡ true →
+            HasTermsOf m move at self.now → AreTermsTested m move (labelling at) result }
+    {
+        test_sides(&self.sides)
     }
 
     /// The form that the lists tell, of these labels and of the neighbours by these pairs.

@@ -1,4 +1,4 @@
-use Rattle.std.proofs.Common.{◌≡◌, ◌∙◌, ◌≤◌, ◌<◌, ◌+◌, length, refl, inl, inr, arith}
+use Rattle.std.proofs.Common.{◌∙◌, ◌≤◌, ◌<◌, ◌+◌, length, refl, inl, inr, arith}
 use Rattle.std.proofs.lemmas.List.{length-set}
 use Rattle.move_energy.specs.BySite.{neighbours_start}
 use Rattle.move_energy.proofs.Parts.{start_read}

@@ -1,4 +1,4 @@
-use Rattle.std.proofs.Common.{◌≡◌, ◌⊎◌, ◌<◌, ◌≤◌, ◌+◌, ℕ, length}
+use Rattle.std.proofs.Common.{◌≡◌, ◌⊎◌, ◌<◌, ◌≤◌, ℕ, length}
 use Rattle.label_energies.specs.Energies.{Instance}
 use Rattle.cost_store.specs.Posed.{IsMeant}
 use Rattle.move_energy.specs.BySite.{neighbours_start}

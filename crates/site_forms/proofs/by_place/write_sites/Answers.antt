@@ -1,4 +1,4 @@
-use Rattle.std.proofs.Common.{◌∙◌, refl, sym, arith}
+use Rattle.std.proofs.Common.{◌∙◌, refl, arith}
 use Rattle.site_forms.proofs.ByPlace.{one_site_more}
 use Rattle.site_forms.proofs.Places.{pairs_places}
 use Rattle.site_forms.proofs.by_place.write_sites.Goals as goal

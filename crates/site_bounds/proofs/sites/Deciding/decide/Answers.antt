@@ -22,8 +22,8 @@ returns-clause-decided g c = λ m meant.
     let new = c.decide_open.new.bounds in
     let e = c.in_ok-decide_open.ensures in
     let sites : m.sites ≡ length a.at.now = meant.sites_are ∙ sym c.requires.asked.asked.sites in
-    let allowed = c.in_ok-test_terms.ensures m meant in
-    let is = c.form-form.ensures.of m a.change meant.sites_are meant.pairs_are allowed (c.in_ok-read_costs.ensures.read m meant) in
+    let allowed = c.in_ok-read_tested.ensures.tested m meant in
+    let is = c.form-form.ensures.of m a.change meant.sites_are meant.pairs_are allowed (c.in_ok-read_tested.ensures.read m meant) in
     let D : List ℕ → Type 0 = λ at. ArePartlyDecided m a.change (labelling at) 0 c.open_move.new.bounds → ArePartlyDecided m a.change (labelling at) (length at) new in
     let N : List ℕ → Type 0 = λ at. (u : ℕ) → u < length at → choice_at new.choices.items u ≡ Open → ¬ CanDecide new u in (
       allowed,
@@ -31,15 +31,15 @@ returns-clause-decided g c = λ m meant.
           (subst D c.form-form.ensures.at (e.decided m a.change is) (partly_first m a.change a.at.now c.open_move.new.bounds (omega (arith, sites)) c.in_ok-open_move.ensures.undecided)),
     )
 
-pub returns-in_err-test_terms-clause-known : goal.returns-in_err-test_terms-clause-known
-returns-in_err-test_terms-clause-known g c =
-    let p = err_from_is_err_and c.from_residual.result c.from_residual.ensures.1 in
+pub returns-in_err-read_tested-clause-known : goal.returns-in_err-read_tested-clause-known
+returns-in_err-read_tested-clause-known g c =
+    let p = err_from_is_err_and c.from_residual-in_err-read_tested.result c.from_residual-in_err-read_tested.ensures.1 in
     rw (p.1) tt
 
-pub returns-in_err-test_terms-clause-decided : goal.returns-in_err-test_terms-clause-decided
-returns-in_err-test_terms-clause-decided g c = λ m meant.
-    let p = err_from_is_err_and c.from_residual.result c.from_residual.ensures.1 in
-    rw (p.1, p.2) (c.in_err-test_terms.ensures m meant)
+pub returns-in_err-read_tested-clause-decided : goal.returns-in_err-read_tested-clause-decided
+returns-in_err-read_tested-clause-decided g c = λ m meant.
+    let p = err_from_is_err_and c.from_residual-in_err-read_tested.result c.from_residual-in_err-read_tested.ensures.1 in
+    rw (p.1, p.2) (c.in_err-read_tested.ensures.tested m meant)
 
 pub returns-clause-known : goal.returns-clause-known
 returns-clause-known g c =
@@ -57,12 +57,12 @@ returns-clause-known g c =
       };
       weights = λ m meant.
           let sites : m.sites ≡ length a.at.now = meant.sites_are ∙ sym c.requires.asked.asked.sites in
-          let is = c.form-form.ensures.of m a.change meant.sites_are meant.pairs_are (c.in_ok-test_terms.ensures m meant) (c.in_ok-read_costs.ensures.read m meant) in
+          let is = c.form-form.ensures.of m a.change meant.sites_are meant.pairs_are (c.in_ok-read_tested.ensures.tested m meant) (c.in_ok-read_tested.ensures.read m meant) in
           let D : List ℕ → Type 0 = λ at. ArePartlyDecided m a.change (labelling at) 0 c.open_move.new.bounds → ArePartlyDecided m a.change (labelling at) (length at) new in
           partly_weights m a.change (labelling a.at.now) (length a.at.now) new is.instance
           (omega (arith, sites)) (subst D c.form-form.ensures.at (e.decided m a.change is) (partly_first m a.change a.at.now c.open_move.new.bounds (omega (arith, sites)) c.in_ok-open_move.ensures.undecided));
-      lists = c.in_ok-read_costs.ensures.lists;
-      read = λ m meant. c.in_ok-read_costs.ensures.read m meant;
+      lists = c.in_ok-read_tested.ensures.lists;
+      read = λ m meant. c.in_ok-read_tested.ensures.read m meant;
     }
 
 pub fill_rest-requires-clause-among : goal.fill_rest-requires-clause-among
@@ -72,8 +72,8 @@ fill_rest-requires-clause-among g c swap =
     c.in_ok-decide_open.ensures.closed (c.in_ok-open_move.ensures.listed swap) in
     subst (λ (X : Type 0). X) (λ i. CoversRest a.change a.at.now (sym c.deref-3.ensures.value i) (sym c.deref-4.ensures.value i)) covers
 
-pub read_costs-requires-clause-covers : goal.read_costs-requires-clause-covers
-read_costs-requires-clause-covers g c κs within swap =
+pub read_tested-requires-clause-covers : goal.read_tested-requires-clause-covers
+read_tested-requires-clause-covers g c κs within swap =
     let a = c.args in
     let C : List ℕ → Type 0 = λ sites. CoversChanges a.change a.at.now sites in
     subst C (sym c.deref.ensures.value)

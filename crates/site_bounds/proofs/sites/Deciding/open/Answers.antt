@@ -9,8 +9,8 @@ returns-clause-passed g c = λ m meant.
     let a = c.args in
     chosen_first m a.change a.at.now c.open_move.new.bounds (omega (arith, meant.sites_are, c.requires.asked.asked.sites)) c.in_ok-open_move.ensures.undecided
 
-pub read_costs-requires-clause-covers : goal.read_costs-requires-clause-covers
-read_costs-requires-clause-covers g c κs within swap =
+pub read_tested-requires-clause-covers : goal.read_tested-requires-clause-covers
+read_tested-requires-clause-covers g c κs within swap =
     let a = c.args in
     let C : List ℕ → Type 0 = λ sites. CoversChanges a.change a.at.now sites in
     subst C (sym c.deref.ensures.value)

@@ -1,4 +1,4 @@
-use Rattle.std.proofs.Common.{◌≡◌, ◌∙◌, Bool, false, List, refl, sym, subst, length}
+use Rattle.std.proofs.Common.{◌∙◌, List, refl, sym, subst, length}
 use Rattle.move_energy.proofs.Places.{meant_pairs, meant_beside}
 use Rattle.move_energy.specs.declared.rises.EndRises.{EndRises}
 use Rattle.site_forms.specs.Fields.{AreReadableLists, AreReadOf, AreListedRises, AreCostsRead, AreRisesRead}
