@@ -6,6 +6,16 @@ use Rattle.std.proofs.lemmas.Bool.{cases_Bool, cases_eq, cases_lt, eqb-true}
 use Rattle.std.proofs.lemmas.List.{length-set, get_or-set_same, get_or-set_other, set-get_or}
 use Rattle.std.proofs.lemmas.Grind.{get_or_default_zero}
 use Rattle.label_field.specs.PairLists.{PairList}
+use Rattle.cut_ways.specs.declared.solve_error.SolveError.{SolveError}
+use Rattle.cost_store.specs.declared.problem.Problem.{Problem}
+use Rattle.cost_store.specs.Posed.{Closure, IsMeant}
+use Rattle.label_energies.specs.declared.change.Move.{Move}
+use Rattle.move_energy.specs.declared.error.BuildError.{BuildError}
+use Rattle.move_energy.specs.Terms.{AreTermsTested}
+use Rattle.one_move.specs.declared.error.MoveError.{MoveError}
+use Rattle.one_move.specs.Moved.{IsCutRefusal, IsCauseOfRefusal}
+use Rattle.one_move.proofs.Answers.{cut_refusal}
+use Rattle.run_steps.specs.Stages.{AreTermsRegular}
 use Rattle.label_energies.specs.declared.change.Move.TheVariants.{Expand}
 use Rattle.label_energies.specs.Energies.{Instance, IsInstance, HasMetric, AreLabelsFree, labelling}
 use Rattle.label_energies.proofs.Metric.{metric_allows}
@@ -207,3 +217,19 @@ metric_allowed m a k f xs pairs metric here labels size same below =
     (λ p l.
     let within = below p 0 (omega (arith, l, size, ap (λ (ys : List ℕ). length ys) same)) in
     omega (arith, within, labels, ap (λ (ys : List ℕ). slice_index ys p) same))
+
+-- ---- an expansion whose terms are tested
+
+-- where the test of the terms is passed, they are regular
+pub tested_gives : {F V : Type 0} (f : Closure F) (v : Closure V) (p : Problem F V) (m : Move) (g : ℕ → ℕ) (Q : Type 0) (r : Result Unit BuildError)
+    → ((i : Instance) → IsMeant f v p i → AreTermsTested i m g r) → (((i : Instance) → IsMeant f v p i → IsAllowed i m g) → Q) → OnOk r Q
+tested_gives f v p m g Q (Ok done) tested make = make tested
+tested_gives f v p m g Q (Err e) tested make = tt
+
+-- a refusal of an expansion that looks near the changes is one of the move
+pub refused_cause : (refuses : SolveError → Type 0) (m : Instance) (a : ℕ) (f : List ℕ) (e : MoveError) → a < m.labels → AreTermsRegular m a f (Err e)
+    → IsCutRefusal refuses e → IsCauseOfRefusal m (Expand a) f e
+refused_cause refuses m a f e here tested refused = elim tested [
+  | inl memory ↦ (let P : MoveError → Type 0 = λ told. IsCauseOfRefusal m (Expand a) f told in subst P (sym memory) tt)
+  | inr allowed ↦ cut_refusal refuses m (Expand a) f e here allowed tt refused
+]

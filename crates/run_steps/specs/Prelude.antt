@@ -14,7 +14,7 @@ pub use Rattle.run_steps.specs.Bookmarks.{IsStepIn, moves_to, LeadMoves, LeadAtM
 pub use Rattle.run_steps.specs.Problems.{IsRunRefusal}
 pub use Rattle.run_steps.specs.Stages.{IsStageReady, AreStageZeros, AreStageFresh, IsTakenLeast}
 pub use Rattle.run_steps.specs.Stages.{IsLater, AreStampsOf, EndsMove, KeepsFreshSites}
-pub use Rattle.run_steps.specs.Stages.{HasNumbersNear}
+pub use Rattle.run_steps.specs.Stages.{HasNumbersNear, CanBeTested, AreTermsRegular}
 pub use Rattle.run_steps.specs.Courses.{LeadsBest, labels_changed, IsBegun}
 pub use Rattle.run_steps.specs.UnderWay.{IsRunFrom, IsSomeRun, IsStepOf, TellsStep, IsAhead}
 pub use Rattle.run_steps.specs.UnderWay.{ended_of, cycles_of, left_of, moves_made_by}
@@ -23,5 +23,5 @@ pub use Rattle.one_move.specs.Building.{HasTaken, IsReadyMove, HasNumbersOf}
 pub use Rattle.one_move.specs.Moved.{IsMade, IsCutRefusal, IsMoveRefusal, IsMoved}
 pub use Rattle.near_changes.specs.Changes.{made_of, changed_after, AreStamped}
 pub use Rattle.near_changes.specs.Fresh.{WasExpanded}
-pub use Rattle.near_changes.specs.Looking.{is_marked, AreTaking, IsClosedIn}
+pub use Rattle.near_changes.specs.Looking.{is_marked, AreTaking, IsClosedIn, AreFreshSites}
 pub use Rattle.strip_nets.specs.Looking.{IsStageLeast}

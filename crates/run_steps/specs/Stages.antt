@@ -1,6 +1,6 @@
 -- The stages of an expansion that is made once more, and what it answers.
-use Rattle.std.specs.Prelude.{◌≡◌, ℕ, ◌<◌, Bool, true, List, length, Option, Some, None, Result, Ok}
-use Rattle.std.specs.Prelude.{Err}
+use Rattle.std.specs.Prelude.{◌≡◌, ◌⊎◌, ℕ, ◌<◌, Bool, true, IsTrue, List, length, Option, Some}
+use Rattle.std.specs.Prelude.{None, Result, Ok, Err}
 use Rattle.std.specs.List.{All, Contains}
 use Rattle.label_field.specs.LabelFields.{LabelField}
 use Rattle.label_field.specs.PairLists.{PairList}
@@ -9,6 +9,7 @@ use Rattle.cost_store.specs.Posed.{Closure, IsPosed, FitsProblem, WhereMeant}
 use Rattle.label_energies.specs.declared.change.Move.{Move}
 use Rattle.label_energies.specs.declared.change.Move.TheVariants.{Expand}
 use Rattle.label_energies.specs.Energies.{Instance, labelling}
+use Rattle.label_energies.specs.Moves.{IsAllowed}
 use Rattle.move_energy.specs.BySite.{AreBySite}
 use Rattle.move_energy.specs.Choices.{choice_at, AreOpenSites}
 use Rattle.move_energy.specs.OpenMoves.{IsAllowedFrom}
@@ -23,6 +24,7 @@ use Rattle.persistency.specs.Fixing.{AreLeastZeros}
 use Rattle.near_changes.specs.Fresh.{WasExpanded, AreFresh}
 use Rattle.near_changes.specs.Looking.{is_marked}
 use Rattle.one_move.specs.declared.error.MoveError.{MoveError}
+use Rattle.one_move.specs.declared.error.MoveError.TheVariants.{OutOfMemory}
 use Rattle.one_move.specs.declared.workspace.Workspace.{Workspace}
 use Rattle.one_move.specs.Building.{IsOfProblem, KeepsDecided}
 use Rattle.one_move.specs.Moved.{IsMoved}
@@ -45,6 +47,18 @@ pub record HasNumbersNear {F V : Type 0} (f : Closure F) (v : Closure V) (proble
   pub allowed : IsAllowedFrom f v problem at move
   pub lists : AreFormLists problem.pairs ends at numbers
   pub read : WhereMeant f v problem (λ m. IsReadNear m move ends at numbers sites)
+
+-- the terms of an expansion are regular, or it can test them by what it lists: the costs are a
+-- metric, or each pair's own
+abbrev pub CanBeTested : {F V : Type 0} → Problem F V → Type 0
+CanBeTested {F} {V} problem =
+    IsTrue problem.smooth_cost.by_metric ⊎ (problem.pairs.numbered ≡ true)
+
+-- an expansion whose terms are not known to be regular is left to be made whole, or refused for
+-- want of memory
+abbrev pub AreTermsRegular : Instance → ℕ → List ℕ → Result Bool MoveError → Type 0
+AreTermsRegular m a f (Ok closed) = IsTrue closed → IsAllowed m (Expand a) (labelling f)
+AreTermsRegular m a f (Err e) = (e ≡ OutOfMemory) ⊎ IsAllowed m (Expand a) (labelling f)
 
 -- the fresh sites stay as they are, and what was grouped and decided
 pub record KeepsFreshSites (old new : Workspace) : Type 0 where

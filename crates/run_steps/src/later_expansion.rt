@@ -6,10 +6,12 @@ ghost use Rattle.run_steps.specs.Prelude.{Expand, labelling as labelling_of, cos
 ghost use Rattle.run_steps.specs.Prelude.{AreFree, WhereMeant, AreOfOneSize, made_of, IsReadyMove};
 ghost use Rattle.run_steps.specs.Prelude.{changed_after, WasExpanded, is_marked, AreTaking};
 ghost use Rattle.run_steps.specs.Prelude.{IsOfProblem, IsMade, IsCutRefusal, IsMoveRefusal};
-ghost use Rattle.run_steps.specs.Prelude.{IsStageReady, AreStageZeros, AreStageFresh, IsTakenLeast};
+ghost use Rattle.run_steps.specs.Prelude.{IsStageReady, AreStageZeros, IsTakenLeast};
+ghost use Rattle.move_energy.specs.BySite.{AreBySite};
+ghost use Rattle.run_steps.specs.Prelude.{CanBeTested, AreTermsRegular, AreStageFresh};
+ghost use Rattle.run_steps.specs.Prelude.{AreFreshSites};
 ghost use Rattle.run_steps.specs.Prelude.{HasTaken, IsLater, IsWorkingOn, TellsChange};
 ghost use Rattle.run_steps.specs.Prelude.{AreStamped, HasNumbersNear};
-ghost use Rattle.run_steps.specs.Prelude.{IsAllowedFrom};
 
 use crate::opening_apart::open_apart;
 use crate::stage_cut::{Standing, make_stage};
@@ -17,6 +19,7 @@ use crate::{MoveError, Sharing};
 use cost_store::{Problem, costs_of, has_cost};
 use label_energies::Move;
 use label_field::Labelling;
+use move_energy::BuildError;
 use near_changes::Changes;
 use one_move::{Workspace, relabel_site};
 use std::alloc::AllocError;
@@ -44,22 +47,23 @@ fn are_few(stamps: &[u32], since: u32, at: &[u8], alpha: u32) -> bool
     changed < stamps.len().div_ceil(CHANGED_SHARE)
 }
 
-/// Whether an expansion looks near the changes alone: its label was expanded before and few sites
-/// changed since, the smooth costs were stored as a metric, and no label costs anything by itself.
+/// Whether an expansion may look near the changes alone: its label was expanded before and few
+/// sites changed since, the smooth costs were stored as a metric or each pair has costs of its own,
+/// and no label costs anything by itself.
 fn can_look<F: Fn(u32, u32) -> i64 + Sync, V: Fn(u32, u32) -> i64 + Sync>(
     problem: &Problem<F, V>,
     labelling: &Labelling,
     alpha: u32,
     changes: &Changes,
 ) -> bool
-    ensures metric { IsTrue result → IsTrue problem.now.smooth_cost.by_metric }
+    ensures testable { IsTrue result → CanBeTested problem.now }
     ensures free { IsTrue result → AreFree (costs_in problem.now.label_costs) }
     ensures known { IsTrue result → 0 < made_of changes.now alpha }
     ensures sizes { IsTrue result → (length changes.now.stamps.items ≡ length labelling.now.at)
         × (alpha < labelling.now.labels) }
 {
     let since = changes.last(alpha);
-    problem.smooth_cost.by_metric
+    (problem.smooth_cost.by_metric || problem.pairs.are_numbered())
         && !has_cost(costs_of(&problem.label_costs))
         && since > 0
         && alpha < labelling.labels()
@@ -67,28 +71,24 @@ fn can_look<F: Fn(u32, u32) -> i64 + Sync, V: Fn(u32, u32) -> i64 + Sync>(
         && are_few(&changes.stamps, since, labelling.as_slice(), alpha)
 }
 
-/// Begins to read the numbers of the expansion, and makes the first stage ready: by parts of the
-/// sites that look by themselves first, where the way to cut asks for parts.
-fn begin_stages<F: Fn(u32, u32) -> i64 + Sync, V: Fn(u32, u32) -> i64 + Sync, H: Sharing>(
+/// Marks what changed since the label's last expansion, begins to read the numbers of the
+/// expansion, and tests its terms: those over a metric are regular.
+fn begin_numbers<F: Fn(u32, u32) -> i64 + Sync, V: Fn(u32, u32) -> i64 + Sync>(
     problem: &Problem<F, V>,
     space: &mut Workspace,
     at: &[u8],
     alpha: u32,
     changes: &Changes,
-    how: &H,
-) -> Result<(), AllocError>
-    requires ready { H.ready how.now }
+) -> Result<(), BuildError>
     requires asked { IsReadyMove F.Fn V.Fn problem.now at.now (Expand alpha) space.old }
-    requires allowed { IsAllowedFrom F.Fn V.Fn problem.now at.now (Expand alpha) }
+    requires testable { CanBeTested problem.now }
     requires stamps { length changes.now.stamps.items ≡ length at.now }
     ensures of_problem { IsOfProblem F.Fn V.Fn problem.now space.new }
+    ensures by_site { OnOk result (AreBySite problem.now.pairs space.new.deciding.ends) }
+    ensures fresh { OnOk result (AreFreshSites problem.now.pairs alpha (labelling_of at.now)
+        (changed_after changes.now alpha) space.new.stage) }
     ensures numbers { OnOk result (HasNumbersNear F.Fn V.Fn problem.now at.now (Expand alpha) []
         space.new.deciding.ends space.new.deciding.numbers) }
-    ensures stage { OnOk result (IsStageReady problem.now.pairs space.new) }
-    ensures fresh { WhereMeant F.Fn V.Fn problem.now
-        (λ m. OnOk result (AreStageFresh m alpha at.now changes.now space.new)) }
-    ensures zeros { WhereMeant F.Fn V.Fn problem.now
-        (λ m. OnOk result (AreStageZeros m alpha at.now space.new)) }
 {
     let alloc = *changes.stamps.allocator();
     space.group(alloc, problem)?;
@@ -104,6 +104,39 @@ fn begin_stages<F: Fn(u32, u32) -> i64 + Sync, V: Fn(u32, u32) -> i64 + Sync, H:
         .deciding
         .numbers
         .begin(problem, &space.deciding.ends, at, Move::Expand(alpha))?;
+    if problem.smooth_cost.by_metric {
+        return Ok(());
+    }
+    space.deciding.numbers.test_terms()
+}
+
+/// Makes the first stage ready: by parts of the sites that look by themselves first, where the way
+/// to cut asks for parts.
+fn begin_stages<F: Fn(u32, u32) -> i64 + Sync, V: Fn(u32, u32) -> i64 + Sync, H: Sharing>(
+    problem: &Problem<F, V>,
+    space: &mut Workspace,
+    at: &[u8],
+    alpha: u32,
+    changes: &Changes,
+    how: &H,
+) -> Result<(), AllocError>
+    requires ready { H.ready how.now }
+    requires asked { IsReadyMove F.Fn V.Fn problem.now at.now (Expand alpha) space.old }
+    requires by_site { AreBySite problem.now.pairs space.old.deciding.ends }
+    requires numbers { HasNumbersNear F.Fn V.Fn problem.now at.now (Expand alpha) []
+        space.old.deciding.ends space.old.deciding.numbers }
+    requires fresh { AreFreshSites problem.now.pairs alpha (labelling_of at.now)
+        (changed_after changes.now alpha) space.old.stage }
+    ensures of_problem { IsOfProblem F.Fn V.Fn problem.now space.new }
+    ensures numbers { OnOk result (HasNumbersNear F.Fn V.Fn problem.now at.now (Expand alpha) []
+        space.new.deciding.ends space.new.deciding.numbers) }
+    ensures stage { OnOk result (IsStageReady problem.now.pairs space.new) }
+    ensures fresh { WhereMeant F.Fn V.Fn problem.now
+        (λ m. OnOk result (AreStageFresh m alpha at.now changes.now space.new)) }
+    ensures zeros { WhereMeant F.Fn V.Fn problem.now
+        (λ m. OnOk result (AreStageZeros m alpha at.now space.new)) }
+{
+    let alloc = *changes.stamps.allocator();
     if open_apart(alloc, problem, space, at, alpha, how)? {
         return Ok(());
     }
@@ -116,7 +149,8 @@ fn begin_stages<F: Fn(u32, u32) -> i64 + Sync, V: Fn(u32, u32) -> i64 + Sync, H:
     )
 }
 
-/// Finds the sites that take the label, stage by stage. It answers no where that is given up.
+/// Finds the sites that take the label, stage by stage. It answers no where that is given up, as it
+/// is where a term is not regular.
 fn look<F: Fn(u32, u32) -> i64 + Sync, V: Fn(u32, u32) -> i64 + Sync, H: Sharing>(
     problem: &Problem<F, V>,
     space: &mut Workspace,
@@ -127,9 +161,11 @@ fn look<F: Fn(u32, u32) -> i64 + Sync, V: Fn(u32, u32) -> i64 + Sync, H: Sharing
 ) -> Result<bool, MoveError>
     requires ready { H.ready how.now }
     requires asked { IsReadyMove F.Fn V.Fn problem.now at.now (Expand alpha) space.old }
-    requires allowed { IsAllowedFrom F.Fn V.Fn problem.now at.now (Expand alpha) }
+    requires testable { CanBeTested problem.now }
     requires stamps { length changes.now.stamps.items ≡ length at.now }
     ensures of_problem { IsOfProblem F.Fn V.Fn problem.now space.new }
+    ensures tested { WhereMeant F.Fn V.Fn problem.now
+        (λ m. AreTermsRegular m alpha at.now result) }
     ensures least { WhereMeant F.Fn V.Fn problem.now (λ m. IfOk result (λ closed. IsTrue closed →
         WasExpanded m alpha (changed_after changes.now alpha) (labelling_of at.now) →
         IsTakenLeast m alpha at.now space.new)) }
@@ -137,6 +173,11 @@ fn look<F: Fn(u32, u32) -> i64 + Sync, V: Fn(u32, u32) -> i64 + Sync, H: Sharing
         AreTaking problem.now.pairs.sites space.new.stage) }
     ensures refused { IfErr result (IsCutRefusal (H.refuses how.now)) }
 {
+    match begin_numbers(problem, space, at, alpha, changes) {
+        Ok(()) => {}
+        Err(BuildError::PairNotRegular(_)) => return Ok(false),
+        Err(BuildError::OutOfMemory) => return Err(MoveError::OutOfMemory),
+    }
     match begin_stages(problem, space, at, alpha, changes, how) {
         Ok(()) => {}
         Err(_) => return Err(MoveError::OutOfMemory),

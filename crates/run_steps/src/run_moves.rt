@@ -19,8 +19,8 @@ use one_move::make_move;
 use std::alloc::Global;
 
 /// What a run remembers at its beginning: its moves from then on where it is one of expansions that
-/// come again, the smooth costs were stored as a metric, and no label costs anything by itself.
-/// Else, and where memory for that is refused, nothing.
+/// come again, the smooth costs were stored as a metric or each pair has costs of its own, and no
+/// label costs anything by itself. Else, and where memory for that is refused, nothing.
 pub(crate) fn begin_changes<F: Fn(u32, u32) -> i64 + Sync, V: Fn(u32, u32) -> i64 + Sync>(
     alloc: Global,
     problem: &Problem<F, V>,
@@ -32,7 +32,8 @@ pub(crate) fn begin_changes<F: Fn(u32, u32) -> i64 + Sync, V: Fn(u32, u32) -> i6
     ensures { AreStampsOf F.Fn V.Fn problem.now labelling.now result }
 {
     let comes_again = moves == Moves::Expansion && cycles > 1;
-    if !comes_again || !problem.smooth_cost.by_metric || has_cost(costs_of(&problem.label_costs)) {
+    let testable = problem.smooth_cost.by_metric || problem.pairs.are_numbered();
+    if !comes_again || !testable || has_cost(costs_of(&problem.label_costs)) {
         return Changes::none(alloc);
     }
     match Changes::new(alloc, labelling.sites(), labelling.labels()) {

@@ -6,10 +6,10 @@ use Rattle.move_energy.specs.declared.choice.Choice.TheVariants.{Zero}
 use Rattle.move_energy.specs.Choices.{choice_at}
 use Rattle.cost_store.proofs.Meaning.{pairs_meant}
 use Rattle.move_energy.specs.MoveValues.{move_value}
-use Rattle.near_changes.specs.Changes.{made_of}
+use Rattle.near_changes.specs.Changes.{changed_after}
 use Rattle.persistency.specs.Fixing.{AreLeastZeros}
 use Rattle.near_changes.specs.Fresh.{AreFresh}
-use Rattle.near_changes.specs.Looking.{is_marked, changed_since}
+use Rattle.near_changes.specs.Looking.{is_marked}
 use Rattle.move_energy.proofs.Adding.{on_ok_both}
 use Rattle.run_steps.proofs.Stages.{first_zeros, on_ok, on_ok_map}
 use Rattle.run_steps.proofs.later_expansion.begin_stages.Goals as goal
@@ -17,27 +17,17 @@ use Rattle.run_steps.proofs.later_expansion.begin_stages.Goals as goal
 pub returns-clause-fresh : goal.returns-clause-fresh
 returns-clause-fresh g c = λ m meant.
     let a = c.args.alpha in
-    let f = labelling c.args.at.now in
-    let changes = c.args.changes.now in
-    let fresh = c.in_ok-mark_fresh.ensures.fresh.fresh m meant.sites_are meant.pairs_are in
-    let A : List ℕ → ℕ → List Bool → Type 0 = λ stamps since flags. AreFresh m a f (changed_since stamps since) (is_marked flags) in
-    let B : List ℕ → Type 0 = λ stamps. A stamps c.last.result c.mark_fresh.new.self.fresh.items in
-    let D : ℕ → Type 0 = λ since. A changes.stamps.items since c.mark_fresh.new.self.fresh.items in
-    let F : List Bool → Type 0 = λ flags. A changes.stamps.items (made_of changes a) flags in
+    let fresh = c.requires.fresh.fresh m meant.sites_are meant.pairs_are in
+    let F : List Bool → Type 0 = λ flags. AreFresh m a (labelling c.args.at.now) (changed_after c.args.changes.now a) (is_marked flags) in
     on_ok (F c.open_first.new.self.fresh.items) c.open_first.result
-    (subst F (sym (ap (λ (v : _). v.items) (c.open_first.ensures.same.0 ∙ c.open_apart.ensures.fresh))) (subst D c.last.ensures (subst B c.deref.ensures.value fresh)))
+    (subst F (sym (ap (λ (v : _). v.items) (c.open_first.ensures.same.0 ∙ c.open_apart.ensures.fresh))) fresh)
 
 pub returns-then-branch-clause-fresh : goal.returns-then-branch-clause-fresh
 returns-then-branch-clause-fresh g c = λ m meant.
     let a = c.args.alpha in
-    let f = labelling c.args.at.now in
-    let changes = c.args.changes.now in
-    let fresh = c.in_ok-mark_fresh.ensures.fresh.fresh m meant.sites_are meant.pairs_are in
-    let A : List ℕ → ℕ → List Bool → Type 0 = λ stamps since flags. AreFresh m a f (changed_since stamps since) (is_marked flags) in
-    let B : List ℕ → Type 0 = λ stamps. A stamps c.last.result c.mark_fresh.new.self.fresh.items in
-    let D : ℕ → Type 0 = λ since. A changes.stamps.items since c.mark_fresh.new.self.fresh.items in
-    let F : List Bool → Type 0 = λ flags. A changes.stamps.items (made_of changes a) flags in
-    subst F (sym (ap (λ (v : _). v.items) c.open_apart.ensures.fresh)) (subst D c.last.ensures (subst B c.deref.ensures.value fresh))
+    let fresh = c.requires.fresh.fresh m meant.sites_are meant.pairs_are in
+    let F : List Bool → Type 0 = λ flags. AreFresh m a (labelling c.args.at.now) (changed_after c.args.changes.now a) (is_marked flags) in
+    subst F (sym (ap (λ (v : _). v.items) c.open_apart.ensures.fresh)) fresh
 
 pub returns-clause-zeros : goal.returns-clause-zeros
 returns-clause-zeros g c = λ m meant.
@@ -52,7 +42,7 @@ returns-clause-zeros g c = λ m meant.
 pub returns-clause-stage : goal.returns-clause-stage
 returns-clause-stage g c =
     let a = c.args in
-    let fresh = c.in_ok-mark_fresh.ensures.fresh in
+    let fresh = c.requires.fresh in
     let flags = ap (λ (v : _). v.items) (c.open_first.ensures.same.0 ∙ c.open_apart.ensures.fresh) in
     let sites = ap (λ (v : _). v.items) (c.open_first.ensures.same.1 ∙ c.open_apart.ensures.listed) in
     on_ok_both c.open_first.result _ _ _ (λ count opened. record {

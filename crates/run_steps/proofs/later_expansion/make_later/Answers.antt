@@ -1,17 +1,19 @@
-use Rattle.std.proofs.Common.{◌≡◌, ◌↔◌, ◌<◌, ◌∙◌, ℕ, List, All, length, true, ap, sym, subst, refl, arith}
+use Rattle.std.proofs.Common.{◌≡◌, ◌↔◌, ◌<◌, ◌∙◌, ℕ, List, All, Err, length, true, ap, sym, subst, refl, arith}
 use Rattle.std.specs.List.{Contains}
 use Rattle.std.proofs.lemmas.Result.{err_from_is_err_and}
 use Rattle.label_energies.specs.declared.change.Move.TheVariants.{Expand}
 use Rattle.label_energies.specs.Energies.{labelling}
-use Rattle.cost_store.proofs.Meaning.{pairs_meant, metric_meant}
+use Rattle.label_energies.specs.Moves.{IsAllowed}
+use Rattle.cost_store.proofs.Meaning.{pairs_meant}
 use Rattle.site_bounds.specs.Decisions.{IsSmallestLeast}
 use Rattle.move_energy.specs.MoveValues.{move_value}
 use Rattle.near_changes.specs.Changes.{changed_after}
 use Rattle.near_changes.specs.Fresh.{WasExpanded}
 use Rattle.near_changes.specs.Looking.{is_marked, AreTaking}
-use Rattle.one_move.proofs.Answers.{costs_free, cut_refusal}
+use Rattle.one_move.proofs.Answers.{costs_free}
 use Rattle.one_move.proofs.Relabelled.{values_reach}
-use Rattle.run_steps.proofs.Stages.{metric_allowed, taken_best}
+use Rattle.run_steps.specs.Stages.{AreTermsRegular}
+use Rattle.run_steps.proofs.Stages.{refused_cause, taken_best}
 use Rattle.run_steps.proofs.later_expansion.make_later.Goals as goal
 
 pub returns-in_err-look-clause-moved : goal.returns-in_err-look-clause-moved
@@ -20,13 +22,12 @@ returns-in_err-look-clause-moved g c = λ m meant stamped.
     let f = c.args.labelling.now.at in
     let sizes = c.can_look.ensures.sizes c.if-not-can_look.false in
     let here : a < m.labels = omega (arith, sizes.1, c.requires.working.fits.labels, meant.labels_are) in
-    let metric = metric_meant _ _ _ m c.requires.working.posed meant (c.can_look.ensures.metric c.if-not-can_look.false) in
-    let allowed = metric_allowed m a c.args.labelling.now.labels f c.as_slice.result.now (pairs_meant _ _ _ m c.requires.working.posed meant) metric here
-    (c.requires.working.fits.labels ∙ sym meant.labels_are) (c.requires.working.fits.sites ∙ sym meant.sites_are) c.as_slice.ensures.value c.as_slice.ensures.below in
     let p = err_from_is_err_and c.from_residual.result c.from_residual.ensures.1 in
+    let T : List ℕ → Type 0 = λ h. AreTermsRegular m a h (Err c.in_err-look.field-0.0) in
     rw (p.1, p.2) (
       refl,
-      cut_refusal (g.H.How.refuses c.args.how.now) m (Expand a) f c.in_err-look.field-0.0 here allowed tt c.in_err-look.ensures.refused,
+      refused_cause (g.H.How.refuses c.args.how.now) m a f c.in_err-look.field-0.0 here
+          (subst T c.as_slice.ensures.value (c.in_err-look.ensures.tested m meant)) c.in_err-look.ensures.refused,
     )
 
 pub returns-clause-moved : goal.returns-clause-moved
@@ -38,9 +39,8 @@ returns-clause-moved g c = λ m meant stamped.
     let sizes = c.can_look.ensures.sizes c.if-not-can_look.false in
     let size = c.requires.working.fits.sites ∙ sym meant.sites_are in
     let here : a < m.labels = omega (arith, sizes.1, c.requires.working.fits.labels, meant.labels_are) in
-    let metric = metric_meant _ _ _ m c.requires.working.posed meant (c.can_look.ensures.metric c.if-not-can_look.false) in
-    let allowed = metric_allowed m a c.args.labelling.now.labels f c.as_slice.result.now pairs metric here
-    (c.requires.working.fits.labels ∙ sym meant.labels_are) size c.as_slice.ensures.value c.as_slice.ensures.below in
+    let A : List ℕ → Type 0 = λ h. IsAllowed m (Expand a) (labelling h) in
+    let allowed = subst A c.as_slice.ensures.value (c.in_ok-look.ensures.tested m meant c.if-not-branch.false) in
     let free = costs_free m c.args.problem.now.label_costs meant.costs_are (c.can_look.ensures.free c.if-not-can_look.false) in
     let W : List ℕ → Type 0 = λ h. WasExpanded m a (changed_after c.args.changes.now a) (labelling h) in
     let L : List ℕ → Type 0 = λ h. IsSmallestLeast m.sites (move_value m (Expand a) (labelling h)) took in
@@ -83,12 +83,3 @@ look-requires-clause-asked g c = λ κs lives.
       few = omega (arith, c.keeps.ensures.sizes.2, u.fits.labels);
       of_problem = u.of_problem;
     }
-
-pub look-requires-clause-allowed : goal.look-requires-clause-allowed
-look-requires-clause-allowed g c = λ κs lives m meant.
-    let u = c.requires.working in
-    let at = c.as_slice.result.now in
-    let sizes = c.can_look.ensures.sizes c.if-not-can_look.false in
-    metric_allowed m c.args.alpha c.args.labelling.now.labels at at (pairs_meant _ _ _ m u.posed meant)
-    (metric_meant _ _ _ m u.posed meant (c.can_look.ensures.metric c.if-not-can_look.false)) (omega (arith, sizes.1, u.fits.labels, meant.labels_are))
-    (u.fits.labels ∙ sym meant.labels_are) (ap (λ (xs : List ℕ). length xs) c.as_slice.ensures.value ∙ u.fits.sites ∙ sym meant.sites_are) refl c.as_slice.ensures.below
