@@ -1,11 +1,13 @@
 """Programs as they are written for gco-wrapper and pygco, against chains of best moves by the definition."""
+import itertools
 import random
 import sys
+from fractions import Fraction
 
 if "--without-numpy" in sys.argv:
     sys.modules["numpy"] = None
 import gco
-from definitions import Problem, chain
+from definitions import PairProblem, Problem, chain
 from refusing import flat, refused
 
 np = gco.arrays.numpy
@@ -65,7 +67,6 @@ def fractions(count):
 
 
 def all_labels(sites, k):
-    import itertools
     return itertools.product(range(k), repeat=sites)
 
 
@@ -192,6 +193,303 @@ def by_class(count):
     refused(ValueError, g.set_all_neighbors, [0, 1], [1], [1], says="three rows")
 
 
+def of_class(data, pairs, is_float=False, start=()):
+    """A problem with its unary costs, its pairs and its first labels."""
+    g = gco.GCO()
+    g.create_general_graph(len(data), len(data[0]), energy_is_float=is_float)
+    g.set_data_cost(data)
+    for pair in pairs:
+        g.set_neighbor_pair(*pair)
+    for site, label in enumerate(start):
+        g.init_label_at_site(site, label)
+    return g
+
+
+DATA, ROW = [[0, 5], [9, 0], [0, 5]], [(0, 1, 1), (2, 1, 2)]
+
+
+def steps(s1, s2, l1, l2):
+    """A step up costs one more than the number of its first site, and a step down three more than that."""
+    return 0 if l1 == l2 else 1 + s1 + 3 * (l1 > l2)
+
+
+def function_by_hand():
+    """Three sites in a row: 011 costs 5 + 1, 010 1 + 2 * 3, 000 9, 111 10, 110 5 + 2 * 3. With a pair of both ends, of the weight 3,
+    011 costs 3 more and 010 the same."""
+    for move in (lambda g: g.expansion(), lambda g: g.swap(), lambda g: g.expansion_on_alpha(0), lambda g: g.alpha_beta_swap(0, 1)):
+        for is_float in (False, True):
+            g = of_class(DATA, ROW, is_float, [1, 1, 1])
+            g.set_smooth_cost_function(steps)
+            assert (g.compute_energy(), g.compute_data_energy(), g.compute_smooth_energy()) == (10, 10, 0)
+            assert move(g) == 6 and flat(g.get_labels()) == [0, 1, 1] and g.scale == 1
+            assert (g.compute_data_energy(), g.compute_smooth_energy()) == (5, 1) and g.lower_bound() <= 6
+            assert {type(told) for told in (g.compute_energy(), g.compute_smooth_energy(), g.lower_bound())} == {float if is_float else int}
+            g.set_neighbor_pair(0, 2, 3)
+            assert g.compute_energy() == 9 and g.lower_bound() <= 7
+            assert g.expansion() == 7 and flat(g.get_labels()) == [0, 1, 0]
+            g.set_neighbor_pair(2, 0, 1)
+            g.init_label_at_site(0, 1)
+            assert g.compute_smooth_energy() == 0 + 2 * 3 + 3 * 4 + 3
+            g.destroy_graph()
+            refused(RuntimeError, g.set_smooth_cost_function, steps, says="create_general_graph")
+    g = of_class([[4], [5]], [])
+    g.set_smooth_cost_function(steps)
+    assert g.expansion() == 9 and g.lower_bound() == 9 and g.compute_smooth_energy() == 0
+
+
+def a_table(rng, k):
+    """A metric, and a cost of each label at each end, which no move minds."""
+    far, toll = [rng.randrange(6) for _ in range(k)], rng.randrange(3)
+    here, there = ([rng.randrange(-3, 6) for _ in range(k)] for _ in range(2))
+    return [[(a != b) * (toll + abs(far[a] - far[b])) + here[a] + there[b] for b in range(k)] for a in range(k)]
+
+
+class Asked:
+    """A function by a table for each two sites, by the order in which they stand, that notes what it is asked."""
+
+    def __init__(self, rng, sites, k, part):
+        self.labels, self.part, self.calls = k, part, []
+        self.tables = {ends: a_table(rng, k) for ends in itertools.permutations(range(sites), 2)}
+
+    def __call__(self, *words):
+        assert all(type(word) is int for word in words)
+        self.calls.append(words)
+        s1, s2, l1, l2 = words
+        return self.tables[s1, s2][l1][l2] * self.part
+
+    def problem(self, data, pairs):
+        return PairProblem(data, [self.tables[p, q] for p, q, _ in pairs], self.labels, pairs, [])
+
+    def was_asked_once(self, pairs):
+        called, self.calls = sorted(self.calls), []
+        return called == sorted((p, q, a, b) for p, q, _ in pairs for a in range(self.labels) for b in range(self.labels))
+
+
+def by_function(count):
+    """Functions of any costs: each move, run and energy by the definition, and what the function is asked."""
+    rng = random.Random(37)
+    for turn in range(count):
+        sites, k = rng.randrange(2, 6), rng.randrange(1, 4)
+        data = [[rng.randrange(-3, 9) for _ in range(k)] for _ in range(sites)]
+        pairs = [(*rng.sample(range(sites), 2), rng.randrange(4)) for _ in range(rng.randrange(7))]
+        part, by_weight = rng.choice([(1, 1), (0.5, 1), (1, 0.25), (0.5, 0.5)])
+        start, whole = [rng.randrange(k) for _ in range(sites)], part * by_weight
+        fun = Asked(rng, sites, k, part)
+        problem = fun.problem(data, pairs)
+        said = turn, problem.__dict__, start
+        g = of_class([[cost * whole for cost in row] for row in data], [(p, q, w * by_weight) for p, q, w in pairs], whole != 1, start)
+        g.set_smooth_cost_function(fun)
+        assert not fun.calls
+        own, beside, _ = problem.parts(start)
+        assert (g.compute_data_energy(), g.compute_smooth_energy(), g.compute_energy()) == (own * whole, beside * whole, (own + beside) * whole), said
+        alpha, beta = rng.randrange(k), rng.randrange(k)
+        f = problem.best((alpha,), tuple(start))
+        assert g.expansion_on_alpha(alpha) == problem.energy(f) * whole and flat(g.get_labels()) == list(f), said
+        if alpha != beta:
+            f = problem.best((alpha, beta), f)
+            assert g.alpha_beta_swap(alpha, beta) == problem.energy(f) * whole and flat(g.get_labels()) == list(f), said
+        assert 1 <= g.scale <= 1 / whole and np.log2(g.scale) % 1 == 0
+        for moves, run, cycles in (("expansion", g.expansion, 1), ("expansion", g.expansion, -1), ("swap", g.swap, 1), ("swap", g.swap, -1)):
+            for site, label in enumerate(start):
+                g.init_label_at_site(site, label)
+            f = chain(problem, moves, 99 if cycles < 0 else cycles, start)
+            assert run(cycles) == problem.energy(f) * whole and flat(g.get_labels()) == f, (*said, moves, cycles)
+        least = min(map(problem.energy, all_labels(sites, k))) * whole
+        assert g.lower_bound() <= least and flat(g.get_labels()) == f and isinstance(g.lower_bound(), int if whole == 1 else float), said
+        assert fun.was_asked_once(pairs), said
+        # another pair, and the function set anew: it is asked anew
+        pairs.append((*rng.sample(range(sites), 2), 2))
+        problem = fun.problem(data, pairs)
+        least = min(map(problem.energy, all_labels(sites, k))) * whole
+        g.set_neighbor_pair(*pairs[-1][:2], 2 * by_weight)
+        for _ in range(2):
+            assert g.compute_energy() == problem.energy(f) * whole and g.lower_bound() <= least, said
+            f = chain(problem, "expansion", 99, f)
+            assert g.expansion() == problem.energy(f) * whole and flat(g.get_labels()) == f and fun.was_asked_once(pairs), said
+            g.set_smooth_cost_function(fun)
+
+
+def fractions_of_function(count):
+    """Costs of no power of two: the scale by hand, the labels of the whole numbers by the definition, and bounds that are below."""
+    rng = np.random.default_rng(5)
+    for turn in range(count):
+        sites, k, size = int(rng.integers(2, 6)), int(rng.integers(2, 4)), 10.0 ** rng.integers(-9, 12)
+        pairs = [(*map(int, rng.permutation(sites)[:2]), float(rng.random())) for _ in range(4)]
+        unary, far, toll = rng.normal(size=(sites, k)) * size, rng.random(k), rng.random(sites) * size * rng.choice([0.1, 10])
+
+        def fun(s1, s2, l1, l2):
+            return toll[s1] * abs(far[l1] - far[l2])
+        g = of_class(unary, pairs, True)
+        g.set_smooth_cost_function(fun)
+        energy, f = g.expansion(), flat(g.get_labels())
+        data = unary - np.minimum(unary.min(axis=1), 0)[:, None]
+        tables = np.array([[[w * fun(p, q, a, b) for b in range(k)] for a in range(k)] for p, q, w in pairs])
+        assert 5000000 < max(data.max(), tables.max()) * g.scale <= 10000000 and np.log2(g.scale) % 1 == 0, (turn, g.scale)
+        whole = np.rint(data * g.scale).astype(int).tolist(), np.ceil(tables * g.scale - 1e-6).astype(int).tolist()
+        problem = PairProblem(*whole, k, [(p, q, 1) for p, q, _ in pairs], [])
+        assert f == chain(problem, "expansion", 99, [0] * sites), (turn, problem.__dict__)
+
+        def exact(f):
+            return sum(Fraction(float(unary[s, l])) for s, l in enumerate(f)) + sum(Fraction(w) * Fraction(float(fun(p, q, f[p], f[q]))) for p, q, w in pairs)
+        assert abs(exact(f) - Fraction(energy)) <= 1e-11 * size
+        least, low = min(map(exact, all_labels(sites, k))), g.lower_bound()
+        assert Fraction(low) <= least, (turn, low, float(least))
+
+
+def products():
+    """A product of fractions is rounded down for a bound, where it cannot be exact, and to the nearest for a move."""
+    rng = np.random.default_rng(6)
+    tables, weights = rng.random((500, 3, 3)) * 10.0 ** rng.integers(-20, 20, (500, 3, 3)), rng.random(500)
+    tables[::3], weights[::2] = np.rint(tables[::3] * 8) / 8, np.rint(weights[::2] * 64) / 64
+    tables[:, 0, 0] *= -1
+    near, below = gco.scaling.weighted_tables(tables, weights), gco.scaling.weighted_tables(tables, weights, down=True)
+    exact = [Fraction(cost) * Fraction(weights[place]) for place, table in enumerate(tables.tolist()) for cost in np.ravel(table)]
+    for product, one, other in zip(exact, near.ravel().tolist(), below.ravel().tolist()):
+        assert one == float(product) and other == (one if one <= product else np.nextafter(one, -np.inf)), (product, one, other)
+    assert {bool(one < product) for product, one in zip(exact, below.ravel().tolist())} == {False, True}
+    assert (gco.scaling.weighted_tables(np.full((1, 1, 1), 1e305), np.ones(1), down=True) < 1e305).all()
+    # three times the float below a third is below 1, and to the nearest 1
+    g = of_class([[0], [0]], [(1, 0, 3)], True)
+    g.set_smooth_cost_function(lambda *words: 1 / 3)
+    assert g.expansion() == 1 and g.scale == 1 and 1 - 1e-6 < g.lower_bound() and Fraction(g.lower_bound()) <= 3 * Fraction(1 / 3) < 1
+
+
+def function_as_table(count):
+    """A function that is one table for all pairs: the labels and energies of that table, by the definition and by set_smooth_cost."""
+    rng = random.Random(38)
+    for turn in range(count):
+        sites, k, part = rng.randrange(2, 6), rng.randrange(2, 4), rng.choice([1, 0.5])
+        data = [[rng.randrange(-3, 9) for _ in range(k)] for _ in range(sites)]
+        pairs = [(*rng.sample(range(sites), 2), rng.randrange(4)) for _ in range(5)]
+        problem = Problem(data, a_table(rng, k), pairs, [])
+        table = (np.array(problem.smooth) * part).tolist()
+        one, other = (of_class(np.array(data) * part, pairs, part != 1) for _ in range(2))
+        one.set_smooth_cost(table)
+        other.set_smooth_cost_function(lambda s1, s2, l1, l2: table[l1][l2])
+        for moves in ("expansion", "swap"):
+            f = chain(problem, moves, 99, flat(one.get_labels()))
+            for g in (one, other):
+                assert getattr(g, moves)() == problem.energy(f) * part and flat(g.get_labels()) == f, (turn, moves, problem.__dict__)
+                assert (g.compute_data_energy(), g.compute_smooth_energy()) == tuple(cost * part for cost in problem.parts(f)[:2])
+
+
+def functions_replaced():
+    """Of a table and a function the last counts. At 011 the pairs cost 2 and 0 by the table here, and by the function 1 and 0."""
+    table = [[0, 2], [1, 0]]
+    g = of_class(DATA, ROW, start=[0, 1, 1])
+    g.set_smooth_cost(table)
+    assert g.compute_energy() == 7 and g.expansion() == 6 and flat(g.get_labels()) == [0, 1, 0] and g.compute_smooth_energy() == 2 + 2 * 2
+    g.set_smooth_cost_function(steps)
+    assert g.compute_energy() == 1 + 2 * 3 and g.expansion() == 6 and flat(g.get_labels()) == [0, 1, 1]
+    g.set_smooth_cost_function(lambda *words: 7 * steps(*words))
+    assert g.compute_smooth_energy() == 7 and g.expansion() == 9 and flat(g.get_labels()) == [0, 0, 0]
+    g.set_smooth_cost(table)
+    assert g.expansion() == 6 and flat(g.get_labels()) == [0, 1, 0]
+    # one entry goes into the table, and after a function into a table of zeros
+    g.set_pair_smooth_cost(0, 1, 1)
+    assert g.compute_smooth_energy() == 1 + 2 * 1
+    g.set_smooth_cost_function(steps)
+    g.set_pair_smooth_cost(1, 0, 4)
+    assert g.compute_smooth_energy() == 0 and g.expansion() == 0
+    g.set_pair_smooth_cost(0, 1, 1)
+    assert g.compute_smooth_energy() == 1 + 2 * 1
+    # what is refused leaves the function
+    g.set_smooth_cost_function(steps)
+    for kind, bad in ((ValueError, (0, 2, 1)), (TypeError, (0, 1, 0.5)), (TypeError, (0, 1, "1"))):
+        refused(kind, g.set_pair_smooth_cost, *bad)
+    refused(ValueError, g.set_smooth_cost, [[0, 1]], says="cost: costs of shape (2, 2)")
+    refused(TypeError, g.set_smooth_cost_function, table, says="fun: a function of two sites and two labels is wanted, and not list")
+    refused(TypeError, g.set_smooth_cost_function, None, says="fun: a function of two sites and two labels is wanted, and not NoneType")
+    assert g.compute_smooth_energy() == 1 + 2 * 3
+    # another graph has neither
+    g.create_general_graph(2, 2)
+    g.set_neighbor_pair(0, 1, 1)
+    g.init_label_at_site(1, 1)
+    assert g.compute_smooth_energy() == 0
+
+
+def bad_functions():
+    """What a function answers that is no cost, and what it raises: nothing is changed by it."""
+    calls = ("expansion",), ("swap",), ("expansion_on_alpha", 0), ("alpha_beta_swap", 0, 1), ("lower_bound",), ("compute_energy",), ("compute_smooth_energy",)
+
+    def bad(kind, fun, says, is_float):
+        g = of_class(DATA, ROW, is_float, [1, 1, 1])
+        g.set_smooth_cost_function(steps)
+        assert g.expansion() == 6
+        g.set_smooth_cost_function(fun)
+        for name, *words in calls:
+            refused(kind, getattr(g, name), *words, says=says)
+        assert flat(g.get_labels()) == [0, 1, 1] and g.scale == 1 and g.compute_data_energy() == 5
+        g.set_smooth_cost_function(steps)
+        assert g.compute_smooth_energy() == 1 and g.expansion() == 6
+
+    def wrong(kind, answer, says, is_float):
+        bad(kind, lambda *words: answer, says, is_float)
+        bad(kind, lambda *words: answer if words == (2, 1, 1, 0) else 0, says, is_float)
+    wrong(TypeError, 0.5, "fun: costs with a fraction want energy_is_float=True", False)
+    for is_float in (False, True):
+        wrong(TypeError, None, "fun: whole numbers are wanted", is_float)
+        wrong(TypeError, "1", "fun: whole numbers are wanted", is_float)
+        wrong(OverflowError, 2**64, "fun: a number is not from", is_float)
+        wrong((ValueError, TypeError), [1, 2], "fun: ", is_float)
+        wrong((ValueError, TypeError), np.ones(1), "fun: ", is_float)
+        bad(ValueError, lambda *words: np.zeros((2, 2)), "fun: one number is wanted for the sites 0 and 1 and two labels", is_float)
+        bad(TypeError, lambda s1, s2, l1, l2: l1 != l2, "fun: whole numbers are wanted, and not bool", is_float)
+        bad(TypeError, lambda s1, s2: 0, "positional argument", is_float)
+        bad(KeyError, lambda s1, s2, l1, l2: {(0, 1): 0}[s1, s2], "(2, 1)", is_float)
+    wrong(ValueError, np.nan, "fun: a cost is no number (nan)", True)
+    for endless in (np.inf, -np.inf):
+        wrong(ValueError, endless, "fun: a cost has no limit", True)
+    for kind, is_float in ((int, False), (np.int8, False), (np.uint64, False), (np.array, False), (float, True), (np.float32, True)):
+        g = of_class(DATA, ROW, is_float)
+        g.set_smooth_cost_function(lambda *words: kind(steps(*words)))
+        assert g.expansion() == 6
+
+
+def limits_of_function():
+    """A weight times a cost comes to 10,000,000; more is refused, and with fractions allowed it is scaled."""
+    moves = ("expansion",), ("swap",), ("expansion_on_alpha", 0), ("alpha_beta_swap", 0, 1), ("lower_bound",)
+
+    def told(kind, pairs, fun, is_float=False, **more):
+        g = of_class(DATA, pairs, is_float)
+        g.set_smooth_cost_function(fun)
+        (one,) = {refused(kind, getattr(g, name), *words, **more) for name, *words in moves}
+        assert flat(g.get_labels()) == [0, 0, 0] and g.scale == 1
+        return one
+    # the sites 0 and 2 have one label for nothing, and the one between has the other for nothing
+    def up(s1, s2, l1, l2):
+        return 16 * (l1 < l2)
+    g = of_class(DATA, [(0, 1, 625000), (2, 1, 1)])
+    g.set_smooth_cost_function(up)
+    assert g.expansion() == 9 and g.lower_bound() <= 9
+    pairs, said = [(0, 1, 1), (2, 1, 625001)], "smooth: labels {} cost the pair of sites 2 and 1 10,000,016: a cost of the very pair is from 0 to 10,000,000"
+    assert told(gco.Refused, pairs, up, status=16, place=5) == said.format("0 and 1")
+    assert told(gco.Refused, pairs, lambda *words: -up(*words), status=16, place=0) == (
+        "smooth: labels 0 and 0 cost the pair of sites 0 and 1 10,000,016: a cost of the very pair is from 0 to 10,000,000")
+    g = of_class(DATA, pairs, True)
+    g.set_smooth_cost_function(up)
+    assert g.expansion() == 9 and g.scale == 0.5 and g.lower_bound() <= 9 and g.compute_smooth_energy() == 0
+    for site, label in enumerate([0, 1, 0]):
+        g.init_label_at_site(site, label)
+    assert g.compute_smooth_energy() == 10000032
+    # beyond 64 bits, where an energy is told all the same, and weights below 0
+    g = of_class([[-2**62, 5]] * 3, [(0, 1, 2**40), (2, 1, 3)])
+    g.set_smooth_cost([[2**40, 0], [0, 0]])
+    assert (g.compute_data_energy(), g.compute_smooth_energy()) == (-3 * 2**62, 2**80 + 3 * 2**40)
+    g.set_smooth_cost_function(lambda *words: -2**50)
+    assert (g.compute_smooth_energy(), g.compute_energy()) == (-2**90 - 3 * 2**50, -2**90 - 3 * 2**50 - 3 * 2**62)
+    assert told(OverflowError, [(0, 1, 2**40), (2, 1, 2**40)], lambda s1, s2, l1, l2: s1 * 2**20 * l1) == (
+        "fun: the pair of sites 2 and 1 costs up to 1099511627776 times 2097152, which is beyond 64 bits")
+    told(OverflowError, [(0, 1, 2**62)], lambda s1, s2, l1, l2: l1 - 2, says="fun: the pair of sites 0 and 1 costs up to 4611686018427387904 times 2, which")
+    told(OverflowError, [(0, 1, 1e200)], lambda *words: 1e200, True, says="fun: the pair of sites 0 and 1 costs up to 1e+200 times 1e+200")
+    told(ValueError, [(0, 1, -1)], steps, says="weights: -1 is below 0: a weight is from 0 on")
+    told(ValueError, [(0, 1, -0.5)], steps, True, says="weights: -0.5 is below 0: a weight is from 0 on")
+    # a term that no expansion takes
+    g = of_class(DATA, ROW, start=[1, 1, 1])
+    g.set_smooth_cost_function(lambda s1, s2, l1, l2: 9 * (s1 == 2 and l1 == l2 == 0))
+    refused(gco.Refused, g.expansion, status=24, place=1, says="are no metric")
+
+
 def never():
     """A label without limit: by hand, the middle one of three sites alone keeps label 0, whose borders cost 2."""
     unary, pairwise = np.array([[9, 0], [0, np.inf], [9, 0]]), [[0, 2], [2, 0]]
@@ -216,6 +514,14 @@ if np is not None:
     never()
     pygco()
     by_class(100)
+    function_by_hand()
+    by_function(300)
+    fractions_of_function(300)
+    products()
+    function_as_table(100)
+    functions_replaced()
+    bad_functions()
+    limits_of_function()
 else:
     refused(ImportError, gco.GCO, says="numpy is wanted")
     refused(TypeError, gco.cut_general_graph, [(0, 1)], [0.5], [[1, 2], [2, 1]], [[0, 1], [1, 0]], says="edge_weights")

@@ -36,7 +36,7 @@ class Found(_Found):
     It keeps the arrays of its problem for `gap`; a pickled one does not.
     """
 
-    given: Optional[Tuple[Any, Any, Any, Any]] = None
+    given: Optional[Tuple[Any, Any, Any, Any, Any]] = None
 
     def gap(self, passes: int = 50) -> float:
         """By what share the energy is above the least energy of all labellings, at most: 0.001
@@ -55,12 +55,13 @@ class Problem:
     """The arrays of a call, and its labels, which are a copy of the start.
 
     Where `narrow` is asked for, costs that lie in at most 32 bits go as 32 bits, and `narrow`
-    tells whether they do.
+    tells whether they do. `table_of` has for each pair the number of its table in a `smooth` of
+    three axes; where it is None, pair n has table n.
     """
 
     def __init__(self, data: Any, smooth: Any, pairs: Any, label_costs: Any, start: Any,
-                 narrow: bool = False) -> None:
-        self.given = (data, smooth, pairs, label_costs)
+                 narrow: bool = False, table_of: Any = None) -> None:
+        self.given = (data, smooth, pairs, label_costs, table_of)
         tables = [taken(data, "data"), taken(smooth, "smooth"),
                   taken(() if label_costs is None else label_costs, "label_costs")]
         self._look(*tables)
@@ -78,10 +79,12 @@ class Problem:
         self.owners = [run.owner for run in runs]
         self.slices = [number for run in runs for number in (run.address, run.length)]
         self.slices += [self.pairs.address, self.pairs.length // 3]
+        self.table_of: Any = None  # the number of each pair's table, where pair n has not table n
         if self.has_tables:
-            self._look_at_tables()
-            self.slices[2:2] = [self.pairs.length // 3]
-            self.slices += [None, 0]  # pair n has table n
+            self._add_tables(table_of)
+        elif table_of is not None:
+            raise ValueError("table_of: a smooth of shape (tables, labels, labels) is wanted beside"
+                             f" it, and the shape is {self.smooth_shape}")
         self._start(start)
         self.told = _library.Outcome()
 
@@ -110,11 +113,26 @@ class Problem:
             raise Refused(7, words=f"label_costs: one cost for each of {wanted} labels is wanted,"
                           f" and the shape is {costs}")
 
-    def _look_at_tables(self):
-        count = self.pairs.length // 3
-        if self.smooth_shape[0] != count:
+    def _add_tables(self, table_of):
+        """Looks at how many tables there are, and at the numbers that pairs have of them."""
+        count, tables = self.pairs.length // 3, self.smooth_shape[0]
+        self.slices[2:2] = [tables]
+        if table_of is not None:
+            self._add_numbers(taken(table_of, "table_of"), count)
+            return
+        if tables != count:
             raise Refused(5, words=f"smooth: one table for each of {count} pairs is wanted, and the"
                           f" shape is {self.smooth_shape}")
+        self.slices += [None, 0]
+
+    def _add_numbers(self, table_of, count):
+        shape = _sides(table_of, "table_of", 30)
+        if shape != (count,):
+            raise Refused(30, words=f"table_of: one number for each of {count} pairs is wanted, and"
+                          f" the shape is {shape}")
+        run = run_of(table_of, "I", "table_of")
+        self.table_of = run.owner
+        self.slices += [run.address, run.length]
 
     def _start(self, start):
         self.sites = math.prod(self.shape)
@@ -146,6 +164,31 @@ class Problem:
         owner = self.owners[part]
         return int(owner.reshape(-1)[place] if arrays.is_array(owner) else owner[place])
 
+    def _words_of_pair(self, status, place):
+        """What is wrong with the table of a pair: it is not there, or costs too much."""
+        first, second, weight = self.pair(place)
+        table = place if self.table_of is None else int(self.table_of[place])
+        if status == 31:
+            count = self.smooth_shape[0]
+            return f"table_of: the pair of sites {first} and {second} has table {table}: " + (
+                f"the tables are 0 to {count - 1}" if count else "there is no table")
+        size = self.label_count**2
+        most = max(self._at(1, table * size + at) for at in range(size))
+        return f"smooth: the pair of sites {first} and {second} costs up to {weight} times" \
+            f" {most:,}: a pair costs at most 10,000,000"
+
+    def _words_of_smooth(self, place):
+        """The smooth cost at a place that is out of its range."""
+        k, cost = self.label_count, f"{self._at(1, place):,}"
+        words = f"smooth: labels {place // k % k} and {place % k} cost"
+        limit = "a cost of the very pair is from 0 to 10,000,000"
+        if self.table_of is not None:
+            return f"{words} {cost} in table {place // k**2}: {limit}"
+        if self.has_tables:
+            first, second, _ = self.pair(place // k**2)
+            return f"{words} the pair of sites {first} and {second} {cost}: {limit}"
+        return f"{words} {cost}: a smooth cost is from 0 to 10,000"
+
     def refused(self, status: int) -> Refused:
         """The refusal in the caller's words."""
         told, k, words, sites = self.told, self.label_count, None, None
@@ -166,19 +209,9 @@ class Problem:
             words = f"data: label {place % k} at {self.site(place // k)} costs" \
                 f" {self._at(0, place):,}: a data cost is from 0 to 10,000,000"
         elif status == 16:
-            words = f"smooth: labels {place // k % k} and {place % k} cost" \
-                f" {self._at(1, place):,}: a smooth cost is from 0 to 10,000"
-            if self.has_tables:
-                first, second, _ = self.pair(place // k**2)
-                words = f"smooth: labels {place // k % k} and {place % k} cost the pair of sites" \
-                    f" {first} and {second} {self._at(1, place):,}: a cost of the very pair is" \
-                    " from 0 to 10,000,000"
-        elif status == 32:
-            first, second, weight = self.pair(place)
-            sites = (first, second)
-            most = max(self._at(1, place * k**2 + at) for at in range(k**2))
-            words = f"smooth: the pair of sites {first} and {second} costs up to {weight} times" \
-                f" {most:,}: a pair costs at most 10,000,000"
+            words = self._words_of_smooth(place)
+        elif status in (31, 32):
+            words, sites = self._words_of_pair(status, place), self.pair(place)[:2]
         elif status == 17:
             words = f"label_costs: label {place} costs {self._at(2, place):,}: a label cost is" \
                 " from 0 to 10,000,000"
@@ -244,7 +277,7 @@ def _move(told):
     return f"a swap of labels {told.alpha} and {told.beta}"
 
 
-def label(data: Any, smooth: Any, pairs: Any, *, label_costs: Any = None,
+def label(data: Any, smooth: Any, pairs: Any, *, table_of: Any = None, label_costs: Any = None,
           moves: str = "expansion", cycles: Optional[int] = None, start: Any = None,
           progress: Any = None, stoppable: Optional[bool] = None, scale: bool = False) -> Any:
     """Makes moves from a labelling, 0 everywhere if no `start` is given, until a cycle changes
@@ -257,6 +290,12 @@ def label(data: Any, smooth: Any, pairs: Any, *, label_costs: Any = None,
     weight from 0 to 1,000, and 1 where it is left out. `label_costs` are one for each label from 0
     to 10,000,000, or none. Raises Refused, ValueError for a wrong shape, TypeError for numbers with
     a fraction, and OverflowError for numbers beyond their bits.
+
+    `table_of` lets pairs share tables: `smooth` has then the shape (tables, labels, labels), and
+    `table_of` the shape (pairs), for each pair the number of its table, from 0 to tables - 1. A
+    pair costs its weight times the entry of that table. Another shape is Refused with the status
+    30, a number of no table with 31, and a pair that costs more than 10,000,000 with 32. Beside a
+    `smooth` of another number of axes, or `scale`, it is a ValueError.
 
     `progress` is called about every 0.8 s and at the end: with the cycle (from 1) and the label
     of the last move (of a swap both), how many sites changed since the call before, and the energy.
@@ -272,26 +311,27 @@ def label(data: Any, smooth: Any, pairs: Any, *, label_costs: Any = None,
     Scaled in place of a Found. Energies that `progress` is told are those of the whole numbers.
     """
     if scale:
-        if len(shape_of(taken(smooth, "smooth"), "smooth")) == 3:
+        if table_of is not None or len(shape_of(taken(smooth, "smooth"), "smooth")) == 3:
             raise ValueError("smooth: costs of each pair are whole numbers: scale and round them"
                              " first, without scale=True")
         from .cuts import label_by_scale
         return label_by_scale(data, smooth, pairs, label_costs, moves=moves, cycles=cycles,
                               start=start, progress=progress, stoppable=stoppable)
     try:
-        return _labelled(data, smooth, pairs, label_costs, moves, cycles, start, progress,
+        return _labelled(data, smooth, pairs, table_of, label_costs, moves, cycles, start, progress,
                          stoppable)
     except KeyboardInterrupt as stop:
         stop.partial = getattr(stop, "partial", None)  # type: ignore[attr-defined]
         raise
 
 
-def _labelled(data, smooth, pairs, label_costs, moves, cycles, start, progress, stoppable):
+def _labelled(data, smooth, pairs, table_of, label_costs, moves, cycles, start, progress,
+              stoppable):
     """label, by one call of the library or by stretches."""
     if moves not in MOVES:
         raise ValueError(f"moves: expansion or swap is wanted, and not {moves!r}")
     allowed = ALL_CYCLES if cycles is None else whole(cycles, 0, ALL_CYCLES, "cycles")
-    problem = Problem(data, smooth, pairs, label_costs, start, narrow=True)
+    problem = Problem(data, smooth, pairs, label_costs, start, narrow=True, table_of=table_of)
     if stoppable is None:
         stoppable = _stops(problem)
     if progress is None and not stoppable:
@@ -308,17 +348,20 @@ def _stops(problem):
             and callable(signal.getsignal(signal.SIGINT)))
 
 
-def expand(data: Any, smooth: Any, pairs: Any, alpha: int, *, label_costs: Any = None,
-           start: Any = None) -> Found:
-    """One move: every site keeps its label or takes `alpha`. `settled`: nothing changed."""
-    problem = Problem(data, smooth, pairs, label_costs, start, narrow=True)
+def expand(data: Any, smooth: Any, pairs: Any, alpha: int, *, table_of: Any = None,
+           label_costs: Any = None, start: Any = None) -> Found:
+    """One move: every site keeps its label or takes `alpha`. `settled`: nothing changed. The
+    arrays are those of `label`."""
+    problem = Problem(data, smooth, pairs, label_costs, start, narrow=True, table_of=table_of)
     told = problem.make(problem.call_of("gco_expand"), whole(alpha, 0, 2**32 - 1, "alpha"))
     return problem.found(0, not told.changed)
 
 
-def swap(data: Any, smooth: Any, pairs: Any, alpha: int, beta: int, *, start: Any = None) -> Found:
-    """One move: every site that has `alpha` or `beta` takes either. `settled`: nothing changed."""
-    problem = Problem(data, smooth, pairs, None, start, narrow=True)
+def swap(data: Any, smooth: Any, pairs: Any, alpha: int, beta: int, *, table_of: Any = None,
+         start: Any = None) -> Found:
+    """One move: every site that has `alpha` or `beta` takes either. `settled`: nothing changed. The
+    arrays are those of `label`."""
+    problem = Problem(data, smooth, pairs, None, start, narrow=True, table_of=table_of)
     told = problem.make(problem.call_of("gco_swap"), whole(alpha, 0, 2**32 - 1, "alpha"),
                         whole(beta, 0, 2**32 - 1, "beta"))
     return problem.found(0, not told.changed)

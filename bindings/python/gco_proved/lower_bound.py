@@ -13,7 +13,7 @@ from . import _library, arrays
 from ._library import ALL_CYCLES, ANY_SIZE
 from .arrays import whole
 from .labelling import Found, Problem, label
-from .scaling import costs_below
+from .scaling import ONE_TABLE, Limits, costs_below
 
 PASSES = 50
 
@@ -26,8 +26,9 @@ class LowerBound(NamedTuple):
     labels: Any
 
 
-def lower_bound(data: Any, smooth: Any, pairs: Any, *, label_costs: Any = None,
-                passes: int = PASSES, most_bytes: Optional[int] = None) -> LowerBound:
+def lower_bound(data: Any, smooth: Any, pairs: Any, *, table_of: Any = None,
+                label_costs: Any = None, passes: int = PASSES,
+                most_bytes: Optional[int] = None) -> LowerBound:
     """A bound from below of the energy of every labelling of the problem.
 
     The arrays are those of `label`; the smooth costs need be no metric. There are `passes` passes
@@ -36,7 +37,8 @@ def lower_bound(data: Any, smooth: Any, pairs: Any, *, label_costs: Any = None,
     label; if these are more than `most_bytes`, it raises Refused, of status 9, at once. It raises
     what `label` raises of the arrays.
     """
-    return bound_of(Problem(data, smooth, pairs, label_costs, None), passes, most_bytes)
+    problem = Problem(data, smooth, pairs, label_costs, None, table_of=table_of)
+    return bound_of(problem, passes, most_bytes)
 
 
 def bound_of(problem: Problem, passes: int, most_bytes: Optional[int] = None) -> LowerBound:
@@ -77,21 +79,24 @@ def gap_of(found: Found, passes: int) -> float:
     """`Found.gap`."""
     if found.given is None:
         raise ValueError("gap: the arrays of the problem are not kept here: call lower_bound")
-    data, smooth, pairs, costs = found.given
-    same = label(data, smooth, pairs, label_costs=costs, cycles=0, start=found.labels)
+    data, smooth, pairs, costs, table_of = found.given
+    same = label(data, smooth, pairs, table_of=table_of, label_costs=costs, cycles=0,
+                 start=found.labels)
     if same.energy != found.energy:
         raise ValueError("gap: the arrays of the problem were changed since the run")
-    low = lower_bound(data, smooth, pairs, label_costs=costs, passes=passes).low
+    low = lower_bound(data, smooth, pairs, table_of=table_of, label_costs=costs,
+                      passes=passes).low
     return share_above(found.energy, low)
 
 
-def bound_in_units(unary: Any, pairwise: Any, ends: Any, weights: Any, passes: int) -> LowerBound:
+def bound_in_units(unary: Any, pairwise: Any, ends: Any, weights: Any, passes: int,
+                   limits: Limits = ONE_TABLE) -> LowerBound:
     """The bound of a problem of numpy arrays whose costs are shifted and scaled, in the caller's
-    units and rounded down: whole where all costs are whole.
+    units and rounded down: whole where all costs are whole. `limits` are those of whole_costs.
 
     The whole costs are rounded down, each of them, so no labelling gets dearer by it.
     """
-    costs, shift = costs_below(unary, pairwise, weights)
+    costs, shift = costs_below(unary, pairwise, weights, limits)
     pairs = arrays.numpy.column_stack([ends, costs.weights]).reshape(-1, 3)
     found = lower_bound(costs.unary, costs.pairwise, pairs, passes=passes)
     low = Fraction(found.low) / Fraction(costs.scale) + shift

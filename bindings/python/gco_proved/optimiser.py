@@ -1,5 +1,5 @@
 """GCO: a problem that is set part by part, under the names of gco-wrapper's class."""
-from typing import Any, Dict, List, Tuple
+from typing import Any, Callable, List, Optional
 
 from . import arrays
 from .arrays import whole
@@ -7,7 +7,9 @@ from .cuts import cycles_of
 from .grids import grid_pairs
 from .labelling import expand, label, swap
 from .lower_bound import PASSES, bound_in_units
-from .scaling import costs_of, whole_costs
+from .scaling import EACH_TABLE, ONE_TABLE, costs_of, weighted_tables, whole_costs
+
+Function = Callable[[int, int, int, int], Any]
 
 
 class GCO:
@@ -30,9 +32,8 @@ class GCO:
         numpy = arrays.numpy
         self._kind = float if energy_is_float else int
         self._unary: Any = numpy.zeros((sites, count), dtype=self._kind)
-        self._pairwise: Any = numpy.zeros((count, count), dtype=self._kind)
+        self._set_pairwise(numpy.zeros((count, count), dtype=self._kind))
         self._edges: List[Any] = []
-        self._single: Dict[Tuple[int, int], Any] = {}
         self._labels = numpy.zeros(sites, dtype=numpy.int32)
         self._there = True
 
@@ -88,6 +89,7 @@ class GCO:
             for site in sites[(sites < 0) | (sites >= len(self._labels))][:1]:
                 self._site(site)
         self._edges.append((arrays.numpy.column_stack(ends), weights))
+        self._tables = None
 
     def set_smooth_cost(self, cost: Any) -> None:
         """All pairwise costs, of shape (labels, labels)."""
@@ -95,11 +97,40 @@ class GCO:
         if costs.shape != self._pairwise.shape:
             raise ValueError(f"cost: costs of shape {self._pairwise.shape} are wanted, and the"
                              f" shape is {costs.shape}")
-        self._pairwise = costs.astype(self._kind)
+        self._set_pairwise(costs.astype(self._kind))
 
     def set_pair_smooth_cost(self, l1: int, l2: int, cost: Any) -> None:
-        """One pairwise cost."""
+        """One pairwise cost. After set_smooth_cost_function the others are 0, as in gco-v3."""
         self._pairwise[self._label(l1), self._label(l2)] = self._costs(cost, "cost")[0]
+        self._set_pairwise(self._pairwise)
+
+    def set_smooth_cost_function(self, fun: Function) -> None:
+        """Pairwise costs by a function, in place of a table: fun(s1, s2, l1, l2) answers what the
+        labels `l1` of the site `s1` and `l2` of the site `s2` cost. A pair pays its weight times
+        that, with its sites as they were set. Of a function and a table the last that was set
+        counts; set_pair_smooth_cost after a function begins a table of zeros.
+
+        The function is called once for each pair and each two labels, when a move, an energy or a
+        bound first wants them, and anew after a pair was added or a function set. What it raises
+        passes on, and nothing is changed. It answers one number, of which is refused what
+        set_smooth_cost refuses: with a fraction it wants energy_is_float=True.
+
+        Each weight times a cost is at most 10,000,000, after a shift by the least of them where
+        that is below 0. What is more is Refused, and with energy_is_float=True scaled down.
+        Raises TypeError for what cannot be called. Moves and bounds raise ValueError for a weight
+        below 0, and OverflowError for a product beyond 64 bits.
+        """
+        self._asked()
+        if not callable(fun):
+            raise TypeError("fun: a function of two sites and two labels is wanted, and not"
+                            f" {type(fun).__name__}")
+        self._set_pairwise(arrays.numpy.zeros_like(self._pairwise), fun)
+
+    def _set_pairwise(self, table: Any, function: Optional[Function] = None) -> None:
+        """One table for all pairs, or a function, beside which the table is not used."""
+        self._pairwise = table
+        self._function = function
+        self._tables: Any = None  # what the function answered, of shape (pairs, labels, labels)
 
     def _site(self, site):
         self._asked()
@@ -123,11 +154,58 @@ class GCO:
         return (numpy.concatenate([ends for ends, _ in self._edges]),
                 numpy.concatenate([weights for _, weights in self._edges]))
 
+    def _answers(self, ends):
+        """What the function answers for each pair and each two labels."""
+        if self._tables is None:
+            count = len(self._pairwise)
+            rows = [self._answers_of(first, second) for first, second in ends.tolist()]
+            costs = self._costs(rows, "fun")
+            self._tables = costs.reshape(-1, count, count).astype(self._kind)
+        return self._tables
+
+    def _answers_of(self, first, second):
+        every = range(len(self._pairwise))
+        answers = [self._function(first, second, a, b) for a in every for b in every]
+        try:
+            row = arrays.numpy.asarray(answers)
+        except ValueError:  # arrays of several shapes
+            row = arrays.numpy.zeros(())
+        if row.ndim != 1:
+            raise ValueError(f"fun: one number is wanted for the sites {first} and {second} and two"
+                             " labels")
+        return row
+
+    def _weighed(self, ends, weights, down):
+        """The answers of the function times the weights."""
+        numpy, tables = arrays.numpy, self._answers(ends)
+        if weights.size and weights.min() < 0:
+            raise ValueError(f"weights: {weights.min()} is below 0: a weight is from 0 on")
+        greatest = numpy.maximum(tables.max(axis=(1, 2)).astype(float),
+                                 -tables.min(axis=(1, 2)).astype(float))
+        with numpy.errstate(over="ignore"):
+            beyond = greatest * weights >= (2.0**60 if self._kind is int else numpy.inf)
+        if beyond.any():
+            place = int(beyond.argmax())
+            first, second = ends[place]
+            raise OverflowError(f"fun: the pair of sites {first} and {second} costs up to"
+                                f" {weights[place]} times {greatest[place]:.12g}, which is beyond"
+                                " 64 bits")
+        return weighted_tables(tables, weights, down)
+
+    def _problem(self, down=False):
+        """Pairwise costs and pairs, and the limits of costs and weights. Products of the function
+        are rounded to the nearest, or `down`."""
+        ends, weights = self._pairs()
+        if self._function is None:
+            return self._pairwise, ends, weights, ONE_TABLE
+        ones = arrays.numpy.ones(len(ends), dtype=int)
+        return self._weighed(ends, weights, down), ends, ones, EACH_TABLE
+
     def _moved(self, move, *numbers, **more):
         """Makes moves from the labels, and answers the energy."""
         self._asked()
-        ends, weights = self._pairs()
-        costs = whole_costs(self._unary, self._pairwise, weights)
+        pairwise, ends, weights, limits = self._problem()
+        costs = whole_costs(self._unary, pairwise, weights, limits=limits)
         pairs = arrays.numpy.column_stack([ends, costs.weights]).reshape(-1, 3)
         self.scale = costs.scale
         found = move(costs.unary, costs.pairwise, pairs, *numbers, start=self._labels, **more)
@@ -154,7 +232,8 @@ class GCO:
         """A number that no labelling's energy is below, in the caller's own costs and rounded down:
         see gco_proved.lower_bound. The labels stay as they are."""
         self._asked()
-        return bound_in_units(self._unary, self._pairwise, *self._pairs(), passes).low
+        pairwise, ends, weights, limits = self._problem(down=True)
+        return bound_in_units(self._unary, pairwise, ends, weights, passes, limits).low
 
     def compute_energy(self) -> Any:
         """The energy of the labels."""
@@ -164,14 +243,18 @@ class GCO:
         """What the labels cost at the sites."""
         self._asked()
         every = arrays.numpy.arange(len(self._labels))
-        return self._unary[every, self._labels].sum().item()
+        return _sum_of(self._unary[every, self._labels], arrays.numpy.ones(1, dtype=int))
 
     def compute_smooth_energy(self) -> Any:
         """What the labels cost at the pairs."""
         self._asked()
         ends, weights = self._pairs()
-        paid = self._pairwise[self._labels[ends[:, 0]], self._labels[ends[:, 1]]]
-        return (paid * weights).sum().item()
+        first, second = self._labels[ends[:, 0]], self._labels[ends[:, 1]]
+        if self._function is None:
+            paid = self._pairwise[first, second]
+        else:
+            paid = self._answers(ends)[arrays.numpy.arange(len(ends)), first, second]
+        return _sum_of(paid, weights)
 
     def get_label_at_site(self, site: int) -> int:
         return int(self._labels[self._site(site)])
@@ -184,6 +267,15 @@ class GCO:
     def init_label_at_site(self, site: int, label: int) -> None:
         """The label that a site has before the first move."""
         self._labels[self._site(site)] = self._label(label)
+
+
+def _sum_of(costs, weights):
+    """The sum of costs times weights, which is exact where they are whole, beyond 64 bits too."""
+    is_whole = costs.dtype.kind != "f" and weights.dtype.kind != "f"
+    if is_whole and abs(costs.astype(float) * weights).sum() >= 2.0**62:
+        costs = costs.astype(object)
+    total = (costs * weights).sum()
+    return int(total) if is_whole else total.item()
 
 
 __all__ = ["GCO"]

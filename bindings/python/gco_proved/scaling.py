@@ -5,14 +5,20 @@ The rule, where a cost has a fraction: unary costs are multiplied by `scale` and
 nearest; pairwise costs and weights each by a power of two, whose product is `scale`, the former
 rounded up, which keeps a metric one, and the latter to the nearest. The powers are the least that
 leave no fraction, where there are such within gco's limits, and else the greatest within them.
+Where each pair has a table, that takes its weight in first, and is rounded up with it.
 """
 import math
 from fractions import Fraction
 from typing import Any, NamedTuple, Optional, Tuple
 
 from . import arrays
-from ._library import DATA_LIMIT, SMOOTH_LIMIT, WEIGHT_LIMIT
+from ._library import DATA_LIMIT, PAIR_COST_LIMIT, SMOOTH_LIMIT, WEIGHT_LIMIT
 from .arrays import run_of, shape_of, taken
+
+# the greatest pairwise cost and weight: of one table for all pairs, and of a table for each
+Limits = Tuple[int, int]
+ONE_TABLE: Limits = (SMOOTH_LIMIT, WEIGHT_LIMIT)
+EACH_TABLE: Limits = (PAIR_COST_LIMIT, 1)
 
 
 class Scaled(NamedTuple):
@@ -75,9 +81,11 @@ def costs_of(values: Any, what: str, never: bool = False) -> Any:
 
 
 def whole_costs(unary: Any, pairwise: Any, weights: Any,
-                down_weight_factor: Optional[float] = None, label_costs: Any = None) -> Costs:
+                down_weight_factor: Optional[float] = None, label_costs: Any = None,
+                limits: Limits = ONE_TABLE) -> Costs:
     """The whole costs of a problem by the rule above; `weights` may be None, for 1 everywhere, and
-    `label_costs`, which are scaled as unary costs are, for none."""
+    `label_costs`, which are scaled as unary costs are, for none. Beside EACH_TABLE `pairwise` has
+    shape (pairs, labels, labels), as weighted_tables makes it, and each weight is 1."""
     if arrays.numpy is None:
         if down_weight_factor is not None:
             raise TypeError("down_weight_factor: costs with a fraction are scaled with numpy alone:"
@@ -93,14 +101,14 @@ def whole_costs(unary: Any, pairwise: Any, weights: Any,
     unary, pairwise = _shifted(unary, pairwise)
     own = numpy.zeros(0, dtype=int) if label_costs is None else label_costs
     if all(table.dtype.kind != "f" for table in (unary, pairwise, weights, own)):
-        pairwise, weights = _balanced(pairwise, weights)
+        pairwise, weights = _balanced(pairwise, weights, limits)
         return Costs(unary, pairwise, weights, 1.0, True, label_costs)
     for table, what in ((weights, "weights: {} is below 0: a weight is from 0 on"),
                         (own, "label_costs: {} is below 0: a label cost is from 0 on")):
         if table.size and table.min() < 0:
             raise ValueError(what.format(table.min()))
     by_site = numpy.concatenate([unary.ravel(), own.ravel()])
-    by_pairwise, by_weight = _powers(by_site, pairwise, weights, never)
+    by_pairwise, by_weight = _powers(by_site, pairwise, weights, never, limits)
     scale = by_pairwise * by_weight
     whole = (numpy.rint(unary * scale), numpy.ceil(pairwise * by_pairwise - 1e-6),
              numpy.rint(weights * by_weight), numpy.rint(own * scale))
@@ -126,7 +134,8 @@ def _limited(unary):
     return numpy.where(never, unary.min(axis=-1, keepdims=True), unary), never
 
 
-def costs_below(unary: Any, pairwise: Any, weights: Any) -> Tuple[Costs, Fraction]:
+def costs_below(unary: Any, pairwise: Any, weights: Any,
+                limits: Limits = ONE_TABLE) -> Tuple[Costs, Fraction]:
     """Whole costs by the rule above, but each rounded down, and the energy that is to be added.
 
     An energy of the caller's is not below that of the whole costs by `scale`, and the shift.
@@ -140,14 +149,37 @@ def costs_below(unary: Any, pairwise: Any, weights: Any) -> Tuple[Costs, Fractio
     shift = -_sum_up(-least) + Fraction(lowest.item() if lowest else 0) * _sum_up(weights)
     unary, pairwise = _less(unary, least), _less(pairwise, lowest)
     if all(table.dtype.kind != "f" for table in (unary, pairwise, weights)):
-        return Costs(unary, *_balanced(pairwise, weights), 1.0, True), shift
-    by_pairwise, by_weight = _powers(unary, pairwise, weights, never)
+        return Costs(unary, *_balanced(pairwise, weights, limits), 1.0, True), shift
+    by_pairwise, by_weight = _powers(unary, pairwise, weights, never, limits)
     whole = (numpy.floor(unary * (by_pairwise * by_weight)), numpy.floor(pairwise * by_pairwise),
              numpy.floor(weights * by_weight))
     data, smooth, weighed = (table.astype(numpy.int64) for table in whole)
     if never is not None:
         data[never] = DATA_LIMIT
     return Costs(data, smooth, weighed, by_pairwise * by_weight, False), shift
+
+
+def weighted_tables(tables: Any, weights: Any, down: bool = False) -> Any:
+    """Tables of pairs, of shape (pairs, labels, labels), each times the weight of its pair. Of
+    fractions a product that cannot be exact is rounded to the nearest, or `down`."""
+    numpy = arrays.numpy
+    weights = weights.reshape(-1, 1, 1)
+    product = tables * weights
+    if product.dtype.kind != "f" or not down:
+        return product
+    with numpy.errstate(over="ignore", invalid="ignore"):
+        (high, low), (above, below) = _halves(tables), _halves(weights)
+        lost = high * above - product + high * below + low * above + low * below
+    # what the product is short of; where that overflows, it is rounded down all the same
+    return numpy.where(lost >= 0, product, numpy.nextafter(product, -numpy.inf))
+
+
+def _halves(table):
+    """Each number as the sum of two that have half the digits, whose products are exact (Veltkamp,
+    Dekker 1971)."""
+    spread = table * (2.0 ** 27 + 1)
+    high = spread - (spread - table)
+    return high, table - high
 
 
 def _less(table, least):
@@ -180,17 +212,16 @@ def _shifted(unary, pairwise):
     return unary, pairwise
 
 
-def _balanced(pairwise, weights):
+def _balanced(pairwise, weights, limits):
     """Whole pairwise costs or weights beyond their limit, within both, where a common factor of the
     ones goes to the others; else as they are, and the call refuses them."""
-    numpy = arrays.numpy
     if not pairwise.size or not weights.size or weights.min() < 0:
         return pairwise, weights
-    greatest, heaviest = int(pairwise.max()), int(weights.max())
-    factor = _factor(pairwise, greatest, SMOOTH_LIMIT, heaviest, WEIGHT_LIMIT)
+    greatest, heaviest, (most, most_weight) = int(pairwise.max()), int(weights.max()), limits
+    factor = _factor(pairwise, greatest, most, heaviest, most_weight)
     if factor > 1:
         return pairwise // factor, weights * factor
-    factor = _factor(weights, heaviest, WEIGHT_LIMIT, greatest, SMOOTH_LIMIT)
+    factor = _factor(weights, heaviest, most_weight, greatest, most)
     return pairwise * factor, weights // factor
 
 
@@ -230,11 +261,11 @@ def _least_exact(table, most):
     return 2.0 ** great
 
 
-def _powers(unary, pairwise, weights, never):
+def _powers(unary, pairwise, weights, never, limits):
     """The powers of two of pairwise costs and of weights. If some label is `never` to be taken, the
     unary costs with fractions come to a sixty-fourth of what stands for no limit."""
     limit = DATA_LIMIT if never is None or _is_whole(unary, 1.0) else DATA_LIMIT // 64
-    most = _most(unary, limit), _most(pairwise, SMOOTH_LIMIT), _most(weights, WEIGHT_LIMIT)
+    most = _most(unary, limit), _most(pairwise, limits[0]), _most(weights, limits[1])
     exact = [_least_exact(table, power)
              for table, power in zip((unary, pairwise, weights), most)]
     scale = min(most[0], most[1] * most[2])
