@@ -55,6 +55,21 @@ static long long best_expansion(Stack &stack, const std::vector<int> &from, int 
     return least;
 }
 
+// the least energy of all labellings, by trying all 3^12
+static long long least_of_all(Stack &stack) {
+    std::vector<int> f(SITES, 0);
+    long long least = cost(stack, f);
+    for (std::size_t p = 0; p < f.size();) {
+        if (++f[p] == PHOTOGRAPHS) {
+            f[p++] = 0;   // the next site counts on
+            continue;
+        }
+        least = std::min(least, cost(stack, f));
+        p = 0;
+    }
+    return least;
+}
+
 int main() {
     Stack stack = {{{10, 20, 30, 40, 50, 60, 70, 80, 15, 25, 35, 45},
                     {12, 20, 35, 40, 50, 61, 70, 90, 15, 20, 35, 44},
@@ -76,7 +91,8 @@ int main() {
     const long long single = gc.compute_energy();
     for (int p = 0; p < SITES; p++) gc.setLabel(p, 0);
     WANT(gc.expansion() == single && labels_of(gc) == labels && gc.giveDataEnergy() == 0);
-    WANT(gc.swap() <= single && gc.lowerBound() == 0);
+    WANT(gc.swap() <= single);
+    WANT(gc.lowerBound() > 0 && gc.lowerBound() <= least_of_all(stack));
     std::printf("p3: a montage of three photographs, seams of %lld\n", single);
     return 0;
 }
