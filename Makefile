@@ -12,6 +12,7 @@
 #   make check-arm                 makes the release for ARM, and tries it by qemu
 #   make bench                     measures the program beside another: bench/README.md;
 #                                  BENCH_OPTIONS=--renew writes the figures into the pages
+#   make bench-pairs               the library beside another, where each pair has a table of its own
 # The program and the library are what `rt run` in crates/gco and `make -C bindings` leave.
 # Others may be named:
 #   GCO=path/of/gco                the built program
@@ -141,6 +142,9 @@ check-packages-%:
 bench: $(GCO)
 	$(MAKE) -C bench GCO=$(abspath $(GCO)) PYTHON=$(PYTHON) BENCH_OPTIONS="$(BENCH_OPTIONS)"
 
+bench-pairs:
+	$(MAKE) -C bench bench-pairs PYTHON=$(PYTHON) BENCH_OPTIONS="$(BENCH_OPTIONS)"
+
 clean:
 	rm -rf dist
 	$(MAKE) -C bindings clean
@@ -150,6 +154,6 @@ FORCE:
 
 .PHONY: web npm check-web check-arm \
 	release install uninstall check check-pages check-program check-bindings check-packages \
-	bench clean FORCE
+	bench bench-pairs clean FORCE
 .DELETE_ON_ERROR:
 .NOTPARALLEL:
