@@ -11,7 +11,7 @@ use Rattle.sink_distances.specs.declared.rows.Rows.{Rows}
 use Rattle.sink_distances.specs.Rows.{head_at, opposite_at, residual_at, first_at, IsPlace, IsPlaceOf, IsRows, IsSent}
 use Rattle.sink_distances.proofs.Showing.{directed}
 use Rattle.plain_cut.specs.declared.work.Work.{Work}
-use Rattle.plain_cut.specs.State.{IsPush, ChangesOnly, IsSpent, IsStuck}
+use Rattle.plain_cut.specs.State.{IsPush, ChangesOnly, ChangesAmong, IsSpent, IsStuck}
 
 -- ---- what a direction and its opposite can carry
 
@@ -98,6 +98,22 @@ spent_more old new v p q push only place here before = elim (cases_eq q p) [
   | inl same ↦ rw same here
   | inr other ↦ spent_kept old new v q push (only q other place) before
 ]
+
+-- one more direction of those that may change
+pub among_more : (v first last p : ℕ) (old now new : Work) → IsPush v old now → first ≤ p → p < last
+    → ChangesAmong v first last old now → ChangesOnly v p now new → ChangesAmong v first last old new
+among_more v first last p old now new push low high before only q out place =
+    let off : q ≢ p = elim out [
+      | inl under ↦ λ same. absurd (omega (arith, under, low, same))
+      | inr over ↦ λ same. absurd (omega (arith, over, high, same))
+    ] in
+    only q off (push_place v old now q push place) ∙ before q out place
+
+-- the directions behind the first pushes are spent still after pushes along those before them
+pub spent_round : (v from q : ℕ) (old now new : Work) (first : ℕ) → IsPush v old now → IsPush v now new
+    → ChangesAmong v first from now new → from ≤ q → IsPlace old.rows v q → IsSpent now v q → IsSpent new v q
+spent_round v from q old now new first before push only over place spent =
+    spent_kept now new v q push (only q (inr over) (push_place v old now q before place)) spent
 
 -- ---- all pushes of the node are made
 

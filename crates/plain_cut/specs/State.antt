@@ -1,4 +1,4 @@
-use Rattle.std.specs.Prelude.{◌≡◌, ◌≢◌, ℕ, zero, suc, ◌+◌, ◌<◌, ◌≤◌, List, length, slice_index}
+use Rattle.std.specs.Prelude.{◌≡◌, ◌≢◌, ◌⊎◌, ℕ, zero, suc, ◌+◌, ◌<◌, ◌≤◌, List, length, slice_index}
 use Rattle.std.specs.Prelude.{All, Contains}
 use Rattle.flow_network.specs.Cut.{Network, nodes}
 use Rattle.flow_network.specs.Preflow.{Flow, flow_by, sink_flows, AreRooms, IsResidual}
@@ -106,6 +106,12 @@ pub record IsPush (v : ℕ) (old new : Work) : Type 0 where
 abbrev pub ChangesOnly : ℕ → ℕ → Work → Work → Type 0
 ChangesOnly v p old new =
     (q : ℕ) → q ≢ p → IsPlace old.rows v q → residual_at new.rows q ≡ residual_at old.rows q
+
+-- no direction of the node but those at places from the first to before the last can carry more or
+-- less than before
+abbrev pub ChangesAmong : ℕ → ℕ → ℕ → Work → Work → Type 0
+ChangesAmong v first last old new = (q : ℕ) → (q < first) ⊎ (last ≤ q) → IsPlace old.rows v q
+    → residual_at new.rows q ≡ residual_at old.rows q
 
 -- where the node has excess left, its direction at p is used up or does not lead down
 abbrev pub IsSpent : Work → ℕ → ℕ → Type 0

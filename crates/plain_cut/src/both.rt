@@ -107,7 +107,7 @@ fn wider_side(
         return least_side(alloc, net, work);
     }
     add_room(net, wider, work, more);
-    maximise(wider, work, order, found)?;
+    maximise(alloc, wider, work, order, found)?;
     least_side(alloc, wider, work)
 }
 

@@ -1,5 +1,6 @@
 //! The nodes in the queue are discharged, in its order.
-ghost use Rattle.std.specs.Prelude.{◌≡◌, ◌+◌, ◌<◌, ◌≤◌, OnOk, slice_index};
+ghost use Rattle.std.specs.Prelude.{◌≡◌, ◌+◌, ◌<◌, ◌≤◌, OnOk, length};
+ghost use Rattle.std.specs.Prelude.{slice_index};
 ghost use Rattle.flow_network.specs.Cut.{nodes};
 ghost use Rattle.flow_network.specs.Progress.{top};
 ghost use Rattle.plain_cut.specs.State.{work_measure, IsWork, IsQueuedBut, IsSteps};
@@ -13,8 +14,15 @@ use std::alloc::{AllocError, Global};
 
 /// Pushes and new labels until the node has no excess, or its label has come to the limit. A node
 /// whose label is there already stands aside: it does not push.
-pub fn discharge(net: &Outline, work: &mut Work, v: usize, limit: u32) -> Result<(), AllocError>
+pub fn discharge(
+    net: &Outline,
+    work: &mut Work,
+    v: usize,
+    limit: u32,
+    stops: &mut [u32],
+) -> Result<(), AllocError>
     requires work { IsWork net.now work.old }
+    requires stops { length stops.old ≤ nodes net.now }
     requires node { v < nodes net.now }
     requires limit { limit ≤ top net.now }
     ensures steps { OnOk result (IsSteps net.now v work.old work.new) }
@@ -25,7 +33,7 @@ pub fn discharge(net: &Outline, work: &mut Work, v: usize, limit: u32) -> Result
 {
     let _nodes = net.nodes();
     'steps: while work.labels[v] < limit {
-        push_all(net, work, v)?;
+        push_all(net, work, v, stops)?;
         if work.excess[v] == 0 {
             return Ok(());
         }
@@ -36,8 +44,14 @@ pub fn discharge(net: &Outline, work: &mut Work, v: usize, limit: u32) -> Result
 
 /// Discharges the nodes in the order of the queue, until none whose label is below the limit has
 /// excess, or there were more than n / 32 new labels, where n is the number of nodes.
-pub fn discharge_all(net: &Outline, work: &mut Work, limit: u32) -> Result<(), AllocError>
+pub fn discharge_all(
+    net: &Outline,
+    work: &mut Work,
+    limit: u32,
+    stops: &mut [u32],
+) -> Result<(), AllocError>
     requires work { IsWork net.now work.old }
+    requires stops { length stops.old ≤ nodes net.now }
     requires limit { limit ≤ top net.now }
     requires queued { IsQueuedBut net.now limit (nodes net.now) work.old }
     ensures work { OnOk result (IsWork net.now work.new) }
@@ -50,7 +64,7 @@ pub fn discharge_all(net: &Outline, work: &mut Work, limit: u32) -> Result<(), A
         let Some(v) = work.queue.pop_front() else {
             return Ok(());
         };
-        discharge(net, work, v as usize, limit)?;
+        discharge(net, work, v as usize, limit, stops)?;
     }
     Ok(())
 }

@@ -1,7 +1,8 @@
 //! A least cut of a net by the preflow method, proved to be the smallest one.
 //!
 //! `work` is what the solver changes, `pushes` and `relabels` are its moves, `opening`, `phases`
-//! and `discharges` are their order, and `solver` is the whole (Goldberg, Tarjan 1988).
+//! and `discharges` are their order, `wide` finds nodes of many directions, and `solver` is the
+//! whole (Goldberg, Tarjan 1988).
 #![tactic(auto)]
 
 mod both;
@@ -11,6 +12,7 @@ mod phases;
 mod pushes;
 mod relabels;
 mod solver;
+mod wide;
 mod work;
 mod workspace;
 

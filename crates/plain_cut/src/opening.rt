@@ -1,10 +1,11 @@
 //! First pushes, before there are labels.
-ghost use Rattle.std.specs.Prelude.{◌≡◌, ◌≢◌, ◌<◌, IfOk, IsTrue, slice_index};
+ghost use Rattle.std.specs.Prelude.{◌≡◌, ◌≢◌, ◌⊎◌, ◌+◌, ◌<◌, ◌≤◌, IfOk, IsTrue, slice_index};
 ghost use Rattle.flow_network.specs.Cut.{nodes, IsNet};
 ghost use Rattle.sink_distances.specs.Rows.{head_at, residual_at, IsPlace, IsRows, CarryNothing};
 ghost use Rattle.plain_cut.specs.State.{IsWork, IsUnlabelled};
 
 use crate::pushes::{carry, try_push_sink};
+use crate::wide::count_wide;
 use crate::work::{Work, start};
 use sink_distances::{Outline, Rows};
 use std::alloc::AllocError;
@@ -30,31 +31,41 @@ fn send(net: &Outline, work: &mut Work, v: usize, p: usize, left: u64) -> u64
     left - amount
 }
 
-/// Whether the direction leads from the node to a higher one, or to a lower one.
-fn leads(net: &Outline, work: &Work, v: usize, p: usize, up: bool) -> bool
+/// Whether the direction leads to one of the nodes from `low` to before `high`.
+fn leads(net: &Outline, work: &Work, v: usize, p: usize, low: usize, high: usize) -> bool
     requires work { IsUnlabelled net.now work.now }
     requires node { v < nodes net.now }
     requires place { IsPlace work.now.rows v p }
-    ensures { IsTrue result → head_at work.now.rows p ≢ v }
+    ensures { IsTrue result →
+        (low ≤ head_at work.now.rows p) × (head_at work.now.rows p < high) }
 {
     let _nodes = net.nodes();
     let head = work.rows.cell(p).head as usize;
-    if up { head > v } else { head < v }
+    low <= head && head < high
 }
 
-/// Sends along the direction, where it leads up, or down, and can carry more. Answers what the node
-/// has left.
-fn try_send(net: &Outline, work: &mut Work, v: usize, p: usize, up: bool, left: u64) -> u64
+/// Sends along the direction, where it leads to one of the nodes from `low` to before `high`, and
+/// can carry more. Answers what the node has left.
+fn try_send(
+    net: &Outline,
+    work: &mut Work,
+    v: usize,
+    p: usize,
+    low: usize,
+    high: usize,
+    left: u64,
+) -> u64
     requires work { IsUnlabelled net.now work.old }
     requires node { v < nodes net.now }
     requires place { IsPlace work.old.rows v p }
+    requires others { (v < low) ⊎ (high ≤ v) }
     requires left { left ≡ slice_index work.old.excess.items v }
     ensures work { IsUnlabelled net.now work.new }
     ensures starts { work.new.rows.starts.items ≡ work.old.rows.starts.items }
     ensures left { result ≡ slice_index work.new.excess.items v }
 {
     let _nodes = net.nodes();
-    if leads(net, work, v, p, up) && work.rows.cell(p).residual > 0 {
+    if leads(net, work, v, p, low, high) && work.rows.cell(p).residual > 0 {
         send(net, work, v, p, left)
     } else {
         left
@@ -77,15 +88,16 @@ fn send_first(net: &Outline, work: &mut Work, v: usize)
         if left == 0 {
             return;
         }
-        left = try_send(net, work, v, p as usize, true, left);
+        left = try_send(net, work, v, p as usize, v + 1, net.nodes(), left);
     }
 }
 
 /// Gives the sink what it can of the node's excess, and sends the rest along the node's directions
-/// to higher nodes, or to lower ones, the last before the others.
-fn send_last(net: &Outline, work: &mut Work, v: usize, up: bool)
+/// to the other nodes from `low` to before `high`, the last before the others.
+fn send_last(net: &Outline, work: &mut Work, v: usize, low: usize, high: usize)
     requires work { IsUnlabelled net.now work.old }
     requires node { v < nodes net.now }
+    requires others { (v < low) ⊎ (high ≤ v) }
     ensures { IsUnlabelled net.now work.new }
 {
     if work.excess[v] == 0 {
@@ -97,7 +109,7 @@ fn send_last(net: &Outline, work: &mut Work, v: usize, up: bool)
         if left == 0 {
             return;
         }
-        left = try_send(net, work, v, p as usize, up, left);
+        left = try_send(net, work, v, p as usize, low, high, left);
     }
 }
 
@@ -105,7 +117,8 @@ fn send_last(net: &Outline, work: &mut Work, v: usize, up: bool)
 /// once down from each in the reverse order, and once more up from each, along its last direction
 /// first. Where the arcs lead from lower to higher nodes, all excess goes as far as it can in the
 /// first pass, what the sink has not taken comes back in the second, and goes other ways in the
-/// third.
+/// third. These ways do not lead to the last nodes if they are wide: what such a node gets there it
+/// would have to give back in pushes along each of its many directions.
 ///
 /// It takes the net's rows, sources and sinks over. Labels and queue stand in what these lists
 /// stood in.
@@ -129,10 +142,11 @@ pub fn open(
         send_first(net, &mut work, v);
     }
     'down: for v in (0..net.nodes()).rev() {
-        send_last(net, &mut work, v, false);
+        send_last(net, &mut work, v, 0, v);
     }
-    'again: for v in 0..net.nodes() {
-        send_last(net, &mut work, v, true);
+    let narrow = net.nodes() - count_wide(net, &work.rows);
+    'again: for v in 0..narrow {
+        send_last(net, &mut work, v, v + 1, narrow);
     }
     Ok(work)
 }

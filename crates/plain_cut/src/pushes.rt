@@ -5,7 +5,7 @@ ghost use Rattle.std.specs.Prelude.{length, slice_index, slice_set, if◌then◌
 ghost use Rattle.flow_network.specs.Cut.{nodes};
 ghost use Rattle.sink_distances.specs.Rows.{head_at, residual_at, IsPlace};
 ghost use Rattle.plain_cut.specs.State.{IsWork, IsStep, IsSteps, IsPush, ChangesOnly, IsSpent};
-ghost use Rattle.plain_cut.specs.State.{IsStuck};
+ghost use Rattle.plain_cut.specs.State.{ChangesAmong, IsStuck};
 
 use crate::work::Work;
 use sink_distances::Outline;
@@ -154,6 +154,33 @@ fn try_push(
     push_along(net, work, v, p, left)
 }
 
+/// Pushes along those of the node's directions that stand from the first place to before the last,
+/// while it has excess. Answers the place at which it had none left, or the last.
+fn push_places(
+    net: &Outline,
+    work: &mut Work,
+    v: usize,
+    first: u32,
+    last: u32,
+) -> Result<u32, AllocError>
+    requires work { IsWork net.now work.old }
+    requires node { v < nodes net.now }
+    requires places { (p : ℕ) → first ≤ p → p < last → IsPlace work.old.rows v p }
+    ensures steps { OnOk result (IsSteps net.now v work.old work.new) }
+    ensures push { OnOk result (IsPush v work.old work.new) }
+    ensures others { OnOk result (ChangesAmong v first last work.old work.new) }
+    ensures spent { OnOk result ((p : ℕ) → first ≤ p → p < last → IsSpent work.new v p) }
+{
+    let mut left = work.excess[v];
+    'row: for p in first..last {
+        if left == 0 {
+            return Ok(p);
+        }
+        left = try_push(net, work, v, p as usize, left)?;
+    }
+    Ok(last)
+}
+
 /// Pushes along the node's directions, while it has excess.
 fn push_row(net: &Outline, work: &mut Work, v: usize) -> Result<(), AllocError>
     requires work { IsWork net.now work.old }
@@ -162,25 +189,52 @@ fn push_row(net: &Outline, work: &mut Work, v: usize) -> Result<(), AllocError>
     ensures push { OnOk result (IsPush v work.old work.new) }
     ensures spent { OnOk result ((p : ℕ) → IsPlace work.old.rows v p → IsSpent work.new v p) }
 {
-    let mut left = work.excess[v];
-    'row: for p in work.rows.starts[v]..work.rows.starts[v + 1] {
-        if left == 0 {
-            return Ok(());
-        }
-        left = try_push(net, work, v, p as usize, left)?;
+    let first = work.rows.starts[v];
+    let last = work.rows.starts[v + 1];
+    push_places(net, work, v, first, last)?;
+    Ok(())
+}
+
+/// Pushes along the node's directions, while it has excess: from the place at which its pushes
+/// stopped the last time, and then from its first place to that one. It tells where they stop now.
+fn push_round(net: &Outline, work: &mut Work, v: usize, stop: &mut u32) -> Result<(), AllocError>
+    requires work { IsWork net.now work.old }
+    requires node { v < nodes net.now }
+    ensures steps { OnOk result (IsSteps net.now v work.old work.new) }
+    ensures push { OnOk result (IsPush v work.old work.new) }
+    ensures spent { OnOk result ((p : ℕ) → IsPlace work.old.rows v p → IsSpent work.new v p) }
+{
+    let first = work.rows.starts[v];
+    let last = work.rows.starts[v + 1];
+    let from = u32::min(u32::max(*stop, first), last);
+    *stop = push_places(net, work, v, from, last)?;
+    if work.excess[v] > 0 {
+        *stop = push_places(net, work, v, first, from)?;
     }
     Ok(())
 }
 
 /// Pushes to the sink and along each direction of the node that leads down, while it has excess.
-pub fn push_all(net: &Outline, work: &mut Work, v: usize) -> Result<(), AllocError>
+/// `stops` tells of each of the last nodes where its pushes stopped.
+pub fn push_all(
+    net: &Outline,
+    work: &mut Work,
+    v: usize,
+    stops: &mut [u32],
+) -> Result<(), AllocError>
     requires work { IsWork net.now work.old }
     requires node { v < nodes net.now }
+    requires stops { length stops.old ≤ nodes net.now }
     ensures steps { OnOk result (IsSteps net.now v work.old work.new) }
     ensures labels { OnOk result (work.new.labels.items ≡ work.old.labels.items) }
     ensures stuck { OnOk result (0 < slice_index work.new.excess.items v → IsStuck work.new v) }
 {
+    let first = net.nodes() - stops.len();
     try_push_sink(net, work, v);
-    push_row(net, work, v)?;
+    if v < first {
+        push_row(net, work, v)?;
+    } else {
+        push_round(net, work, v, &mut stops[v - first])?;
+    }
     Ok(())
 }

@@ -14,6 +14,7 @@ ghost use Rattle.plain_cut.specs.State.{work_flow, IsWork, IsRaised, HasNoActive
 use crate::discharges::discharge_all;
 use crate::opening::open;
 use crate::phases::begin_phase;
+use crate::wide::count_wide;
 use crate::work::{Work, raise_near};
 use crate::workspace::Workspace;
 use flow_network::{Net, Solved, cut_capacity};
@@ -51,7 +52,13 @@ pub fn finish(
     let mut order = zeros(replace(&mut space.order, Vec::new(alloc)), nodes)?;
     let mut found = zeros(replace(&mut space.found, Vec::new(alloc)), nodes)?;
     let mut work = open(net, rows, sources, sinks, labels, queue)?;
-    maximise(net, &mut work, order.as_mut_slice(), found.as_mut_slice())?;
+    maximise(
+        alloc,
+        net,
+        &mut work,
+        order.as_mut_slice(),
+        found.as_mut_slice(),
+    )?;
     space.order = order;
     space.found = found;
     Ok(work)
@@ -121,7 +128,41 @@ fn search_again(
 ///
 /// Each phase begins with a search, and ends where no node that it found has excess, or there were
 /// many new labels.
+fn make_phases(
+    net: &Outline,
+    work: &mut Work,
+    order: &mut [u32],
+    found: &mut [u32],
+    stops: &mut [u32],
+) -> Result<(), AllocError>
+    requires limits { IsNet net.now }
+    requires work { IsWork net.now work.old }
+    requires stops { length stops.old ≤ nodes net.now }
+    requires order { length order.old ≡ nodes net.now }
+    requires found { length found.old ≡ nodes net.now }
+    ensures work { OnOk result (IsWork net.now work.new) }
+    ensures finished { OnOk result (HasNoActiveNode net.now work.new) }
+    ensures exact { OnOk result
+        (AreDistancesButZeros net.now (work_flow net.now work.new) work.new.labels.items) }
+{
+    let mut times = 2;
+    let mut extent = raise_near(net, work, times, order, found);
+    'phases: while !is_maximum(net, work, extent.limit) {
+        begin_phase(net, work, &order[..extent.count], extent.limit, stops)?;
+        discharge_all(net, work, extent.limit, stops)?;
+        let last = work.relabels == 0 && extent.limit == net.top_label();
+        times = times_after(work, times);
+        extent = search_again(net, work, times, order, found);
+        if last {
+            return Ok(());
+        }
+    }
+    Ok(())
+}
+
+/// Phases as `make_phases` makes them, with the places at which the pushes of wide nodes stop.
 pub fn maximise(
+    alloc: Global,
     net: &Outline,
     work: &mut Work,
     order: &mut [u32],
@@ -136,19 +177,8 @@ pub fn maximise(
     ensures exact { OnOk result
         (AreDistancesButZeros net.now (work_flow net.now work.new) work.new.labels.items) }
 {
-    let mut times = 2;
-    let mut extent = raise_near(net, work, times, order, found);
-    'phases: while !is_maximum(net, work, extent.limit) {
-        begin_phase(net, work, &order[..extent.count], extent.limit)?;
-        discharge_all(net, work, extent.limit)?;
-        let last = work.relabels == 0 && extent.limit == net.top_label();
-        times = times_after(work, times);
-        extent = search_again(net, work, times, order, found);
-        if last {
-            return Ok(());
-        }
-    }
-    Ok(())
+    let mut stops = vec![in alloc; 0u32; count_wide(net, &work.rows)]?;
+    make_phases(net, work, order, found, stops.as_mut_slice())
 }
 
 /// A least cut of the net, with the preflow that certifies it. Of all least cuts it is the

@@ -43,3 +43,11 @@ returns-then-index-eq0-clause-aside c = λ at.
     let label : c.index.result.now ≡ slice_index here.labels.items v =
     get_or_read here.labels.items v c.index.result.now (omega (arith, c.requires.node, c.steps.invariant.steps.work.sound.labelling.len)) c.index.ensures 0 in
     absurd (omega (arith, at, label, c.steps-test.true, ap (λ (w : Work). slice_index w.labels.items v) (c.steps.invariant.aside at)))
+
+pub relabel-requires-clause-stuck : goal.relabel-requires-clause-stuck
+relabel-requires-clause-stuck c =
+    let v = c.args.v in
+    let after = c.push_all.new.work in
+    let left : c.index-in-steps.result.now ≡ slice_index after.excess.items v =
+    get_or_read after.excess.items v c.index-in-steps.result.now (omega (arith, c.requires.node, c.in_ok-push_all.ensures.steps.work.sound.kept_len)) c.index-in-steps.ensures 0 in
+    c.in_ok-push_all.ensures.stuck (omega (arith, left, c.if-index-eq0.false))

@@ -3,7 +3,7 @@ use Rattle.flow_network.specs.Cut.{nodes}
 use Rattle.flow_network.specs.Progress.{top}
 use Rattle.sink_distances.specs.Distances.{AreDistancesButZeros}
 use Rattle.plain_cut.specs.State.{work_flow, IsWork, work_measure}
-use Rattle.plain_cut.proofs.solver.maximise.Given as goal
+use Rattle.plain_cut.proofs.solver.make_phases.Given as goal
 
 abbrev pub invariant-phases : goal.invariant-phases
 invariant-phases l = record {

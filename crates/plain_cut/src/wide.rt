@@ -1,0 +1,26 @@
+//! Nodes of many directions, as those are that stand for what labels cost.
+ghost use Rattle.std.specs.Prelude.{◌≤◌};
+ghost use Rattle.flow_network.specs.Cut.{nodes};
+ghost use Rattle.sink_distances.specs.Rows.{IsRows};
+
+use sink_distances::{Outline, Rows};
+
+/// A node of more directions than this is wide.
+const NARROW: u32 = 64;
+
+/// How many nodes are wide from the last one down, up to one that is not. Of these the solver keeps
+/// where their pushes stopped: a wide node whose pushes each began at its first direction would
+/// look at all directions that are used up once for each push.
+pub fn count_wide(net: &Outline, rows: &Rows) -> usize
+    requires rows { IsRows net.now rows.now }
+    ensures { result ≤ nodes net.now }
+{
+    let nodes = net.nodes();
+    'nodes: for count in 0..nodes {
+        let v = nodes - 1 - count;
+        if rows.starts[v + 1].saturating_sub(rows.starts[v]) <= NARROW {
+            return count;
+        }
+    }
+    nodes
+}
