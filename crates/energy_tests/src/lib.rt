@@ -1,5 +1,5 @@
-//! Tests of energies: what is put in, costs over named variables, which terms are regular, and
-//! minima.
+//! Tests of energies: what is put in, costs over few named variables and over many, which terms are
+//! regular, and minima.
 #![tactic(auto)]
 
 #[cfg(test)]
@@ -16,3 +16,5 @@ mod small_answers;
 mod small_tables;
 #[cfg(test)]
 mod tied;
+#[cfg(test)]
+mod wide;
