@@ -41,9 +41,9 @@ pub on_ok_always : {P : Type 0} (r : Result Unit AllocError) → P → OnOk r P
 on_ok_always {P} (Ok done) is = is
 on_ok_always {P} (Err e) is = tt
 
-pub on_ok_two : {P Q R : Type 0} (r : Result Unit AllocError) → OnOk r P → OnOk r Q → (P → Q → R) → OnOk r R
-on_ok_two {P} {Q} {R} (Ok done) one two both = both one two
-on_ok_two {P} {Q} {R} (Err e) one two both = tt
+pub on_ok_three : {P Q R S : Type 0} (r : Result Unit AllocError) → OnOk r P → OnOk r Q → OnOk r R → (P → Q → R → S) → OnOk r S
+on_ok_three {P} {Q} {R} {S} (Ok done) one two three all = all one two three
+on_ok_three {P} {Q} {R} {S} (Err e) one two three all = tt
 
 -- ---- room for more labels
 

@@ -53,7 +53,7 @@ label_by_below : (form : SiteForm) (old : ℕ) (bit : Bool) → label_by form ol
 label_by_below form old true = form.form.numbers.turns_below old
 label_by_below form old false = form.form.numbers.stays_below old
 
-either_rise : (form : SiteForm) (weight : ℕ) (own other : ℕ) (bit : Bool) → AreSymmetric form.smooth.now
+pub either_rise : (form : SiteForm) (weight : ℕ) (own other : ℕ) (bit : Bool) → AreSymmetric form.smooth.now
     → end_rise_by form weight true own other bit ≡ end_rise_by form weight false own other bit
 either_rise form weight own other bit same =
     let at = λ (b : Bool). same (label_by form own b) (label_by form other bit) (label_by_below form own b) (label_by_below form other bit) in

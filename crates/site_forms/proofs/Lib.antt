@@ -11,3 +11,4 @@ pub mod Taking
 pub mod Near
 pub mod ByPair
 pub mod ByPlace
+pub mod ByKnown

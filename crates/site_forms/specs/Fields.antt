@@ -1,5 +1,6 @@
 -- The lists of a move's numbers.
-use Rattle.std.specs.Prelude.{◌≡◌, ℕ, ◌+◌, ◌*◌, ◌<◌, ◌≤◌, Bool, true, false, ℤ, pos, ◌-ℤ◌}
+use Rattle.std.specs.Prelude.{◌≡◌, ℕ, ◌+◌, ◌*◌, ◌<◌, ◌≤◌, Bool, true, false, cond, ℤ, pos}
+use Rattle.std.specs.Prelude.{◌*ℤ◌, ◌-ℤ◌}
 use Rattle.std.specs.Prelude.{List, length, slice_index, slice_index_or, unsigned_abs}
 use Rattle.std.specs.List.{All}
 use Rattle.label_field.specs.Limits.{site_limit, label_limit, weight_limit}
@@ -11,9 +12,13 @@ use Rattle.cost_store.specs.Limits.{site_cost_limit, pair_cost_limit}
 use Rattle.move_energy.specs.declared.by_site.Neighbours.{Neighbours}
 use Rattle.move_energy.specs.BySite.{neighbours_start, neighbour_at, weight_at, is_first, pair_in}
 use Rattle.move_energy.specs.MoveValues.{data_rise}
+use Rattle.move_energy.specs.declared.choice.Choice.{Choice}
+use Rattle.move_energy.specs.declared.choice.Choice.TheVariants.{Open, Zero, One}
+use Rattle.move_energy.specs.Choices.{bit_of}
 use Rattle.move_energy.specs.declared.rises.EndRises.{EndRises}
 use Rattle.move_energy.specs.Rising.{entry_place, table_labels, AreRises}
 use Rattle.site_forms.specs.declared.by_pair.PairRises.{PairRises}
+use Rattle.site_forms.specs.declared.by_known.ToldRises.{ToldRises}
 
 -- what a pair of weight 1 costs by a table of costs, whose first end, or its second, has the one
 -- label and its other end the other
@@ -122,15 +127,85 @@ pub record AreReadableLists (own : List ℤ) (at stays turns smooth : List ℕ) 
       → IsSiteLabel at other
       → AreUnitRises stays turns smooth first own other (unit_rises_at table first own other)
 
+-- the number of what is known of a variable
+abbrev pub code_of : Choice → ℕ
+code_of Open = 0
+code_of Zero = 1
+code_of One = 2
+
+-- where the rises of a pair stand whose first end has the one label, while this is known of its
+-- other end, which has the other
+abbrev pub known_place : ℕ → ℕ → Choice → ℕ
+known_place own other choice = own * 256 + other * 4 + code_of choice
+
+-- the rises at a place of a table
+abbrev pub told_in : List ToldRises → ℕ → ToldRises
+told_in told place = slice_index_or told place (record { least = pos 0; greatest = pos 0 })
+
+-- at least and at most, by the rises while the other end is at 0 and while it is at 1
+abbrev pub known_rises : ℤ → ℤ → Choice → ToldRises
+known_rises low high choice = record {
+  least = cond (bit_of choice true) high low;
+  greatest = cond (bit_of choice false) high low;
+}
+
+-- these are the rises of a pair of this weight, and those of weight 1 are such
+pub record AreTimes (weight : ℕ) (units : EndRises) (choice : Choice) (told : ToldRises) : Type 0
+  where
+    pub least : told.least ≡ pos weight *ℤ cond (bit_of choice true) units.high units.low
+    pub greatest : told.greatest ≡ pos weight *ℤ cond (bit_of choice false) units.high units.low
+    pub small : (unsigned_abs told.least ≤ pair_cost_limit)
+        × (unsigned_abs told.greatest ≤ pair_cost_limit)
+
+-- the rises of weight 1 are not large, of so many labels
+abbrev pub AreUnitsSmall : ℕ → List EndRises → Type 0
+AreUnitsSmall labels table = (own other : ℕ) → own < labels → other < labels
+    → (unsigned_abs (unit_rises_at table true own other).low ≤ 10000)
+    × (unsigned_abs (unit_rises_at table true own other).high ≤ 10000)
+
+-- by how much a pair of this weight rises whose first end, of the one label, turns, while its other
+-- end, of the other label, has this bit
+abbrev pub weighed_rise : List ℕ → List ℕ → List ℕ → ℕ → ℕ → ℕ → Bool → ℤ
+weighed_rise stays turns smooth weight own other bit =
+    pos (weight * table_cost smooth true (slice_index turns own)
+    (cond bit (slice_index turns other) (slice_index stays other)))
+    -ℤ pos (weight * table_cost smooth true (slice_index stays own)
+    (cond bit (slice_index turns other) (slice_index stays other)))
+
+-- these are its rises, at least and at most, where this is known of its other end
+pub record AreToldRises (stays turns smooth : List ℕ) (weight own other : ℕ) (choice : Choice)
+    (told : ToldRises) : Type 0 where
+  pub least : told.least
+      ≡ weighed_rise stays turns smooth weight own other (bit_of choice true)
+  pub greatest : told.greatest
+      ≡ weighed_rise stays turns smooth weight own other (bit_of choice false)
+  pub small : (unsigned_abs told.least ≤ pair_cost_limit)
+      × (unsigned_abs told.greatest ≤ pair_cost_limit)
+
+-- all pairs have the weight that the neighbours say, labels are few, and costs the same in both
+-- orders; and a table has the rises of such a pair by the labels of sites
+pub record AreUniform (ends : Neighbours) (at stays turns smooth : List ℕ) (symmetric few : Bool)
+    (listed : Bool) (told : List ToldRises) : Type 0 where
+  pub weighted : listed ≡ false
+  pub even : ends.even ≡ true
+  pub mirrored : symmetric ≡ true
+  pub labels : few ≡ true
+  pub rows : (u : ℕ) → u < length at → slice_index at u * 256 + 256 ≤ length told
+  pub rises : (own other : ℕ) (choice : Choice) → IsSiteLabel at own → IsSiteLabel at other
+      → AreToldRises stays turns smooth ends.weight own other choice
+      (told_in told (known_place own other choice))
+
 -- the lists are of these sites and their places: what a pair rises by is told by its weight and the
--- labels of its ends, or else listed at each place
+-- labels of its ends, or else listed at each place; and by what is known, if it is said so
 pub record AreReadable (ends : Neighbours) (own : List ℤ) (at stays turns smooth : List ℕ)
-    (symmetric few : Bool) (table : List EndRises) (listed : Bool) (rises : List EndRises)
-    : Type 0 where
+    (symmetric few : Bool) (table : List EndRises) (uniform : Bool) (told : List ToldRises)
+    (listed : Bool) (rises : List EndRises) : Type 0 where
   pub places : ArePlaces (length at) ends
   pub numbers : AreReadableLists own at stays turns smooth symmetric few table
   pub light : listed ≡ false → AreLight (length at) ends
   pub by_place : listed ≡ true → AreListedRises ends rises
+  pub by_known : uniform ≡ true
+      → AreUniform ends at stays turns smooth symmetric few listed told
 
 -- what the labels that a move makes cost beside one another was read of it
 abbrev pub AreCostsRead : Instance → Move → List ℕ → List ℕ → Type 0

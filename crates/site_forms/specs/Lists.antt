@@ -13,11 +13,13 @@ use Rattle.cost_store.specs.Limits.{site_cost_limit}
 use Rattle.cost_store.specs.declared.problem.Problem.{Problem}
 use Rattle.cost_store.specs.Posed.{Closure, WhereMeant}
 use Rattle.move_energy.specs.declared.by_site.Neighbours.{Neighbours}
+use Rattle.move_energy.specs.declared.choice.Choice.{Choice}
 use Rattle.move_energy.specs.Choices.{Changes}
 use Rattle.move_energy.specs.MoveValues.{data_rise}
 use Rattle.site_forms.specs.Fields.{AreReadableLists, AreSymmetric, own_at}
 use Rattle.site_forms.specs.Fields.{AreListedRises, AreCostsRead, AreRisesRead}
-use Rattle.site_forms.specs.Fields.{AreSidesRead, AreAllSmall}
+use Rattle.site_forms.specs.Fields.{AreSidesRead, AreAllSmall, AreUniform, AreToldRises}
+use Rattle.site_forms.specs.Fields.{told_in, known_place}
 use Rattle.site_forms.specs.declared.by_pair.PairRises.{PairRises}
 use Rattle.site_forms.specs.declared.lists.FormLists.{FormLists}
 use Rattle.site_forms.specs.declared.smooth_costs.AskedCosts.{AskedCosts}
@@ -114,6 +116,8 @@ pub record AreFormLists (pairs : PairList) (ends : Neighbours) (at : List ℕ) (
       lists.smooth.costs.items lists.smooth.symmetric lists.few lists.table.items
   pub kind : lists.listed ≡ pairs.numbered
   pub by_place : lists.listed ≡ true → AreListedRises ends lists.rises.items
+  pub by_known : lists.uniform ≡ true → AreUniform ends at lists.stays.items lists.turns.items
+      lists.smooth.costs.items lists.smooth.symmetric lists.few lists.listed lists.told.items
 
 -- with own rises that are not large they have numbers for each site too
 abbrev pub AreLabelLists : List ℕ → FormLists → Type 0
@@ -129,6 +133,27 @@ pub record ArePairLists (pairs : PairList) (ends : Neighbours) (at : List ℕ) (
   pub numbers : AreLabelLists at lists
   pub kind : lists.listed ≡ pairs.numbered
   pub by_place : lists.listed ≡ true → AreListedRises ends lists.rises.items
+  pub by_known : lists.uniform ≡ true → AreUniform ends at lists.stays.items lists.turns.items
+      lists.smooth.costs.items lists.smooth.symmetric lists.few lists.listed lists.told.items
+
+-- the table of rises by what is known is of so many labels, for pairs of the weight that all have
+pub record IsToldTable (labels : ℕ) (ends : Neighbours) (lists : FormLists) : Type 0 where
+  pub even : ends.even ≡ true
+  pub mirrored : lists.smooth.symmetric ≡ true
+  pub few : lists.few ≡ true
+  pub rows : length lists.told.items ≡ labels * 256
+  pub rises : (own other : ℕ) (choice : Choice) → own < labels → other < labels
+      → AreToldRises lists.stays.items lists.turns.items lists.smooth.costs.items ends.weight
+      own other choice (told_in lists.told.items (known_place own other choice))
+
+-- all lists but that of rises by what is known stay
+pub record KeepsPairLists (old new : FormLists) : Type 0 where
+  pub stays : new.stays ≡ old.stays
+  pub turns : new.turns ≡ old.turns
+  pub smooth : new.smooth ≡ old.smooth
+  pub few : new.few ≡ old.few
+  pub table : new.table ≡ old.table
+  pub listed : new.listed ≡ old.listed
 
 -- of a move from these labels what its labels become, and what pairs cost, was read
 pub record ArePairsRead (m : Instance) (move : Move) (ends : Neighbours) (at : List ℕ)

@@ -7,6 +7,7 @@
 //! thread can read it.
 #![tactic(auto)]
 
+mod by_known;
 mod by_pair;
 mod by_place;
 mod ends;
@@ -18,6 +19,7 @@ mod rises;
 mod savings;
 mod smooth_costs;
 
+pub use by_known::ToldRises;
 pub use ends::{head_at, is_first_end};
 pub use lists::FormLists;
 pub use numbers::SiteForm;

@@ -1,7 +1,7 @@
 //! The door: the costs of a move, read once into lists. Only this file asks a problem for costs.
 ghost use Rattle.std.specs.Prelude.{◌≡◌, ◌⊎◌, ◌<◌, ◌≤◌, ℕ, length, slice_index, OnOk};
 ghost use Rattle.std.specs.Prelude.{true, false, unsigned_abs, Bool, ◌+◌, ◌*◌, pos, [], All, List};
-ghost use Rattle.label_field.specs.Limits.{label_limit};
+ghost use Rattle.label_field.specs.Limits.{label_limit, weight_limit};
 ghost use Rattle.label_energies.specs.Energies.{labelling, Instance};
 ghost use Rattle.label_energies.specs.Moves.{IsMoveOf, label_after, IsAllowed};
 ghost use Rattle.label_energies.specs.declared.change.Move.{Move as AnyMove};
@@ -15,12 +15,13 @@ ghost use Rattle.site_forms.specs.Fields.{unit_rises_at, HaveRowsOf};
 ghost use Rattle.site_forms.specs.Lists.{AreFormLists, IsReadOf, KnowsCosts, HasNoCosts};
 ghost use Rattle.site_forms.specs.Lists.{AreCostsSmall, AreRisesNear, IsReadNear, CoversChanges};
 ghost use Rattle.site_forms.specs.Lists.{HasCostRoom, AreMadeAsked, AreMoveLabels, ArePairLists};
-ghost use Rattle.site_forms.specs.Lists.{ArePairsRead, HasTermsOf};
+ghost use Rattle.site_forms.specs.Lists.{ArePairsRead, HasTermsOf, KeepsPairLists, IsToldTable};
 ghost use Rattle.move_energy.specs.Terms.{AreTermsTested};
 ghost use Rattle.label_field.specs.PairLists.{PairList};
 ghost use Rattle.move_energy.specs.declared.by_site.Neighbours.{Neighbours as NeighbourLists};
 ghost use Rattle.site_forms.specs.Numbers.{IsFormOf, IsOverPairs};
 
+use crate::by_known::{ToldRises, write_told_rows};
 use crate::by_pair::{PairRises, list_sides, test_sides};
 use crate::by_place::list_rises;
 use crate::numbers::SiteForm;
@@ -28,7 +29,7 @@ use crate::reading::{smooth_of, table_place};
 use crate::smooth_costs::AskedCosts;
 use cost_store::Problem;
 use label_energies::Move;
-use label_field::{LABEL_LIMIT, Pairs};
+use label_field::{Pairs, WEIGHT_LIMIT};
 use move_energy::{BuildError, EndRises, Neighbours, data_rise};
 use std::alloc::{AllocError, Global};
 
@@ -40,8 +41,9 @@ const TABLE_LABELS: u32 = 64;
 const ENTRIES: usize = 8192;
 
 /// The lists of a form. They keep their memory from move to move: 4 bytes a site, 512 a label, and
-/// 64 KB where there are at most 64 labels. They keep the smooth costs too, so that a run asks each
-/// two labels once. Where each pair has costs of its own, they take 32 bytes a pair.
+/// where there are at most 64 labels 64 KB and 2 KB a label. They keep the smooth costs too, so
+/// that a run asks each two labels once. Where each pair has costs of its own, they take 32 bytes a
+/// pair.
 #[derive(Drop)]
 pub struct FormLists {
     own: Vec<i32>,
@@ -50,6 +52,9 @@ pub struct FormLists {
     smooth: AskedCosts,
     few: bool,
     table: Vec<EndRises>,
+    /// Whether there are few labels, all weights are the same, and all costs in both orders.
+    uniform: bool,
+    told: Vec<ToldRises>,
     /// Whether the rises of pairs are listed by pair and by place, since each pair has costs of its
     /// own.
     listed: bool,
@@ -64,6 +69,16 @@ fn has_table(labels: u32, sites: usize) -> bool
     ensures { result ≡ true → labels ≤ table_labels }
 {
     labels <= TABLE_LABELS && (2 * labels * labels) as usize <= sites
+}
+
+/// Whether pairs of the same weight by these neighbours have a table of rises by what is known.
+fn are_uniform(few: bool, symmetric: bool, ends: &Neighbours) -> bool
+    ensures few { result ≡ true → few ≡ true }
+    ensures mirrored { result ≡ true → symmetric ≡ true }
+    ensures even { result ≡ true → ends.now.even ≡ true }
+    ensures light { result ≡ true → ends.now.weight ≤ weight_limit }
+{
+    few && symmetric && ends.even && ends.weight <= WEIGHT_LIMIT
 }
 
 /// Begins a list of a label for each label: 0 for all.
@@ -262,6 +277,8 @@ impl FormLists {
             smooth: AskedCosts::empty(alloc),
             few: false,
             table: Vec::new(alloc),
+            uniform: false,
+            told: Vec::new(alloc),
             listed: false,
             sides: Vec::new(alloc),
             rises: Vec::new(alloc),
@@ -298,6 +315,60 @@ impl FormLists {
             labels,
         );
         Ok(())
+    }
+
+    /// Makes the table of rises by what is known, where pairs by these neighbours have one.
+    fn tell_rises(&mut self, ends: &Neighbours, labels: u32) -> Result<(), AllocError>
+        requires small { AreCostsSmall self.old.smooth.costs.items }
+        requires few { self.old.few ≡ true → labels ≤ table_labels }
+        requires table { self.old.few ≡ true → length self.old.table.items ≡ 8192 }
+        requires rises { self.old.few ≡ true → (first : Bool) (own other : ℕ) →
+            own < labels → other < labels →
+            AreUnitRises self.old.stays.items self.old.turns.items self.old.smooth.costs.items
+            first own other (unit_rises_at self.old.table.items first own other) }
+        ensures same { KeepsPairLists self.old self.new }
+        ensures told { OnOk result (self.new.uniform ≡ true →
+            IsToldTable labels ends.now self.new) }
+    {
+        self.uniform = are_uniform(self.few, self.smooth.symmetric, ends);
+        if !self.uniform {
+            return Ok(());
+        }
+        let blank = ToldRises {
+            least: 0,
+            greatest: 0,
+        };
+        self.told.resize(labels as usize * 256, blank)?;
+        write_told_rows(self.told.as_mut_slice(), &self.table, ends.weight, labels);
+        Ok(())
+    }
+
+    /// Makes the tables of a move over so many sites and these neighbours, those that it has.
+    fn make_tables(
+        &mut self,
+        ends: &Neighbours,
+        labels: u32,
+        sites: usize,
+    ) -> Result<(), AllocError>
+        requires few { labels ≤ label_limit }
+        requires stays { length self.old.stays.items ≡ label_limit }
+        requires turns { length self.old.turns.items ≡ label_limit }
+        requires rows { HaveRowsOf self.old.stays.items self.old.smooth.costs.items
+            × HaveRowsOf self.old.turns.items self.old.smooth.costs.items }
+        requires small { AreCostsSmall self.old.smooth.costs.items }
+        ensures same { (self.new.stays ≡ self.old.stays) × (self.new.turns ≡ self.old.turns)
+            × (self.new.smooth ≡ self.old.smooth) × (self.new.listed ≡ self.old.listed) }
+        ensures few { self.new.few ≡ true → labels ≤ table_labels }
+        ensures count { OnOk result (self.new.few ≡ true → length self.new.table.items ≡ 8192) }
+        ensures rises { OnOk result (self.new.few ≡ true → (first : Bool) (own other : ℕ) →
+            own < labels → other < labels →
+            AreUnitRises self.new.stays.items self.new.turns.items self.new.smooth.costs.items
+            first own other (unit_rises_at self.new.table.items first own other)) }
+        ensures told { OnOk result (self.new.uniform ≡ true →
+            IsToldTable labels ends.now self.new) }
+    {
+        self.make_table(labels, sites)?;
+        self.tell_rises(ends, labels)
     }
 
     /// Lists what the labels of a move become, and makes room for its pairs' costs.
@@ -354,10 +425,11 @@ impl FormLists {
         self.listed = problem.pairs.are_numbered();
         if self.listed {
             self.few = false;
+            self.uniform = false;
             list_sides(&mut self.sides, problem, at, change)?;
             return list_rises(&mut self.rises, &self.sides, problem, ends, at, change);
         }
-        self.make_table(problem.data_cost.labels, at.len())
+        self.make_tables(ends, problem.data_cost.labels, at.len())
     }
 
     /// Reads the costs of a move from these labels: of each site how much more the move's label
@@ -496,6 +568,8 @@ impl FormLists {
             symmetric: self.smooth.symmetric,
             few: self.few,
             table: &self.table,
+            uniform: self.uniform,
+            told: &self.told,
             listed: self.listed,
             rises: &self.rises,
             rising: ends.rising,

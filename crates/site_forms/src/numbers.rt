@@ -1,14 +1,17 @@
 //! The numbers of a move.
 ghost use Rattle.site_forms.specs.Fields.{AreReadable, AreFlagsOf};
 
+use crate::by_known::ToldRises;
 use label_field::Pairs;
 use move_energy::{EndRises, Neighbours};
 
 /// What a move is read of: the pairs and by site the neighbours, each site's own rise and its
 /// label, what each label becomes where the site's value is 0 and where it is 1, and what two
 /// labels cost a pair of weight 1, and whether that is the same in both orders. Where there are few
-/// labels, a table has the rises of such a pair by the labels of its ends. Where each pair has
-/// costs of its own, the rises of both ends are listed, by place.
+/// labels, a table has the rises of such a pair by the labels of its ends; and where in addition
+/// all weights are the same, and all costs in both orders, another has those of a pair of that
+/// weight by what is known of its other end. Where each pair has costs of its own, the rises of
+/// both ends are listed, by place.
 #[derive(Clone, Copy)]
 pub struct SiteForm<'a> {
     pub pairs: &'a Pairs,
@@ -21,6 +24,8 @@ pub struct SiteForm<'a> {
     pub symmetric: bool,
     pub few: bool,
     pub table: &'a [EndRises],
+    pub uniform: bool,
+    pub told: &'a [ToldRises],
     pub listed: bool,
     pub rises: &'a [EndRises],
     /// `rising`, `even` and `weight` of the neighbours, which are the same at all places.
@@ -28,6 +33,6 @@ pub struct SiteForm<'a> {
     pub even: bool,
     pub weight: u32,
     pub ghost form: { AreReadable ends.now own.now at.now stays.now turns.now smooth.now
-        symmetric few table.now listed rises.now },
+        symmetric few table.now uniform told.now listed rises.now },
     pub ghost flags: { AreFlagsOf ends.now rising even weight },
 }

@@ -72,7 +72,7 @@ pub(crate) fn table_place(first: bool, own: u8, other: u8) -> usize
 
 /// The rises of a pair of weight 1, by the table of few labels.
 #[inline]
-fn unit_rises(table: &[EndRises], first: bool, own: u8, other: u8) -> EndRises
+pub(crate) fn unit_rises(table: &[EndRises], first: bool, own: u8, other: u8) -> EndRises
     requires size { length table.now ≡ 8192 }
     requires few { (own < table_labels) × (other < table_labels) }
     ensures { result ≡ unit_rises_at table.now first own other }
@@ -82,7 +82,7 @@ fn unit_rises(table: &[EndRises], first: bool, own: u8, other: u8) -> EndRises
 
 /// The rise of a pair of this weight, where that of weight 1 is the difference of two costs.
 #[inline]
-fn times(weight: u32, rise: i32) -> i32
+pub(crate) fn times(weight: u32, rise: i32) -> i32
     requires weight { weight ≤ weight_limit }
     requires small { unsigned_abs rise ≤ 10000 }
     ensures product { result ≡ pos weight *ℤ rise }

@@ -13,6 +13,7 @@ ghost use Rattle.site_forms.specs.Forms.{place_rise};
 ghost use Rattle.site_forms.specs.Numbers.{form_of, Tells, IsSitePlace, AreRisesAt};
 ghost use Rattle.site_forms.specs.Numbers.{AreSiteRises};
 
+use crate::by_known::place_told;
 use crate::ends::{head_at, is_first_end, weight_beside, weight_read};
 use crate::numbers::SiteForm;
 use crate::reading::end_rises;
@@ -92,16 +93,41 @@ fn rises_here<const LISTED: bool, const FEW: bool, const EVEN: bool>(
     place_rises::<FEW>(form, site, place, head, weight)
 }
 
+/// The rises of a site as far as the neighbour at a place goes, at least and at most, where a table
+/// has them by what is known of the neighbour.
+#[inline]
+fn told_rises(form: &SiteForm, known: &[Choice], site: u32, place: u32, head: u32) -> Rises
+    requires uniform { form.now.uniform ≡ true }
+    requires known { length known.now ≡ length form.now.at.now }
+    requires place { IsSitePlace form.now site place }
+    requires head { head ≡ neighbour_at form.now.ends.now place }
+    ensures least { result.least
+        ≡ place_rise (form_of form.now) (decided_or known.now true) site place }
+    ensures greatest { result.greatest
+        ≡ place_rise (form_of form.now) (decided_or known.now false) site place }
+    ensures small { (unsigned_abs result.least ≤ pair_cost_limit)
+        × (unsigned_abs result.greatest ≤ pair_cost_limit) }
+{
+    let own = form.at[site as usize];
+    let other = form.at[head as usize];
+    let told = form.told[place_told(own, other, known[head as usize])];
+    Rises {
+        least: i64::from(told.least),
+        greatest: i64::from(told.greatest),
+    }
+}
+
 /// The rises of a site as far as the neighbour at a place goes, at least and at most, by what is
 /// known of the neighbour.
 #[inline]
-fn rises_at<const LISTED: bool, const FEW: bool, const EVEN: bool>(
+fn rises_at<const TOLD: bool, const LISTED: bool, const FEW: bool, const EVEN: bool>(
     form: &SiteForm,
     known: &[Choice],
     site: u32,
     place: u32,
     head: u32,
 ) -> Rises
+    requires told { TOLD ≡ form.now.uniform }
     requires kind { LISTED ≡ form.now.listed }
     requires way { (FEW ≡ form.now.few) × (EVEN ≡ form.now.even) }
     requires known { length known.now ≡ length form.now.at.now }
@@ -114,6 +140,9 @@ fn rises_at<const LISTED: bool, const FEW: bool, const EVEN: bool>(
     ensures small { (unsigned_abs result.least ≤ pair_cost_limit)
         × (unsigned_abs result.greatest ≤ pair_cost_limit) }
 {
+    if TOLD {
+        return told_rises(form, known, site, place, head);
+    }
     let rises = rises_here::<LISTED, FEW, EVEN>(form, site, place, head);
     rises_beside(rises, known[head as usize])
 }
@@ -159,11 +188,12 @@ fn either(one: bool, other: bool) -> bool
 /// The rises of a site by what is known of its neighbours, summed place by place. What the form
 /// says of all places is a const parameter, so that the loop does not ask for it at each.
 #[inline]
-fn sum_rises<const LISTED: bool, const FEW: bool, const EVEN: bool>(
+fn sum_rises<const TOLD: bool, const LISTED: bool, const FEW: bool, const EVEN: bool>(
     form: &SiteForm,
     known: &[Choice],
     site: u32,
 ) -> SiteRises
+    requires told { TOLD ≡ form.now.uniform }
     requires kind { LISTED ≡ form.now.listed }
     requires way { (FEW ≡ form.now.few) × (EVEN ≡ form.now.even) }
     requires known { length known.now ≡ length form.now.at.now }
@@ -175,7 +205,7 @@ fn sum_rises<const LISTED: bool, const FEW: bool, const EVEN: bool>(
     let mut beside = false;
     for place in start(form, site)..start(form, site + 1) {
         let head = head_at(form, site, place);
-        let rises = rises_at::<LISTED, FEW, EVEN>(form, known, site, place, head);
+        let rises = rises_at::<TOLD, LISTED, FEW, EVEN>(form, known, site, place, head);
         least += rises.least;
         greatest += rises.greatest;
         beside = either(beside, meets_open(form, known, site, place, head));
@@ -187,19 +217,21 @@ fn sum_rises<const LISTED: bool, const FEW: bool, const EVEN: bool>(
     }
 }
 
-/// The same, where whether the rises are listed by place is a const parameter.
+/// The same, where whether the rises are listed by place is a const parameter, and no table has
+/// them by what is known.
 #[inline]
 fn sum_by_kind<const LISTED: bool>(form: &SiteForm, known: &[Choice], site: u32) -> SiteRises
+    requires apart { form.now.uniform ≡ false }
     requires kind { LISTED ≡ form.now.listed }
     requires known { length known.now ≡ length form.now.at.now }
     requires site { site < length form.now.at.now }
     ensures { AreSiteRises form.now known.now site result }
 {
     match (form.few, form.even) {
-        (true, true) => sum_rises::<LISTED, true, true>(form, known, site),
-        (true, false) => sum_rises::<LISTED, true, false>(form, known, site),
-        (false, true) => sum_rises::<LISTED, false, true>(form, known, site),
-        (false, false) => sum_rises::<LISTED, false, false>(form, known, site),
+        (true, true) => sum_rises::<false, LISTED, true, true>(form, known, site),
+        (true, false) => sum_rises::<false, LISTED, true, false>(form, known, site),
+        (false, true) => sum_rises::<false, LISTED, false, true>(form, known, site),
+        (false, false) => sum_rises::<false, LISTED, false, false>(form, known, site),
     }
 }
 
@@ -211,6 +243,9 @@ pub fn site_rises(form: &SiteForm, known: &[Choice], site: u32) -> SiteRises
     requires site { site < length form.now.at.now }
     ensures { AreSiteRises form.now known.now site result }
 {
+    if form.uniform {
+        return sum_rises::<true, false, true, true>(form, known, site);
+    }
     if form.listed {
         return sum_by_kind::<true>(form, known, site);
     }

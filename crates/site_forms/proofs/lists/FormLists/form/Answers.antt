@@ -1,7 +1,7 @@
 use Rattle.std.proofs.Common.{◌∙◌, List, refl, sym, subst, length}
 use Rattle.move_energy.proofs.Places.{meant_pairs, meant_beside}
 use Rattle.move_energy.specs.declared.rises.EndRises.{EndRises}
-use Rattle.site_forms.specs.Fields.{AreReadableLists, AreReadOf, AreListedRises, AreCostsRead, AreRisesRead}
+use Rattle.site_forms.specs.Fields.{AreReadableLists, AreReadOf, AreListedRises, AreCostsRead, AreRisesRead, AreUniform}
 use Rattle.site_forms.proofs.Places.{pairs_places, light_places}
 use Rattle.site_forms.proofs.lists.FormLists.form.Goals as goal
 
@@ -16,7 +16,10 @@ invariant_of-result c =
             (λ i. AreReadableLists (sym c.deref.ensures.value i) a.at.now (sym c.deref-2.ensures.value i) (sym c.deref-3.ensures.value i) (sym c.deref-4.ensures.value i) a.self.now.smooth.symmetric a.self.now.few (sym c.deref-5.ensures.value i))
             c.requires.lists.numbers;
         light = λ no. light_places a.pairs.now a.ends.now (length a.at.now) c.requires.sites c.keeps.ensures c.requires.by_site (sym c.requires.lists.kind ∙ no);
-        by_place = λ yes. subst R (sym c.deref-6.ensures.value) (c.requires.lists.by_place yes);
+        by_place = λ yes. subst R (sym c.deref-7.ensures.value) (c.requires.lists.by_place yes);
+        by_known = λ yes. subst (λ (X : Type 0). X)
+            (λ i. AreUniform a.ends.now a.at.now (sym c.deref-2.ensures.value i) (sym c.deref-3.ensures.value i) (sym c.deref-4.ensures.value i) a.self.now.smooth.symmetric a.self.now.few a.self.now.listed (sym c.deref-6.ensures.value i))
+            (c.requires.lists.by_known yes);
       };
       flags = record { rising_is = refl; even_is = refl; weight_is = refl };
     }
@@ -36,5 +39,5 @@ returns-clause-of c = λ m move sites pairs allowed is.
       allowed = allowed;
       read = subst (λ (X : Type 0). X) (λ i. AreReadOf m move (sym c.deref.ensures.value i) a.at.now (sym c.deref-2.ensures.value i) (sym c.deref-3.ensures.value i)) read;
       costs = λ no. subst C (sym c.deref-4.ensures.value) (is.pairs.costs no);
-      rises = λ yes. subst R (sym c.deref-6.ensures.value) (is.pairs.rises yes);
+      rises = λ yes. subst R (sym c.deref-7.ensures.value) (is.pairs.rises yes);
     }
