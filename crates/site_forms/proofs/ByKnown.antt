@@ -69,37 +69,47 @@ of_bit : (b : Bool) (g : Bool → ℤ) → g b ≡ cond b (g true) (g false)
 of_bit true g = refl
 of_bit false g = refl
 
+-- a number of the table, at a place of a site
+pub told_at_place : (form : SiteForm) (bit : Bool) (u place : ℕ) (z : ℤ)
+    → AreUniform form.ends.now form.at.now form.stays.now form.turns.now form.smooth.now form.symmetric form.few form.listed form.told.now
+    → z ≡ weighed_rise form.stays.now form.turns.now form.smooth.now form.ends.now.weight (labelling form.at.now u) (labelling form.at.now (neighbour_at form.ends.now place)) bit
+    → z ≡ rise_at_place form bit u place
+told_at_place form bit u place z uniform is =
+    let ends = form.ends.now in
+    let own = labelling form.at.now u in
+    let other = labelling form.at.now (neighbour_at ends place) in
+    is
+    ∙ first_or_second form ends.weight own other (is_first ends u place) bit (form.form.numbers.mirrored uniform.mirrored)
+    ∙ ap (λ even. end_rise_by form (cond even ends.weight (slice_index ends.weights.items place)) (is_first ends u place) own other bit) (sym uniform.even)
+    ∙ ap (λ listed. cond listed (listed_rise form bit place) (rise_by_labels form bit u place)) (sym uniform.weighted)
+
 pub told_rise_is : (form : SiteForm) (known : List Choice) (given : Bool) (u place : ℕ) (z : ℤ)
     → AreUniform form.ends.now form.at.now form.stays.now form.turns.now form.smooth.now form.symmetric form.few form.listed form.told.now
     → z ≡ weighed_rise form.stays.now form.turns.now form.smooth.now form.ends.now.weight (labelling form.at.now u) (labelling form.at.now (neighbour_at form.ends.now place))
     (bit_of (choice_at known (neighbour_at form.ends.now place)) given)
     → z ≡ place_rise (form_of form) (decided_or known given) u place
 told_rise_is form known given u place z uniform is =
-    let ends = form.ends.now in
-    let own = labelling form.at.now u in
-    let other = labelling form.at.now (neighbour_at ends place) in
-    let bit = bit_of (choice_at known (neighbour_at ends place)) given in
-    is
-    ∙ first_or_second form ends.weight own other (is_first ends u place) bit (form.form.numbers.mirrored uniform.mirrored)
-    ∙ ap (λ even. end_rise_by form (cond even ends.weight (slice_index ends.weights.items place)) (is_first ends u place) own other bit) (sym uniform.even)
-    ∙ ap (λ listed. cond listed (listed_rise form bit place) (rise_by_labels form bit u place)) (sym uniform.weighted)
-    ∙ of_bit bit (λ b. rise_at_place form b u place)
+    let bit = bit_of (choice_at known (neighbour_at form.ends.now place)) given in
+    told_at_place form bit u place z uniform is ∙ of_bit bit (λ b. rise_at_place form b u place)
 
-abbrev pub AreToldAt : SiteForm → List Choice → ℕ → ℕ → ToldRises → Type 0
-AreToldAt form known u place told =
-    AreToldRises form.stays.now form.turns.now form.smooth.now form.ends.now.weight (labelling form.at.now u) (labelling form.at.now (neighbour_at form.ends.now place))
-    (choice_at known (neighbour_at form.ends.now place)) told
+abbrev pub AreToldAt : SiteForm → Choice → ℕ → ℕ → ToldRises → Type 0
+AreToldAt form choice u place told =
+    AreToldRises form.stays.now form.turns.now form.smooth.now form.ends.now.weight (labelling form.at.now u) (labelling form.at.now (neighbour_at form.ends.now place)) choice told
+
+pub told_where : (form : SiteForm) (choice : Choice) (u place at : ℕ) (uniform : form.uniform ≡ true) → IsSitePlace form u place
+    → at ≡ known_place (labelling form.at.now u) (labelling form.at.now (neighbour_at form.ends.now place)) choice → AreToldAt form choice u place (told_in form.told.now at)
+told_where form choice u place at uniform site stands =
+    let there = neighbour_at form.ends.now place in
+    let P : ℕ → Type 0 = λ p. AreToldAt form choice u place (told_in form.told.now p) in
+    subst P (sym stands) ((form.form.by_known uniform).rises (labelling form.at.now u) (labelling form.at.now there) choice
+    (u, site.inside, refl) (there, form.form.places.inside u place site.inside site.from site.to, refl))
 
 pub told_there : (form : SiteForm) (known : List Choice) (u place head at : ℕ) (uniform : form.uniform ≡ true) → IsSitePlace form u place → head ≡ neighbour_at form.ends.now place
-    → at ≡ known_place (labelling form.at.now u) (labelling form.at.now head) (choice_at known head) → AreToldAt form known u place (told_in form.told.now at)
+    → at ≡ known_place (labelling form.at.now u) (labelling form.at.now head) (choice_at known head)
+    → AreToldAt form (choice_at known (neighbour_at form.ends.now place)) u place (told_in form.told.now at)
 told_there form known u place head at uniform site is stands =
-    let ends = form.ends.now in
-    let own = labelling form.at.now u in
-    let there = neighbour_at ends place in
-    let P : ℕ → Type 0 = λ p. AreToldAt form known u place (told_in form.told.now p) in
-    let e : at ≡ known_place own (labelling form.at.now there) (choice_at known there) = stands ∙ ap (λ h. known_place own (labelling form.at.now h) (choice_at known h)) is in
-    subst P (sym e) ((form.form.by_known uniform).rises own (labelling form.at.now there) (choice_at known there)
-    (u, site.inside, refl) (there, form.form.places.inside u place site.inside site.from site.to, refl))
+    told_where form (choice_at known (neighbour_at form.ends.now place)) u place at uniform site
+    (stands ∙ ap (λ h. known_place (labelling form.at.now u) (labelling form.at.now h) (choice_at known h)) is)
 
 -- ---- the lists of which the form is lent
 

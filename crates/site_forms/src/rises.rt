@@ -55,6 +55,23 @@ pub(crate) fn listed_rises(form: &SiteForm, site: u32, place: u32) -> EndRises
     form.rises[place as usize]
 }
 
+/// The same, where a table has the rises by what is known of the neighbour, which is this one.
+#[inline]
+pub(crate) fn told_ends(form: &SiteForm, site: u32, place: u32, head: u32) -> EndRises
+    requires uniform { form.now.uniform ≡ true }
+    requires place { IsSitePlace form.now site place }
+    requires head { head ≡ neighbour_at form.now.ends.now place }
+    ensures { AreRisesAt form.now site place result }
+{
+    let own = form.at[site as usize];
+    let other = form.at[head as usize];
+    let zero = place_told(own, other, Choice::Zero);
+    EndRises {
+        low: form.told[zero].least,
+        high: form.told[zero + 1].least,
+    }
+}
+
 /// The same, for who reads few places: what the form says of all is asked at each.
 pub fn rises_of_place(form: &SiteForm, site: u32, place: u32) -> EndRises
     requires place { IsSitePlace form.now site place }
@@ -64,6 +81,9 @@ pub fn rises_of_place(form: &SiteForm, site: u32, place: u32) -> EndRises
         return listed_rises(form, site, place);
     }
     let head = head_at(form, site, place);
+    if form.uniform {
+        return told_ends(form, site, place, head);
+    }
     let weight = weight_read(form, site, place);
     if form.few {
         place_rises::<true>(form, site, place, head, weight)

@@ -7,7 +7,7 @@ ghost use Rattle.site_forms.specs.Numbers.{WhereRead, IsSitePlace};
 
 use crate::ends::weight_read;
 use crate::numbers::SiteForm;
-use crate::rises::{listed_rises, place_rises};
+use crate::rises::{listed_rises, place_rises, told_ends};
 use move_energy::saving_of;
 
 /// The surplus of the pair that a site has with the neighbour at a place: by how much its costs at
@@ -20,6 +20,9 @@ pub fn saving_beside(form: &SiteForm, site: u32, place: u32, head: u32) -> i64
         ≡ surplus_of (pair_table m move f (pair_beside form.now.ends.now site place))) }
     ensures range { unsigned_abs result ≤ surplus_limit }
 {
+    if form.uniform {
+        return saving_of(told_ends(form, site, place, head));
+    }
     if form.listed {
         return saving_of(listed_rises(form, site, place));
     }
