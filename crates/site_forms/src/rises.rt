@@ -255,9 +255,23 @@ fn sum_by_kind<const LISTED: bool>(form: &SiteForm, known: &[Choice], site: u32)
     }
 }
 
+/// The same, where no table has the rises by what is known.
+fn other_rises(form: &SiteForm, known: &[Choice], site: u32) -> SiteRises
+    requires apart { form.now.uniform ≡ false }
+    requires known { length known.now ≡ length form.now.at.now }
+    requires site { site < length form.now.at.now }
+    ensures { AreSiteRises form.now known.now site result }
+{
+    if form.listed {
+        return sum_by_kind::<true>(form, known, site);
+    }
+    sum_by_kind::<false>(form, known, site)
+}
+
 /// By how much the value rises where a site turns, at least and at most, by what is known of its
-/// neighbours; and whether one of them before it is open.
-#[inline]
+/// neighbours; and whether one of them before it is open. It stands in its caller's loop where a
+/// table has the rises by what is known.
+#[inline(always)]
 pub fn site_rises(form: &SiteForm, known: &[Choice], site: u32) -> SiteRises
     requires known { length known.now ≡ length form.now.at.now }
     requires site { site < length form.now.at.now }
@@ -266,10 +280,7 @@ pub fn site_rises(form: &SiteForm, known: &[Choice], site: u32) -> SiteRises
     if form.uniform {
         return sum_rises::<true, false, true, true>(form, known, site);
     }
-    if form.listed {
-        return sum_by_kind::<true>(form, known, site);
-    }
-    sum_by_kind::<false>(form, known, site)
+    other_rises(form, known, site)
 }
 
 /// By how much the value rises where a site turns, at least and at most, by what is known of its
