@@ -28,7 +28,7 @@ PARTS = [
     ("costs", ("cost_store", "vision", "run_options", "label_energies", "rayon")),
     (
         "site_bounds",
-        ("site_forms", "site_bounds", "near_changes", "persistency", "kept_labels"),
+        ("site_forms", "form_lists", "site_bounds", "near_changes", "persistency", "kept_labels"),
     ),
     (
         "building",

@@ -15,9 +15,9 @@ use Rattle.move_energy.specs.BySite.{AreBySite}
 use Rattle.move_energy.specs.Choices.{choice_at, open_rank, value_of}
 use Rattle.move_energy.specs.MoveValues.{move_value}
 use Rattle.move_energy.proofs.Rising.{move_falls, move_over}
-use Rattle.site_forms.specs.declared.lists.FormLists.{FormLists}
+use Rattle.form_lists.specs.declared.lists.FormLists.{FormLists}
 use Rattle.site_forms.specs.declared.numbers.SiteForm.{SiteForm}
-use Rattle.site_forms.specs.Lists.{AreFormLists, IsReadOf}
+use Rattle.form_lists.specs.Lists.{AreFormLists, IsReadOf}
 use Rattle.site_forms.specs.Numbers.{IsFormOf}
 use Rattle.site_bounds.specs.declared.sites.Deciding.{Deciding}
 use Rattle.site_bounds.specs.Decisions.{IsSmallestLeast}

@@ -4,8 +4,8 @@ use Rattle.cost_store.specs.declared.problem.Problem.{Problem}
 use Rattle.cost_store.specs.Posed.{Closure}
 use Rattle.move_energy.specs.BySite.{AreBySite}
 use Rattle.site_bounds.specs.declared.sites.Deciding.{Deciding}
-use Rattle.site_forms.specs.Lists.{HasNoCosts, KnowsCosts}
-use Rattle.site_forms.proofs.Asking.{none_known}
+use Rattle.form_lists.specs.Lists.{HasNoCosts, KnowsCosts}
+use Rattle.form_lists.proofs.Asking.{none_known}
 use Rattle.one_move.specs.declared.workspace.Workspace.{Workspace}
 use Rattle.one_move.specs.Building.{IsOfProblem, KeepsDecided}
 

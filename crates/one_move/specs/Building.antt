@@ -30,7 +30,7 @@ use Rattle.move_energy.specs.BySite.{AreBySite, IsListing}
 use Rattle.site_bounds.specs.Listed.{AreListed, changes}
 use Rattle.site_bounds.specs.Decisions.{IsSmallestLeast}
 use Rattle.move_energy.specs.MoveValues.{move_value}
-use Rattle.site_forms.specs.Lists.{AreFormLists, IsReadOf, KnowsCosts}
+use Rattle.form_lists.specs.Lists.{AreFormLists, IsReadOf, KnowsCosts}
 use Rattle.strip_nets.specs.Looking.{IsStageLeast}
 use Rattle.one_move.specs.declared.left.Built.{Built}
 use Rattle.one_move.specs.declared.left.Left.{Left}

@@ -2,7 +2,7 @@
 ghost use Rattle.std.specs.Prelude.{◌≡◌, [], OnOk, IsTrue};
 ghost use Rattle.move_energy.specs.BySite.{AreBySite};
 ghost use Rattle.move_energy.specs.Choices.{AreOpenSites, AreAssigned};
-ghost use Rattle.site_forms.specs.Lists.{HasNoCosts};
+ghost use Rattle.form_lists.specs.Lists.{HasNoCosts};
 ghost use Rattle.one_move.specs.Building.{IsOfProblem};
 
 use cost_store::Problem;

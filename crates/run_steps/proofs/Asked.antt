@@ -14,10 +14,10 @@ use Rattle.move_energy.specs.declared.choice.Choice.TheVariants.{Open, Zero, One
 use Rattle.move_energy.specs.Choices.{bit_of, choice_at, open_at, AreOpenSites}
 use Rattle.move_energy.proofs.Listings.{chosen_below, listing_place}
 use Rattle.move_energy.proofs.Opened.{open_true}
-use Rattle.site_forms.specs.declared.lists.FormLists.{FormLists}
+use Rattle.form_lists.specs.declared.lists.FormLists.{FormLists}
 use Rattle.move_energy.specs.declared.by_site.Neighbours.{Neighbours}
-use Rattle.site_forms.proofs.Taking.{pairs_near}
-use Rattle.site_forms.specs.Lists.{with_costs_at, IsReadOf, IsReadNear}
+use Rattle.form_lists.proofs.Taking.{pairs_near}
+use Rattle.form_lists.specs.Lists.{with_costs_at, IsReadOf, IsReadNear}
 use Rattle.persistency.specs.Fixing.{with_choices}
 use Rattle.strip_nets.specs.Looking.{IsStageLeast}
 

@@ -13,9 +13,9 @@ use Rattle.label_energies.specs.Moves.{IsAllowed}
 use Rattle.move_energy.specs.BySite.{AreBySite}
 use Rattle.move_energy.specs.Choices.{choice_at, AreOpenSites}
 use Rattle.move_energy.specs.OpenMoves.{IsAllowedFrom}
-use Rattle.site_forms.specs.declared.lists.FormLists.{FormLists}
+use Rattle.form_lists.specs.declared.lists.FormLists.{FormLists}
 use Rattle.move_energy.specs.declared.by_site.Neighbours.{Neighbours}
-use Rattle.site_forms.specs.Lists.{AreFormLists, IsReadNear}
+use Rattle.form_lists.specs.Lists.{AreFormLists, IsReadNear}
 use Rattle.site_bounds.specs.Decisions.{IsSmallestLeast}
 use Rattle.move_energy.specs.MoveValues.{move_value}
 use Rattle.near_changes.specs.declared.changes.Changes.{Changes}

@@ -18,7 +18,7 @@ use Rattle.move_energy.specs.declared.choice.Choice.TheVariants.{Open, Zero, One
 use Rattle.move_energy.specs.Choices.{is_open, open_at, open_count, bit_of, choice_at, AreAllOpen, AreOpenSites}
 use Rattle.move_energy.proofs.Listings.{chosen_below, listing_has, listing_place, listing_short}
 use Rattle.move_energy.proofs.Opened.{opened_count}
-use Rattle.site_forms.specs.Lists.{CoversChanges}
+use Rattle.form_lists.specs.Lists.{CoversChanges}
 use Rattle.site_bounds.specs.declared.bounds.Bounds.{Bounds}
 use Rattle.site_bounds.specs.Listed.{changes, CoversRest, CoversOpen}
 use Rattle.site_bounds.specs.Working.{StayDecided}

@@ -12,7 +12,7 @@ use Rattle.move_energy.specs.Limits.{surplus_limit, weights_limit}
 use Rattle.move_energy.specs.Weights.{AreWeights}
 use Rattle.move_energy.specs.Ends.{rise_limit}
 use Rattle.site_forms.specs.declared.numbers.SiteForm.{SiteForm}
-use Rattle.site_forms.specs.Lists.{AreFormLists, IsReadOf}
+use Rattle.form_lists.specs.Lists.{AreFormLists, IsReadOf}
 use Rattle.site_forms.specs.Numbers.{WhereRead}
 use Rattle.site_bounds.specs.declared.bounds.Bounds.{Bounds}
 use Rattle.site_bounds.specs.declared.sites.Deciding.{Deciding}

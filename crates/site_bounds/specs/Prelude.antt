@@ -29,5 +29,5 @@ pub use Rattle.move_energy.specs.declared.choice.Choice.TheVariants.{Open, One, 
 pub use Rattle.move_energy.specs.Assignments.{rise}
 pub use Rattle.move_energy.specs.Ends.{decided_or}
 pub use Rattle.move_energy.specs.MoveValues.{move_value}
-pub use Rattle.site_forms.specs.Lists.{AreFormLists, IsReadOf, KnowsCosts, HasNoCosts}
+pub use Rattle.form_lists.specs.Lists.{AreFormLists, IsReadOf, KnowsCosts, HasNoCosts}
 pub use Rattle.site_forms.specs.Numbers.{IsFormOf, IsOverPairs, IsSitePlace, WhereRead}

@@ -12,8 +12,9 @@ mod sweeps;
 mod waiting_sites;
 
 pub use bounds::Bounds;
+pub use form_lists::FormLists;
 pub use lists::Lists;
 pub use move_energy::EndRises;
-pub use site_forms::{FormLists, SiteForm};
+pub use site_forms::SiteForm;
 pub use sites::Deciding;
 pub use sweeps::{read_weight, sweep};

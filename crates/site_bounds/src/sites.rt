@@ -8,15 +8,16 @@ ghost use Rattle.site_bounds.specs.Prelude.{KnowsCosts, HasNoCosts, label_limit,
 ghost use Rattle.site_bounds.specs.Prelude.{IsSwap, AreOpenSites, IsPosed, IsAsked};
 ghost use Rattle.site_bounds.specs.Prelude.{IsOverPairs, AreUnsummed, DecidesSites, AreUndecided};
 ghost use Rattle.label_energies.specs.Moves.{IsMoveOf};
-ghost use Rattle.site_forms.specs.Lists.{CoversChanges, HasTermsOf};
+ghost use Rattle.form_lists.specs.Lists.{CoversChanges, HasTermsOf};
 ghost use Rattle.move_energy.specs.Terms.{AreTermsTested};
 
 use crate::{Bounds, Lists};
 use cost_store::Problem;
+use form_lists::FormLists;
 use label_energies::Move;
 use label_field::Pairs;
 use move_energy::{BuildError, Choice, Neighbours, group_pairs, test_terms};
-use site_forms::{FormLists, SiteForm};
+use site_forms::SiteForm;
 use std::alloc::{AllocError, Global};
 
 /// The neighbours of each site by a list of pairs, made once a run, and the room in which the sites

@@ -1,13 +1,11 @@
 -- What the lists of a form hold, and where.
 use Rattle.std.specs.Prelude.{not}
-use Rattle.std.proofs.Common.{◌≡◌, ◌≢◌, ◌==◌, ℕ, ap, w32, to_z, of_z, ◌+◌, ◌*◌, ◌<◌, ◌≤◌, Bool, true, false, List, sym, ◌∙◌, All, length, slice_index, ℤ, pos, ◌-ℤ◌, unsigned_abs, inl, inr, arith}
+use Rattle.std.proofs.Common.{◌≡◌, ◌≢◌, ◌==◌, ℕ, ap, w32, to_z, of_z, ◌+◌, ◌*◌, ◌<◌, ◌≤◌, Bool, true, false, List, sym, ◌∙◌, All, length, slice_index, ℤ, pos, ◌-ℤ◌, unsigned_abs, arith}
 use Rattle.std.proofs.lemmas.Int.{ints}
-use Rattle.std.proofs.lemmas.Bool.{cases_lt}
-use Rattle.std.proofs.lemmas.List.{get_or_past}
 use Rattle.std.proofs.lemmas.List.Elements.{All-get_or}
 use Rattle.move_energy.proofs.SiteSums.{test_false}
 use Rattle.move_energy.specs.declared.rises.EndRises.{EndRises}
-use Rattle.site_forms.specs.Fields.{table_cost, unit_rise, own_at, IsSiteLabel, AreSymmetric}
+use Rattle.site_forms.specs.Fields.{table_cost, IsSiteLabel, AreSymmetric}
 use Rattle.site_forms.specs.declared.numbers.SiteForm.{SiteForm}
 use Rattle.site_forms.specs.Numbers.{label_by, end_rise_by, AreEndRises}
 
@@ -20,32 +18,9 @@ site_label_within at k label all is = (let l = label_within at is.0 k is.1 all i
 pub few_label : (at : List ℕ) (label : ℕ) → ((u : ℕ) → u < length at → slice_index at u < 64) → IsSiteLabel at label → label < 64
 few_label at label each is = (let l = each is.0 is.1 in omega (arith, l, is.2))
 
--- what holds of each number of a list, and of nothing, holds at each place
-pub small_everywhere : (xs : List ℕ) (most i : ℕ) → ((k : ℕ) → k < length xs → slice_index xs k ≤ most) → slice_index xs i ≤ most
-small_everywhere xs most i each = elim (cases_lt i (length xs)) [
-  | inl inside ↦ each i inside
-  | inr past ↦ (let none = get_or_past xs i 0 past in omega (arith, none))
-]
-
-pub own_everywhere : (xs : List ℤ) (most i : ℕ) → ((k : ℕ) → k < length xs → unsigned_abs (own_at xs k) ≤ most) → unsigned_abs (own_at xs i) ≤ most
-own_everywhere xs most i each = elim (cases_lt i (length xs)) [
-  | inl inside ↦ each i inside
-  | inr past ↦ (let none = get_or_past xs i (pos 0) past in omega (arith, ints, none))
-]
-
 pub small_cost : (smooth : List ℕ) (first : Bool) (own other : ℕ) → ((place : ℕ) → slice_index smooth place ≤ 10000) → table_cost smooth first own other ≤ 10000
 small_cost smooth true own other each = each (own * 256 + other)
 small_cost smooth false own other each = each (other * 256 + own)
-
-difference_small : (a b : ℕ) (z : ℤ) → z ≡ pos a -ℤ pos b → a ≤ 10000 → b ≤ 10000 → unsigned_abs z ≤ 10000000
-difference_small a b z is l h = omega (arith, ints, is, l, h)
-
--- a rise of a pair of weight 1 is the difference of two costs
-pub unit_small : (stays turns smooth : List ℕ) (first : Bool) (own label : ℕ) (z : ℤ) → ((place : ℕ) → slice_index smooth place ≤ 10000)
-    → z ≡ unit_rise stays turns smooth first own label → unsigned_abs z ≤ 10000000
-unit_small stays turns smooth first own label z each is =
-    difference_small (table_cost smooth first (slice_index turns own) label) (table_cost smooth first (slice_index stays own) label) z is
-    (small_cost smooth first (slice_index turns own) label each) (small_cost smooth first (slice_index stays own) label each)
 
 -- ---- costs that are the same in both orders
 

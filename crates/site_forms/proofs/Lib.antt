@@ -4,11 +4,4 @@ pub mod Sums
 pub mod Places
 pub mod Entries
 pub mod Telling
-pub mod Listing
-pub mod Filling
-pub mod Asking
-pub mod Taking
-pub mod Near
-pub mod ByPair
-pub mod ByPlace
 pub mod ByKnown

@@ -1,23 +1,21 @@
 -- The lists of a move's numbers.
 use Rattle.std.specs.Prelude.{◌≡◌, ℕ, ◌+◌, ◌*◌, ◌<◌, ◌≤◌, Bool, true, false, cond, ℤ, pos}
-use Rattle.std.specs.Prelude.{◌*ℤ◌, ◌-ℤ◌}
+use Rattle.std.specs.Prelude.{◌-ℤ◌}
 use Rattle.std.specs.Prelude.{List, length, slice_index, slice_index_or, unsigned_abs}
 use Rattle.std.specs.List.{All}
 use Rattle.label_field.specs.Limits.{site_limit, label_limit, weight_limit}
-use Rattle.label_field.specs.declared.pair.Pair.{Pair}
 use Rattle.label_energies.specs.declared.change.Move.{Move}
 use Rattle.label_energies.specs.Energies.{Instance, labelling}
 use Rattle.label_energies.specs.Moves.{label_after}
 use Rattle.cost_store.specs.Limits.{site_cost_limit, pair_cost_limit}
 use Rattle.move_energy.specs.declared.by_site.Neighbours.{Neighbours}
-use Rattle.move_energy.specs.BySite.{neighbours_start, neighbour_at, weight_at, is_first, pair_in}
+use Rattle.move_energy.specs.BySite.{neighbours_start, neighbour_at, weight_at, is_first}
 use Rattle.move_energy.specs.MoveValues.{data_rise}
 use Rattle.move_energy.specs.declared.choice.Choice.{Choice}
 use Rattle.move_energy.specs.declared.choice.Choice.TheVariants.{Open, Zero, One}
 use Rattle.move_energy.specs.Choices.{bit_of}
 use Rattle.move_energy.specs.declared.rises.EndRises.{EndRises}
 use Rattle.move_energy.specs.Rising.{entry_place, table_labels, AreRises}
-use Rattle.site_forms.specs.declared.by_pair.PairRises.{PairRises}
 use Rattle.site_forms.specs.declared.by_known.ToldRises.{ToldRises}
 
 -- what a pair of weight 1 costs by a table of costs, whose first end, or its second, has the one
@@ -142,27 +140,6 @@ known_place own other choice = own * 256 + other * 4 + code_of choice
 abbrev pub told_in : List ToldRises → ℕ → ToldRises
 told_in told place = slice_index_or told place (record { least = pos 0; greatest = pos 0 })
 
--- at least and at most, by the rises while the other end is at 0 and while it is at 1
-abbrev pub known_rises : ℤ → ℤ → Choice → ToldRises
-known_rises low high choice = record {
-  least = cond (bit_of choice true) high low;
-  greatest = cond (bit_of choice false) high low;
-}
-
--- these are the rises of a pair of this weight, and those of weight 1 are such
-pub record AreTimes (weight : ℕ) (units : EndRises) (choice : Choice) (told : ToldRises) : Type 0
-  where
-    pub least : told.least ≡ pos weight *ℤ cond (bit_of choice true) units.high units.low
-    pub greatest : told.greatest ≡ pos weight *ℤ cond (bit_of choice false) units.high units.low
-    pub small : (unsigned_abs told.least ≤ pair_cost_limit)
-        × (unsigned_abs told.greatest ≤ pair_cost_limit)
-
--- the rises of weight 1 are not large, of so many labels
-abbrev pub AreUnitsSmall : ℕ → List EndRises → Type 0
-AreUnitsSmall labels table = (own other : ℕ) → own < labels → other < labels
-    → (unsigned_abs (unit_rises_at table true own other).low ≤ 10000)
-    × (unsigned_abs (unit_rises_at table true own other).high ≤ 10000)
-
 -- by how much a pair of this weight rises whose first end, of the one label, turns, while its other
 -- end, of the other label, has this bit
 abbrev pub weighed_rise : List ℕ → List ℕ → List ℕ → ℕ → ℕ → ℕ → Bool → ℤ
@@ -229,36 +206,6 @@ AreRisesBelow n m move ends at rises =
 -- and of all
 abbrev pub AreRisesRead : Instance → Move → Neighbours → List ℕ → List EndRises → Type 0
 AreRisesRead m move ends at rises = AreRisesBelow (length at) m move ends at rises
-
--- what a pair rises by at its two ends was read of it
-pub record AreSidesOf (m : Instance) (move : Move) (f : ℕ → ℕ) (pair : Pair) (sides : PairRises)
-    : Type 0 where
-  pub first : AreRises m move pair.weight true (f pair.first) (f pair.second) sides.first
-  pub second : AreRises m move pair.weight false (f pair.second) (f pair.first) sides.second
-
--- the rises of the pair at a place of a list
-abbrev pub sides_in : List PairRises → ℕ → PairRises
-sides_in sides i =
-    slice_index_or sides i (record {
-      first = record { low = pos 0; high = pos 0 };
-      second = record { low = pos 0; high = pos 0 };
-    })
-
--- those of each pair were read of it
-abbrev pub AreSidesRead : Instance → Move → (ℕ → ℕ) → List PairRises → Type 0
-AreSidesRead m move f sides =
-    (i : ℕ) → i < length sides → AreSidesOf m move f (pair_in m.pairs i) (sides_in sides i)
-
--- none of a pair's rises is larger than its cost
-pub record AreSidesSmall (sides : PairRises) : Type 0 where
-  pub first : (unsigned_abs sides.first.low ≤ pair_cost_limit)
-      × (unsigned_abs sides.first.high ≤ pair_cost_limit)
-  pub second : (unsigned_abs sides.second.low ≤ pair_cost_limit)
-      × (unsigned_abs sides.second.high ≤ pair_cost_limit)
-
--- nor of any pair's
-abbrev pub AreAllSmall : List PairRises → Type 0
-AreAllSmall sides = (i : ℕ) → i < length sides → AreSidesSmall (sides_in sides i)
 
 -- the lists were read of a move from these labels: what each label becomes, and what each site's
 -- own rise is

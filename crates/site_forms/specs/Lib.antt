@@ -2,4 +2,3 @@ pub mod Forms
 pub mod MoveForms
 pub mod Fields
 pub mod Numbers
-pub mod Lists

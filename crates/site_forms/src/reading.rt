@@ -11,9 +11,9 @@ use crate::numbers::SiteForm;
 use move_energy::EndRises;
 
 /// What a pair of weight 1 costs whose first end, or its second, has the one label, and its other
-/// end the other.
+/// end the other. The costs have a row of 256 for each label of a first end. Both labels need one.
 #[inline]
-pub(crate) fn smooth_of(smooth: &[u16], first: bool, own: u8, other: u8) -> u16
+pub fn smooth_of(smooth: &[u16], first: bool, own: u8, other: u8) -> u16
     requires rows { (own * label_limit + label_limit ≤ length smooth.now)
         × (other * label_limit + label_limit ≤ length smooth.now) }
     ensures { result ≡ table_cost smooth.now first own other }
@@ -56,9 +56,10 @@ fn end_rise(form: &SiteForm, first: bool, weight: u32, own: u8, other: u8) -> i3
         - pair_cost(form.smooth, first, weight, form.stays[own as usize], other)
 }
 
-/// Where the rises of these labels stand in a table.
+/// Where a table of 8,192 has the rises of a pair of weight 1 whose first end, or its second, has
+/// the one label, and its other end the other. Both labels are below 64.
 #[inline]
-pub(crate) fn table_place(first: bool, own: u8, other: u8) -> usize
+pub fn place_in_table(first: bool, own: u8, other: u8) -> usize
     requires { (own < table_labels) × (other < table_labels) }
     ensures { result ≡ entry_place first own other }
 {
@@ -70,19 +71,21 @@ pub(crate) fn table_place(first: bool, own: u8, other: u8) -> usize
     row * 64 + other as usize
 }
 
-/// The rises of a pair of weight 1, by the table of few labels.
+/// The rises of a pair of weight 1 by a table of 8,192, where its first end, or its second, has the
+/// one label, and its other end the other. Both labels are below 64.
 #[inline]
-pub(crate) fn unit_rises(table: &[EndRises], first: bool, own: u8, other: u8) -> EndRises
+pub fn unit_rises(table: &[EndRises], first: bool, own: u8, other: u8) -> EndRises
     requires size { length table.now ≡ 8192 }
     requires few { (own < table_labels) × (other < table_labels) }
     ensures { result ≡ unit_rises_at table.now first own other }
 {
-    table[table_place(first, own, other)]
+    table[place_in_table(first, own, other)]
 }
 
-/// The rise of a pair of this weight, where that of weight 1 is the difference of two costs.
+/// The rise of a pair of this weight, where that of weight 1 is the difference of two costs. The
+/// weight is at most 1,000, a cost at most 10,000.
 #[inline]
-pub(crate) fn times(weight: u32, rise: i32) -> i32
+pub fn times(weight: u32, rise: i32) -> i32
     requires weight { weight ≤ weight_limit }
     requires small { unsigned_abs rise ≤ 10000 }
     ensures product { result ≡ pos weight *ℤ rise }

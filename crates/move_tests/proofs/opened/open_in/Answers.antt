@@ -1,5 +1,5 @@
 use Rattle.std.proofs.Common.{arith}
-use Rattle.site_forms.proofs.Asking.{none_known}
+use Rattle.form_lists.proofs.Asking.{none_known}
 use Rattle.move_tests.proofs.opened.open_in.Goals as goal
 
 pub decide-decided-requires-clause-few : goal.decide-decided-requires-clause-few

@@ -4,7 +4,7 @@ use Rattle.std.proofs.lemmas.List.{get_or_default, get_or_past}
 use Rattle.label_energies.specs.Energies.{labelling}
 use Rattle.move_energy.specs.BySite.{neighbours_start, degree}
 use Rattle.move_energy.specs.MoveValues.{move_value}
-use Rattle.site_forms.proofs.ByPlace.{starts_up}
+use Rattle.site_forms.proofs.Places.{starts_up}
 use Rattle.site_forms.proofs.Telling.{form_tells}
 use Rattle.one_move.specs.Turning.{turned_below}
 use Rattle.one_move.proofs.Changes.{site_has}

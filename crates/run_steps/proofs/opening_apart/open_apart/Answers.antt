@@ -1,7 +1,7 @@
 use Rattle.std.proofs.Common.{[], sym, subst}
 use Rattle.label_energies.specs.declared.change.Move.TheVariants.{Expand}
 use Rattle.site_bounds.specs.declared.sites.Deciding.{Deciding}
-use Rattle.site_forms.specs.Lists.{AreFormLists, IsReadNear}
+use Rattle.form_lists.specs.Lists.{AreFormLists, IsReadNear}
 use Rattle.run_steps.proofs.Asked.{read_everywhere}
 use Rattle.run_steps.proofs.opening_apart.open_apart.Goals as goal
 

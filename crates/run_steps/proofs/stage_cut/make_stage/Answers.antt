@@ -8,7 +8,7 @@ use Rattle.strip_nets.specs.Looking.{IsStageLeast}
 use Rattle.move_energy.specs.MoveValues.{move_value}
 use Rattle.persistency.specs.Fixing.{AreLeastZeros}
 use Rattle.near_changes.specs.Looking.{is_marked, IsClosedIn}
-use Rattle.site_forms.specs.Lists.{with_costs_at}
+use Rattle.form_lists.specs.Lists.{with_costs_at}
 use Rattle.run_steps.proofs.Asked.{stage_of_asked, opened_asked, read_at_none}
 use Rattle.site_bounds.specs.declared.sites.Deciding.{Deciding}
 use Rattle.run_steps.specs.Stages.{HasNumbersNear}

@@ -3,7 +3,7 @@ use Rattle.label_energies.specs.Energies.{labelling}
 use Rattle.move_energy.specs.declared.choice.Choice.{Choice}
 use Rattle.move_energy.specs.declared.choice.Choice.TheVariants.{Open}
 use Rattle.move_energy.specs.Choices.{choice_at}
-use Rattle.site_forms.specs.Lists.{CoversChanges}
+use Rattle.form_lists.specs.Lists.{CoversChanges}
 use Rattle.site_bounds.specs.Listed.{AreListed, CoversRest}
 use Rattle.site_bounds.specs.Working.{AreOfSites, AreUnsummed, ArePartlyDecided, CanDecide}
 use Rattle.site_bounds.proofs.Among.{covers_rest, covers_changes}

@@ -1,5 +1,5 @@
 use Rattle.std.proofs.Common.{ℕ, List, sym, subst, arith}
-use Rattle.site_forms.specs.Lists.{CoversChanges}
+use Rattle.form_lists.specs.Lists.{CoversChanges}
 use Rattle.site_bounds.proofs.Among.{covers_changes}
 use Rattle.site_bounds.proofs.Whole.{chosen_first}
 use Rattle.site_bounds.proofs.sites.Deciding.open.Goals as goal

@@ -1,0 +1,9 @@
+pub mod PairPlaces
+pub mod Listing
+pub mod Filling
+pub mod ToldTable
+pub mod Asking
+pub mod Taking
+pub mod Near
+pub mod ByPair
+pub mod ByPlace

@@ -1,0 +1,3 @@
+pub mod PairSides
+pub mod ToldRows
+pub mod Lists
