@@ -187,16 +187,17 @@ pub fn maximise(
 ///
 /// The preflow method with one queue, first in and first out (Goldberg, Tarjan 1988, "A new
 /// approach to the maximum-flow problem", sections 2 to 4). First excess goes from each node to
-/// higher ones, back to lower ones, and up once more, with no labels yet; then come phases. A phase
-/// raises the labels to the exact distances (Cherkassky, Goldberg 1997, "On implementing the
-/// push-relabel method for the maximum flow problem"), by a search from the sink that ends at the
-/// level at which it has found more than twice as much excess as the sink can still take; later
-/// searches look for more. Nodes that it did not find stand aside until the next search. Then it
-/// pushes once at each node that was found, the farthest from the sink first, so that excess moves
-/// down all the way in one pass, and discharges those that have excess left, until none has, or
-/// there were more than n / 32 new labels, where n is the number of nodes. The method stops where a
-/// full search finds that no node that reaches the sink has excess: a preflow certifies the cut as
-/// well as a flow. The sink side is the nodes that reach the sink over residual directions.
+/// higher ones, back to lower ones, and up once more, but not to wide last nodes, with no labels
+/// yet; then come phases. A phase raises the labels to the exact distances (Cherkassky, Goldberg
+/// 1997, "On implementing the push-relabel method for the maximum flow problem"), by a search from
+/// the sink that ends at the level at which it has found more than twice as much excess as the sink
+/// can still take; later searches look for more. Nodes that it did not find stand aside until the
+/// next search. Then it pushes once at each node that was found, the farthest from the sink first,
+/// so that excess moves down all the way in one pass, and discharges those that have excess left,
+/// until none has, or there were more than n / 32 new labels, where n is the number of nodes. The
+/// method stops where a full search finds that no node that reaches the sink has excess: a preflow
+/// certifies the cut as well as a flow. The sink side is the nodes that reach the sink over
+/// residual directions.
 ///
 /// Takes every net, also of no nodes, with parallel and opposite arcs, and with arcs from a node to
 /// itself. Refuses only where memory runs out; a net of 2^31 arcs or more counts as that.

@@ -12,8 +12,8 @@ const NARROW: u32 = 64;
 const NODES_A_WIDE_ONE: usize = 64;
 
 /// How many nodes there are from the first wide one on, among the last nodes. Of these the solver
-/// keeps where their pushes stopped: a wide node whose pushes each began at its first direction would
-/// look at all directions that are used up once for each push.
+/// keeps where their pushes stopped: a wide node whose pushes each began at its first direction
+/// would look at all directions that are used up once for each push.
 pub fn count_wide(net: &Outline, rows: &Rows) -> usize
     requires rows { IsRows net.now rows.now }
     ensures { result ≤ nodes net.now }

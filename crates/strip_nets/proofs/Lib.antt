@@ -1,6 +1,7 @@
 pub mod Borders
 pub mod Bounding
 pub mod Cuts
+pub mod Degrees
 pub mod Inside
 pub mod Looking
 pub mod Meeting

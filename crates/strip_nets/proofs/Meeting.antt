@@ -83,40 +83,6 @@ ends_few material sites site (suc k) =
       met_few (is_met material sites site place) (open_rank (view_by sites material) (pair_beside material.form.ends.now site place).first) (open_rank (view_by sites material) (pair_beside material.form.ends.now site place).second),
     )
 
-pub counted_small : (n : ℕ) (ends counts : List ℕ) (v : ℕ) → AreEndsCounted n ends counts → slice_index counts v ≤ length ends
-counted_small n ends counts zero h = omega (arith, h.first)
-counted_small n ends counts (suc u) h = elim (cases_lt u n) [
-  | inl l ↦
-      let same : slice_index counts (suc u) ≡ slice_index counts (u + 1) = ap (slice_index counts) (sym (add-one u)) in
-      omega (arith, same, h.each u l, count_by-le-length (λ number. number == u) ends)
-  | inr past ↦ omega (arith, get_or_past counts (suc u) 0 (omega (arith, past, h.len)))
-]
-
--- one pair more is counted
-pub count_met : (n : ℕ) (material : Material) (sites : StripSites) (site place : ℕ) (met : Met) (ends before now new : List ℕ)
-    → neighbours_start material.form.ends.now site ≤ place → IsMet material sites site place met
-    → AreEndsCounted n (ends ++ ends_below material sites site (place - neighbours_start material.form.ends.now site)) now
-    → (AreEndsCounted n (ends ++ ends_below material sites site (place - neighbours_start material.form.ends.now site)) now
-    → AreEndsCounted n ((ends ++ ends_below material sites site (place - neighbours_start material.form.ends.now site)) ++ met.first ∷ met.second ∷ []) new)
-    → AreEndsCounted n (ends ++ ends_below material sites site (place + 1 - neighbours_start material.form.ends.now site)) new
-count_met n material sites site place met ends before now new from is so_far step =
-    let below = ends_below material sites site (place - neighbours_start material.form.ends.now site) in
-    subst (λ (xs : List ℕ). AreEndsCounted n xs new)
-    (append_assoc ends below (met.first ∷ met.second ∷ [])
-    ∙ ap (λ (xs : List ℕ). ends ++ (below ++ xs)) (sym (ends_some material sites site place met is))
-    ∙ ap (λ (xs : List ℕ). ends ++ xs) (sym (ends_more material sites site place from)))
-    (step so_far)
-
-pub count_unmet : (n : ℕ) (material : Material) (sites : StripSites) (site place : ℕ) (ends now : List ℕ)
-    → neighbours_start material.form.ends.now site ≤ place → is_met material sites site place ≡ false
-    → AreEndsCounted n (ends ++ ends_below material sites site (place - neighbours_start material.form.ends.now site)) now
-    → AreEndsCounted n (ends ++ ends_below material sites site (place + 1 - neighbours_start material.form.ends.now site)) now
-count_unmet n material sites site place ends now from is so_far =
-    let below = ends_below material sites site (place - neighbours_start material.form.ends.now site) in
-    subst (λ (xs : List ℕ). AreEndsCounted n (ends ++ xs) now)
-    (sym (append-nil below) ∙ ap (λ (xs : List ℕ). below ++ xs) (sym (ends_none material sites site place is)) ∙ sym (ends_more material sites site place from))
-    so_far
-
 -- ---- all sites
 
 pub rows_few : (material : Material) (sites : StripSites) (opened : List ℕ) → length (flat_map (ends_at material sites) opened) ≤ 2 * sum_by (degree material.form.ends.now) opened

@@ -28,9 +28,3 @@ degrees material sites can listed =
 
 pub strip_ends_few : (material : Material) (sites : StripSites) → CanBuild material → AreStripSites material sites → length (strip_ends material sites) ≤ 16777216
 strip_ends_few material sites can listed = omega (arith, rows_few material sites sites.opened.now, degrees material sites can listed)
-
--- those of the first i sites
-pub first_ends_few : (material : Material) (sites : StripSites) (i : ℕ) → CanBuild material → AreStripSites material sites
-    → length (flat_map (ends_at material sites) (take i sites.opened.now)) ≤ 16777216
-first_ends_few material sites i can listed =
-    omega (arith, rows_few material sites (take i sites.opened.now), sum_by-take-le (degree material.form.ends.now) sites.opened.now i, degrees material sites can listed)

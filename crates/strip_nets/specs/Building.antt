@@ -17,6 +17,7 @@ use Rattle.site_forms.specs.Numbers.{IsOverPairs}
 use Rattle.persistency.specs.Borders.{border_at, range_of}
 use Rattle.strip_nets.specs.declared.material.Material.{Material}
 use Rattle.strip_nets.specs.declared.material.StripSites.{StripSites}
+use Rattle.strip_nets.specs.declared.material.Places.{Places}
 use Rattle.strip_nets.specs.Views.{KeepsChosen, strip_view, weight_now}
 
 -- the listed weights are those of the strip's open sites, by what was known at the start
@@ -36,6 +37,11 @@ pub record CanBuild (material : Material) : Type 0 where
   pub starts : length material.start.now ≡ material.form.pairs.now.sites
   pub count : length material.known.now ≡ material.form.pairs.now.sites
   pub goes_on : KeepsChosen material.start.now material.known.now
+
+-- these are the places of the form
+pub record ArePlacesOf (material : Material) (places : Places) : Type 0 where
+  pub starts : places.starts.now ≡ material.form.ends.now.starts.items
+  pub heads : places.heads.now ≡ material.form.ends.now.heads.items
 
 -- what a strip sees: what is known, and each open site outside it at 0
 abbrev pub view_by : StripSites → Material → List Choice

@@ -3,9 +3,11 @@ use Rattle.std.specs.Prelude.{◌≡◌, ◌≢◌, ℕ, zero, suc, ◌+◌, ◌
 use Rattle.std.specs.Prelude.{[], ◌∷◌}
 use Rattle.std.specs.Prelude.{length}
 use Rattle.std.specs.List.{flat_map}
-use Rattle.move_energy.specs.BySite.{degree, neighbours_start, pair_beside}
+use Rattle.sums.specs.Sums.{sum_below, count_if}
+use Rattle.move_energy.specs.BySite.{degree, neighbours_start, neighbour_at, pair_beside}
 use Rattle.move_energy.specs.Choices.{choice_at, open_rank}
 use Rattle.move_energy.specs.Weights.{are_open}
+use Rattle.persistency.specs.Borders.{is_inside, range_of}
 use Rattle.strip_nets.specs.declared.material.Material.{Material}
 use Rattle.strip_nets.specs.declared.material.StripSites.{StripSites}
 use Rattle.strip_nets.specs.declared.rows.Met.{Met}
@@ -53,3 +55,9 @@ pub record IsMet (material : Material) (sites : StripSites) (site place : ℕ) (
   pub first_node : met.first < length sites.opened.now
   pub second_node : met.second < length sites.opened.now
   pub apart : met.first ≢ met.second
+
+-- how many neighbours of a site are open and in the strip
+abbrev pub inside_degree : Material → StripSites → ℕ → ℕ
+inside_degree material sites site = sum_below (degree material.form.ends.now site) (λ k.
+    count_if (is_inside (choice_at material.known.now) (range_of sites.from sites.to)
+    (neighbour_at material.form.ends.now (neighbours_start material.form.ends.now site + k))) 1)

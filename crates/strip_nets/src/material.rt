@@ -25,6 +25,14 @@ pub struct StripSites<'a> {
     pub weights: &'a [i64],
 }
 
+/// Where the neighbours of each site begin, and the neighbours, as they stand in the form. A loop
+/// that writes lists would read these again of the form at each place.
+#[derive(Clone, Copy)]
+pub(crate) struct Places<'a> {
+    pub starts: &'a [u32],
+    pub heads: &'a [u32],
+}
+
 /// The form of a strip whose pairs stand in rows: what its nodes weigh, and what its pairs save.
 #[derive(Drop)]
 pub(crate) struct RowForm {

@@ -19,20 +19,20 @@ ghost use Rattle.persistency.specs.Borders.{is_inside as inside_of};
 ghost use Rattle.site_forms.specs.Numbers.{WhereRead};
 ghost use Rattle.strip_nets.specs.Building.{CanBuild, AreStripSites, view_by};
 ghost use Rattle.strip_nets.specs.Building.{AreStartWeights, AreWeighed};
-ghost use Rattle.strip_nets.specs.Building.{IsStripNumbering};
+ghost use Rattle.strip_nets.specs.Building.{ArePlacesOf, IsStripNumbering};
 ghost use Rattle.sink_distances.specs.Laying.{AreEndsCounted};
 ghost use Rattle.sink_distances.specs.Rows.{arc_ends};
 ghost use Rattle.compile_cut.specs.Weights.{source_part};
 ghost use Rattle.pseudo_bool.specs.Energies.{entry};
 ghost use Rattle.strip_nets.specs.RowForms.{arcs_in, form_in, IsFirstPart, IsLaidTo};
 ghost use Rattle.strip_nets.specs.Meeting.{is_met, ends_at, ends_met, strip_ends, IsMet};
+ghost use Rattle.strip_nets.specs.Meeting.{inside_degree};
 ghost use Rattle.strip_nets.specs.Building.{counts_in, unsaved_in, unsaved_at};
 ghost use Rattle.strip_nets.specs.Building.{border_of_site, weight_by_now};
 ghost use Rattle.strip_nets.specs.Limits.{borders_limit};
 
-use crate::material::{Material, RowForm, StripSites};
+use crate::material::{Material, Places, RowForm, StripSites};
 use move_energy::Choice;
-use sink_distances::Laying;
 use site_forms::{is_first_end, saving_beside};
 use std::alloc::AllocError;
 
@@ -94,27 +94,40 @@ fn site_at(material: &Material, sites: &StripSites, index: usize) -> u32
     sites.opened[index]
 }
 
+/// The places of the form.
+#[inline]
+fn places_of<'a>(material: &Material<'a>) -> Places<'a>
+    ensures { ArePlacesOf material.now result }
+{
+    Places {
+        starts: material.form.ends.starts.as_slice(),
+        heads: material.form.ends.heads.as_slice(),
+    }
+}
+
 /// Where the neighbours of a site begin, which is where those of the site before it end.
 #[inline]
-fn row_start(material: &Material, site: u32) -> u32
+fn row_start(material: &Material, places: &Places, site: u32) -> u32
     requires can { CanBuild material.now }
+    requires places { ArePlacesOf material.now places.now }
     requires site { site ≤ material.now.form.pairs.now.sites }
     ensures { result ≡ neighbours_start material.now.form.ends.now site }
 {
-    material.form.ends.starts[site as usize]
+    places.starts[site as usize]
 }
 
 /// The neighbour of a site at a place.
 #[inline]
-fn head_beside(material: &Material, site: u32, place: u32) -> u32
+fn head_beside(material: &Material, places: &Places, site: u32, place: u32) -> u32
     requires can { CanBuild material.now }
+    requires places { ArePlacesOf material.now places.now }
     requires site { site < material.now.form.pairs.now.sites }
     requires place { (neighbours_start material.now.form.ends.now site ≤ place)
         × (place < neighbours_start material.now.form.ends.now (site + 1)) }
     ensures head { result ≡ neighbour_at material.now.form.ends.now place }
     ensures inside { result < material.now.form.pairs.now.sites }
 {
-    material.form.ends.heads[place as usize]
+    places.heads[place as usize]
 }
 
 /// Whether the pair of a site of the strip and a neighbour is met there: the neighbour is inside,
@@ -142,6 +155,19 @@ fn is_met_at(
         return false;
     }
     is_first_end(&material.form, site, place, head)
+}
+
+/// One for a neighbour that is open and lies in the strip, and else 0. No branch is taken on what
+/// is found: some half of the neighbours are so, in no order.
+#[inline]
+fn one_inside(material: &Material, sites: &StripSites, head: u32) -> u32
+    requires known { head < length material.now.known.now }
+    ensures { result ≡ count_if (inside_of (choice_at material.now.known.now)
+        (range_of sites.now.from sites.now.to) head) 1 }
+{
+    let is_open = material.known[head as usize].is_open();
+    let inside = is_open & (head >= sites.from) & (head < sites.to);
+    u32::from(inside)
 }
 
 /// Whether the pair to a neighbour counts in any of the three ways.
@@ -198,12 +224,13 @@ struct Met {
     second: u32,
 }
 
-/// The nodes of a site and a neighbour whose pair is met there.
+/// The nodes of a site, which is this one, and of a neighbour whose pair is met there.
 #[inline]
 fn met_nodes(
     material: &Material,
     sites: &StripSites,
     numbers: &[u32],
+    node: u32,
     site: u32,
     place: u32,
     head: u32,
@@ -215,67 +242,49 @@ fn met_nodes(
         × (open_at (view_by sites.now material.now) site ≡ true) }
     requires place { (neighbours_start material.now.form.ends.now site ≤ place)
         × (place < neighbours_start material.now.form.ends.now (site + 1)) }
+    requires node { node ≡ open_rank (view_by sites.now material.now) site }
     requires head { head ≡ neighbour_at material.now.form.ends.now place }
     requires met { is_met material.now sites.now site place ≡ true }
     ensures { IsMet material.now sites.now site place result }
 {
     Met {
-        first: node_of(material, sites, numbers, site),
+        first: node,
         second: node_of(material, sites, numbers, head),
     }
 }
 
-/// Counts the ends of the pairs that are met at a site.
-fn count_row(
-    material: &Material,
-    sites: &StripSites,
-    numbers: &[u32],
-    laying: &mut Laying,
-    site: u32,
-)
+/// How many neighbours of a site are open and in the strip: as many ends of the strip's pairs lie
+/// at its node.
+fn count_inside(material: &Material, sites: &StripSites, places: &Places, site: u32) -> u32
     requires can { CanBuild material.now }
-    requires opened { AreStripSites material.now sites.now }
-    requires numbering { IsStripNumbering material.now.known.now sites.now numbers.now }
-    requires site { (site < material.now.form.pairs.now.sites)
-        × (open_at (view_by sites.now material.now) site ≡ true) }
-    requires counted { (ends : List ℕ) × (AreEndsCounted (length sites.now.opened.now) ends
-        laying.old.nexts.items) × (length ends ≤ 33554432) }
-    ensures { (ends : List ℕ) →
-        AreEndsCounted (length sites.now.opened.now) ends laying.old.nexts.items →
-        AreEndsCounted (length sites.now.opened.now) (ends ++ ends_at material.now sites.now site)
-        laying.new.nexts.items }
+    requires places { ArePlacesOf material.now places.now }
+    requires site { site < material.now.form.pairs.now.sites }
+    ensures { result ≡ inside_degree material.now sites.now site }
 {
-    for place in row_start(material, site)..row_start(material, site + 1) {
-        let head = head_beside(material, site, place);
-        let beside = look_at(material, sites, head);
-        let met = is_met_at(material, sites, site, place, head, beside.inside);
-        if met {
-            let nodes = met_nodes(material, sites, numbers, site, place, head);
-            laying.count(nodes.first, nodes.second);
-        }
+    let mut count = 0u32;
+    for place in row_start(material, places, site)..row_start(material, places, site + 1) {
+        let head = head_beside(material, places, site, place);
+        count += one_inside(material, sites, head);
     }
+    count
 }
 
-/// Counts the ends of all pairs of a strip.
-pub(crate) fn count_rows(
-    material: &Material,
-    sites: &StripSites,
-    numbers: &[u32],
-    laying: &mut Laying,
-)
+/// Counts the ends of all pairs of a strip by their nodes, which the listed sites have in their
+/// order.
+pub(crate) fn count_rows(material: &Material, sites: &StripSites, counts: &mut [u32])
     requires can { CanBuild material.now }
     requires opened { AreStripSites material.now sites.now }
-    requires numbering { IsStripNumbering material.now.known.now sites.now numbers.now }
-    requires begun { AreEndsCounted (length sites.now.opened.now) [] laying.old.nexts.items }
+    requires begun { AreEndsCounted (length sites.now.opened.now) [] counts.old }
     ensures { AreEndsCounted (length sites.now.opened.now) (strip_ends material.now sites.now)
-        laying.new.nexts.items }
+        counts.new }
 {
     // Copies of its own: what is written to the lists cannot change them, so they are read once.
     let material = *material;
     let sites = *sites;
+    let places = places_of(&material);
     for index in 0..sites.opened.len() {
         let site = site_at(&material, &sites, index);
-        count_row(&material, &sites, numbers, laying, site);
+        counts[index + 1] = count_inside(&material, &sites, &places, site);
     }
 }
 
@@ -336,6 +345,7 @@ fn add_inside(
     sites: &StripSites,
     form: &mut RowForm,
     numbers: &[u32],
+    node: u32,
     site: u32,
     place: u32,
     head: u32,
@@ -353,6 +363,7 @@ fn add_inside(
         × (open_at (view_by sites.now material.now) site ≡ true) }
     requires place { (neighbours_start material.now.form.ends.now site ≤ place)
         × (place < neighbours_start material.now.form.ends.now (site + 1)) }
+    requires node { node ≡ open_rank (view_by sites.now material.now) site }
     requires head { head ≡ neighbour_at material.now.form.ends.now place }
     requires met { met ≡ is_met material.now sites.now site place }
     requires saving { unsigned_abs saving ≤ surplus_limit }
@@ -371,7 +382,7 @@ fn add_inside(
     if !met {
         return Ok(());
     }
-    let nodes = met_nodes(material, sites, numbers, site, place, head);
+    let nodes = met_nodes(material, sites, numbers, node, site, place, head);
     put_saving(form, nodes.first, nodes.second, saving)
 }
 
@@ -389,11 +400,13 @@ struct SiteBorders {
 fn add_row(
     material: &Material,
     sites: &StripSites,
+    places: &Places,
     form: &mut RowForm,
     numbers: &[u32],
     site: u32,
 ) -> Result<SiteBorders, AllocError>
     requires can { CanBuild material.now }
+    requires places { ArePlacesOf material.now places.now }
     requires opened { AreStripSites material.now sites.now }
     requires numbering { IsStripNumbering material.now.known.now sites.now numbers.now }
     requires laid { IsLaidTo (length sites.now.opened.now) (strip_ends material.now sites.now)
@@ -421,8 +434,9 @@ fn add_row(
 {
     let mut ones = 0i64;
     let mut beyond = 0i64;
-    for place in row_start(material, site)..row_start(material, site + 1) {
-        let head = head_beside(material, site, place);
+    let node = node_of(material, sites, numbers, site);
+    for place in row_start(material, places, site)..row_start(material, places, site + 1) {
+        let head = head_beside(material, places, site, place);
         let beside = look_at(material, sites, head);
         let met = is_met_at(material, sites, site, place, head, beside.inside);
         let counts = counts_somewhere(beside, met);
@@ -430,7 +444,7 @@ fn add_row(
         ones += where_counted(beside.one, saving);
         beyond += where_counted(beside.beyond, saving);
         add_inside(
-            material, sites, form, numbers, site, place, head, met, saving,
+            material, sites, form, numbers, node, site, place, head, met, saving,
         )?;
     }
     Ok(SiteBorders { ones, beyond })
@@ -478,9 +492,10 @@ pub(crate) fn add_rows(
     // Copies of its own: what is written to the lists cannot change them, so they are read once.
     let material = *material;
     let sites = *sites;
+    let places = places_of(&material);
     for index in 0..sites.opened.len() {
         let site = site_at(&material, &sites, index);
-        let found = add_row(&material, &sites, form, numbers, site)?;
+        let found = add_row(&material, &sites, &places, form, numbers, site)?;
         list.push_reserved(sites.weights[index] - found.ones);
         borders.push_reserved(found.beyond.unsigned_abs());
     }

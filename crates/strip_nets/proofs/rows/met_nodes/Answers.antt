@@ -12,11 +12,6 @@ use Rattle.strip_nets.proofs.rows.met_nodes.Goals as goal
 pub node_of-requires-clause-open : goal.node_of-requires-clause-open
 node_of-requires-clause-open c =
     let a = c.args in
-    true_open (choice_at (strip_view a.material.now.known.now a.sites.now.from a.sites.now.to) a.site) c.requires.site.1
-
-pub node_of-requires-2-clause-open : goal.node_of-requires-2-clause-open
-node_of-requires-2-clause-open c =
-    let a = c.args in
     let v = strip_view a.material.now.known.now a.sites.now.from a.sites.now.to in
     let pairs = a.material.now.form.pairs.now in
     let ends = a.material.now.form.ends.now in
@@ -33,8 +28,8 @@ returns c =
     let apart = (beside_has (IsPair pairs.sites) pairs ends a.site a.place c.requires.can.over.list.each c.requires.can.over.by_site c.requires.site.0 c.requires.place.0 c.requires.place.1).unequal in
     let of = met_ends (choice_at v) ends a.site a.place c.requires.site.1 apart c.requires.met in
     let open_head : open_at v a.head ≡ true = ap (open_at v) c.requires.head ∙ of.2 in
-    let one = c.node_of.ensures in
-    let two = c.node_of-2.ensures in
+    let one = c.requires.node in
+    let two = c.node_of.ensures in
     let low_one : a.site < length v = inside_length v a.site c.requires.site.1 in
     let low_two : a.head < length v = inside_length v a.head open_head in
     let open_one = true_open (choice_at v a.site) c.requires.site.1 in
