@@ -100,7 +100,7 @@ pub(crate) fn build_strip(
 {
     number_sites(numbers, sites)?;
     begin_form(form, sites.opened.len())?;
-    count_rows(material, sites, form.laying.nexts.as_mut_slice());
+    count_rows(material, sites, &mut form.laying.nexts);
     form.laying.open()?;
     add_rows(material, sites, form, numbers, list, borders)?;
     add_weights(&mut form.weights, list);

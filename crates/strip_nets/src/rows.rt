@@ -271,12 +271,12 @@ fn count_inside(material: &Material, sites: &StripSites, places: &Places, site: 
 
 /// Counts the ends of all pairs of a strip by their nodes, which the listed sites have in their
 /// order.
-pub(crate) fn count_rows(material: &Material, sites: &StripSites, counts: &mut [u32])
+pub(crate) fn count_rows(material: &Material, sites: &StripSites, counts: &mut Vec<u32>)
     requires can { CanBuild material.now }
     requires opened { AreStripSites material.now sites.now }
-    requires begun { AreEndsCounted (length sites.now.opened.now) [] counts.old }
+    requires begun { AreEndsCounted (length sites.now.opened.now) [] counts.old.items }
     ensures { AreEndsCounted (length sites.now.opened.now) (strip_ends material.now sites.now)
-        counts.new }
+        counts.new.items }
 {
     // Copies of its own: what is written to the lists cannot change them, so they are read once.
     let material = *material;

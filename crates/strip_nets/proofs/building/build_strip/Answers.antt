@@ -35,12 +35,6 @@ pub begin_form-requires : goal.begin_form-requires
 begin_form-requires c =
     sites_few c.args.material.now c.args.sites.now c.requires.can c.requires.opened
 
-pub count_rows-requires-clause-numbering : goal.count_rows-requires-clause-numbering
-count_rows-requires-clause-numbering c =
-    let a = c.args in
-    let N : List ℕ → Type 0 = λ ns. IsStripNumbering a.material.now.known.now a.sites.now ns in
-    subst N (sym c.deref.ensures.value) (c.in_ok-number_sites.ensures.each a.material.now.known.now c.requires.opened)
-
 pub returns-clause-numbering : goal.returns-clause-numbering
 returns-clause-numbering c = c.in_ok-number_sites.ensures.each c.args.material.now.known.now c.requires.opened
 
@@ -50,7 +44,7 @@ open-requires-clause-small c =
     let counted = c.count_rows.ensures in
     omega (
       arith,
-      counts_sum (length a.sites.now.opened.now) (strip_ends a.material.now a.sites.now) c.count_rows.new.laying.nexts.items counted,
+      counts_sum (length a.sites.now.opened.now) (strip_ends a.material.now a.sites.now) c.count_rows.new.counts.items counted,
       counted.all,
       strip_ends_few a.material.now a.sites.now c.requires.can c.requires.opened,
     )
@@ -77,7 +71,7 @@ add_weights-requires-clause-room c =
     let rows = c.in_ok-add_rows.ensures in
     omega (
       arith,
-      ap (λ (ws : List ℤ). weights_size ws) c.deref-3.ensures.value,
+      ap (λ (ws : List ℤ). weights_size ws) c.deref-2.ensures.value,
       rows.size,
       rows.laid.weights,
       few_firsts (length a.sites.now.opened.now) (strip_ends a.material.now a.sites.now) c.add_rows.new.form rows.laid,
@@ -97,7 +91,7 @@ returns-clause-sized c =
     record {
       ends = strip_ends a.material.now a.sites.now;
       rows = laid_rows (length a.sites.now.opened.now) (strip_ends a.material.now a.sites.now) old new list.items rows.laid refl c.add_weights.ensures.len
-          (subst S c.deref-3.ensures.value c.add_weights.ensures.size) (omega (arith, rows.size)) many few rows.ends;
+          (subst S c.deref-2.ensures.value c.add_weights.ensures.size) (omega (arith, rows.size)) many few rows.ends;
       count = rows.count.1;
       small = rows.small;
     }
@@ -124,8 +118,8 @@ returns-clause-built c = λ m move read weighs.
       refl,
       refl,
       c.add_weights.ensures.len,
-      (λ x. c.add_weights.ensures.value x ∙ ap (λ (ys : List ℤ). weights_value old.weights.items x +ℤ weights_value ys x) c.deref-3.ensures.value),
-      subst S c.deref-3.ensures.value c.add_weights.ensures.size,
+      (λ x. c.add_weights.ensures.value x ∙ ap (λ (ys : List ℤ). weights_value old.weights.items x +ℤ weights_value ys x) c.deref-2.ensures.value),
+      subst S c.deref-2.ensures.value c.add_weights.ensures.size,
     ) in
     record {
       stands = rows_stand m move f a.material.now.start.now a.material.now.known.now a.sites.now.from a.sites.now.to a.sites.now.opened.now a.material.now.form.pairs.now a.material.now.form.ends.now n (form_in first) old new list
