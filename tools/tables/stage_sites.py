@@ -23,8 +23,8 @@ label again. A move is made whole in place of its next stage where its stages op
 
 A ring is what is beside the pixels of the ring before and counts as taking the label without being open. The first stage
 opens at most 20, each later one at most 48. A ring is opened only where fewer pixels are listed than twice those that the
-rings lie around, three times those that are open before the rings, and 16 together. A pixel that the rings lie around is
-listed once for each pixel beside it through which it was met.
+rings lie around, those that are open before the rings, and 16 together; of a later stage, three times those that are open.
+A pixel that the rings lie around is listed once for each pixel beside it through which it was met.
 
 In further runs parts of the pixels look by themselves before the first stage. A part's own pixels are as many that
 follow one another; it sees a quarter as many more at each of its ends. It goes by stages as above, from its own fresh pixels
@@ -44,7 +44,8 @@ SITES = SIDE * SIDE
 FIRST_RINGS = 20
 LATER_RINGS = 48
 RING_ROOM = 16
-RING_SHARE = 3
+FIRST_SHARE = 1
+LATER_SHARE = 3
 CHANGED_SHARE = 32
 OPENED_SHARE = 2
 PART_STAGES = 64
@@ -75,10 +76,10 @@ def cut(labels, alpha, known):
     return [site in levels for site in range(SITES)]
 
 
-def open_around(known, around, already, rings, seen=range(SITES)):
-    """Opens at most so many rings around the listed pixels, of those that are seen, where so many are open already."""
+def open_around(known, around, more, rings, seen=range(SITES)):
+    """Opens at most so many rings around the listed pixels, of those that are seen, until about so many more are listed."""
     listed = list(around)
-    most = 2 * len(around) + RING_SHARE * already + RING_ROOM
+    most = 2 * len(around) + more + RING_ROOM
     ring = listed
     for _ in range(rings):
         if len(listed) >= most:
@@ -118,7 +119,7 @@ def open_fresh(known, fresh, seen=range(SITES)):
     new = [site for site in fresh if known[site] == TAKES]
     for site in new:
         known[site] = OPEN
-    open_around(known, new, len(new), FIRST_RINGS, seen)
+    open_around(known, new, FIRST_SHARE * len(new), FIRST_RINGS, seen)
 
 
 def open_next(known, values, part, front, seen=range(SITES)):
@@ -129,7 +130,7 @@ def open_next(known, values, part, front, seen=range(SITES)):
     for site in part + front:
         if site in seen and known[site] == TAKES:
             known[site] = OPEN
-    open_around(known, front, len(part) + len(front), LATER_RINGS, seen)
+    open_around(known, front, LATER_SHARE * (len(part) + len(front)), LATER_RINGS, seen)
 
 
 def look_apart(labels, alpha, known, fresh, seen):

@@ -25,11 +25,13 @@ const FIRST_RINGS: usize = 20;
 /// and few wide stages cost less than many narrow ones.
 const LATER_RINGS: usize = 48;
 
-/// In the rings may be this many sites, and so many for each site that is open without them, and
-/// one for each around which they lie.
+/// In the rings may be this many sites, one for each around which they lie, and so many for each
+/// site that is open without them: in a first stage, which most often closes, fewer than later.
 const RING_ROOM: usize = 16;
 
-const RING_SHARE: usize = 3;
+const FIRST_SHARE: usize = 1;
+
+const LATER_SHARE: usize = 3;
 
 /// So many sites are looked over at once for an open one.
 const BLOCK: usize = 64;
@@ -295,9 +297,9 @@ fn open_rings(
 }
 
 /// With the rings so many sites are listed, where so many lie at the front and so many are open
-/// without the rings.
-fn most_listed(front: usize, open: usize) -> usize {
-    open.saturating_mul(RING_SHARE)
+/// without the rings, by the share of these.
+fn most_listed(front: usize, open: usize, share: usize) -> usize {
+    open.saturating_mul(share)
         .saturating_add(front)
         .saturating_add(front)
         .saturating_add(RING_ROOM)
@@ -358,7 +360,7 @@ impl Stage {
         open_all(choices, &self.front, window);
         let rings = Rings {
             count: FIRST_RINGS,
-            most: most_listed(self.front.len(), self.front.len()),
+            most: most_listed(self.front.len(), self.front.len(), FIRST_SHARE),
         };
         open_rings(pairs, ends, choices, &mut self.front, rings, window)?;
         let all = Window {
@@ -401,7 +403,11 @@ impl Stage {
         open_all(choices, &self.front, window);
         let rings = Rings {
             count: LATER_RINGS,
-            most: most_listed(self.front.len(), self.taking.len() + self.front.len()),
+            most: most_listed(
+                self.front.len(),
+                self.taking.len() + self.front.len(),
+                LATER_SHARE,
+            ),
         };
         open_rings(pairs, ends, choices, &mut self.front, rings, window)?;
         list_open(&mut self.opened, choices, window)
