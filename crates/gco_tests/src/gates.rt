@@ -38,8 +38,9 @@ fn written_of(
     Ok(written)
 }
 
-/// Terms of two variables that are best at 01, which costs 2: at 00 and 11 they cost 3, at 10 they
-/// cost 8. Each second pair is named the other way round.
+/// Terms of two variables that are best at 11, which costs 1: at 00 they cost 2, at 01 they cost 4,
+/// at 10 they cost 7. Neither variable is told without the other, so none is decided before the
+/// cut. Each second pair is named the other way round.
 fn push_terms(alloc: Global, file: &mut String, block: usize) -> Result<(), AllocError> {
     let first = block.saturating_mul(2);
     let second = first.saturating_add(1);
@@ -50,8 +51,8 @@ fn push_terms(alloc: Global, file: &mut String, block: usize) -> Result<(), Allo
     };
     let (from, to) = pair;
     let terms = format!(in alloc;
-        "{{ on = [{first}], values = [0,3] }}, {{ on = [{second}], values = [3,0] }}, \
-         {{ on = [{from},{to}], values = [0,2,2,0] }},\n"
+        "{{ on = [{first}], values = [0,1] }}, {{ on = [{second}], values = [2,0] }}, \
+         {{ on = [{from},{to}], values = [0,4,4,0] }},\n"
     )?;
     file.push_str(terms.as_str())
 }
@@ -116,9 +117,8 @@ const ROWS: &[Row] = &[
 
 /// An energy, and what is written of it.
 fn energy_texts(alloc: Global, blocks: usize) -> Result<(String, String), AllocError> {
-    let least = blocks.saturating_mul(2);
-    let front = format!(in alloc; "minimum {least}\nassignment ")?;
-    let written = written_of(alloc, front.as_str(), "01", blocks)?;
+    let front = format!(in alloc; "minimum {blocks}\nassignment ")?;
+    let written = written_of(alloc, front.as_str(), "11", blocks)?;
     Ok((energy_file(alloc, blocks)?, written))
 }
 

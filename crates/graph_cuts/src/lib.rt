@@ -26,6 +26,7 @@ pub use regular::{Fixed, NotRegular, Regular, check, is_regular_table};
 pub use rounds::{
     BadOptions, ByThreads, Gate, Open, Options, ParallelError, Workers, solve_parallel,
 };
+pub use shared_minimum::minimise_shared;
 pub use vision::{
     Neighbours, Report, RestoreOptions, SegmentOptions, Shape, StereoOptions, VisionError,
     run_restore, run_segment, run_stereo,

@@ -7,7 +7,7 @@ ghost use Rattle.program_tasks.specs.Refusals.{TellsRead};
 ghost use Rattle.program_tasks.specs.Inputs.{OfSomeInput};
 
 use byte_streams::{Source, read_input};
-use cut_ways::How;
+use cut_ways::Sharing;
 use problem_files::read_energy;
 use program_texts::{Answer, Fault, Line, energy_answer};
 use pseudo_bool::Energy;
@@ -15,7 +15,7 @@ use regular::check;
 use std::alloc::Global;
 
 /// The answer to the problem file that the input is. Nothing is said beside it.
-pub fn answer_energy<H: How, R: Source>(
+pub fn answer_energy<H: Sharing, R: Source>(
     alloc: Global,
     how: &H,
     source: &mut R,

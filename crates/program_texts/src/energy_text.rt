@@ -4,19 +4,23 @@ ghost use Rattle.program_texts.specs.Answer.{AnswersEnergy, answer_text, digits_
 ghost use Rattle.program_texts.specs.Faults.{IsCutFault};
 
 use crate::fault::Fault;
-use cut_ways::How;
+use cut_ways::Sharing;
 use itoa::Buffer;
-use minimum::minimise_by;
 use regular::Regular;
+use shared_minimum::minimise_shared;
 use std::alloc::{AllocError, Global};
 
 /// The text of the answer to an energy. Refused where memory runs out, and as the cut is refused.
-pub fn energy_answer<H: How>(alloc: Global, energy: Regular<'_>, how: &H) -> Result<Vec<u8>, Fault>
+pub fn energy_answer<H: Sharing>(
+    alloc: Global,
+    energy: Regular<'_>,
+    how: &H,
+) -> Result<Vec<u8>, Fault>
     requires { H.ready how.now }
     ensures told { IfOk result (λ text. AnswersEnergy energy.entry text.items) }
     ensures refused { IfErr result (IsCutFault (H.refuses how.now)) }
 {
-    match minimise_by(alloc, energy, how) {
+    match minimise_shared(alloc, energy, how) {
         Ok(minimum) => Ok(text_of(alloc, minimum.value, minimum.assignment.as_slice())?),
         Err(error) => Err(Fault::from(error)),
     }
