@@ -15,10 +15,10 @@ use minimum::{Minimum, minimise_by};
 use regular::Regular;
 use std::alloc::Global;
 
-/// The minimum that `minimise_by` answers, found by one move whose work is shared out as `how`
-/// says, where the energy's form is what labels cost: at most `SITE_LIMIT` nodes and `PAIR_LIMIT`
-/// arcs, no weight and no capacity above 10,000,000. Any other energy, and one whose move is
-/// refused, is minimised by one net. Refuses as `minimise_by` does.
+/// The minimum that `minimise_by` answers, found by one move in parts, side by side, where `how`
+/// has parts for a move of so many variables, and the energy's form is what labels cost: at most
+/// `SITE_LIMIT` nodes and `PAIR_LIMIT` arcs, no weight and no capacity above 10,000,000. Any other
+/// energy, and one whose move is refused, is minimised by one net. Refuses as `minimise_by` does.
 pub fn minimise_shared<H: Sharing>(
     alloc: Global,
     energy: Regular<'_>,
@@ -33,6 +33,9 @@ pub fn minimise_shared<H: Sharing>(
     ensures refused { IfErr result (λ e. (e ≡ OutOfMemory) ⊎ H.refuses how.now e) }
 {
     let formula = energy.energy();
+    if how.parts(formula.variables() as usize) < 2 {
+        return minimise_by(alloc, energy, how);
+    }
     let Some(assignment) = least_by_move(alloc, formula, how) else {
         return minimise_by(alloc, energy, how);
     };
