@@ -1,10 +1,17 @@
 //! Costs over all variables of a chain, each paid by a variable of as many terms. The least values
 //! were found by dynamic programming along the chain.
+ghost use Rattle.std.specs.Prelude.{◌≡◌};
+ghost use Rattle.cut_ways.specs.declared.solve_error.SolveError.TheVariants.{OutOfMemory};
+
 use crate::rows::{expect, hold};
-use minimum::minimise;
+use cut_ways::{Alone, How, InOrder, Sharing, SolveError};
+use flow_network::{Net, Solved};
+use minimum::{Minimum, minimise};
 use pseudo_bool::{Energy, EnergyError};
 use regular::check;
+use shared_minimum::minimise_shared;
 use std::alloc::{AllocError, Global};
+use std::sync::atomic::{AtomicUsize, Ordering};
 
 const VARIABLES: u32 = 200;
 
@@ -29,6 +36,40 @@ const CHAINS: &[Chain] = &[
     (8, 150, false, -100, 115),
     (8, 400, false, 0, 0),
 ];
+
+/// As `Alone`, but a move has three parts, and it counts the nets that it is given: a move on one
+/// thread asks for none.
+#[derive(Drop)]
+struct InParts {
+    nets: AtomicUsize,
+}
+
+impl How for InParts {
+    ghost ready = { λ _. Unit {0} };
+
+    ghost refuses = { λ _ e. e ≡ OutOfMemory };
+
+    fn solve(&self, alloc: Global, net: &Net) -> Result<Solved, SolveError> {
+        self.nets.fetch_add(1, Ordering::SeqCst);
+        Alone.solve(alloc, net)
+    }
+}
+
+impl Sharing for InParts {
+    type Fork = InOrder;
+
+    fn parts(&self, _sites: usize) -> usize {
+        3
+    }
+
+    fn is_alone(&self) -> bool {
+        true
+    }
+
+    fn fork(&self) -> InOrder {
+        InOrder
+    }
+}
 
 /// What a variable costs at 1.
 fn own_cost(variable: u32) -> i64 {
@@ -88,9 +129,35 @@ fn is_least(alloc: Global, energy: &mut Energy, names: &[u32], chain: &Chain) ->
         return false;
     };
     match minimise(alloc, regular) {
-        Ok(minimum) => {
-            minimum.value == chain.3 && count_ones(minimum.assignment.as_slice()) == chain.4
-        }
+        Ok(minimum) => is_of_chain(&minimum, chain),
+        Err(_) => false,
+    }
+}
+
+/// Whether this is the minimum of a chain.
+fn is_of_chain(minimum: &Minimum, chain: &Chain) -> bool {
+    minimum.value == chain.3 && count_ones(minimum.assignment.as_slice()) == chain.4
+}
+
+/// Whether a move in parts finds the minimum of a chain, and asks for so many nets.
+fn is_least_in_parts(
+    alloc: Global,
+    energy: &mut Energy,
+    names: &[u32],
+    chain: &Chain,
+    nets: usize,
+) -> bool {
+    let how = InParts {
+        nets: AtomicUsize::new(0),
+    };
+    let Ok(()) = fill(energy, names, chain) else {
+        return false;
+    };
+    let Ok(regular) = check(energy) else {
+        return false;
+    };
+    match minimise_shared(alloc, regular, &how) {
+        Ok(minimum) => is_of_chain(&minimum, chain) && how.nets.load(Ordering::SeqCst) == nets,
         Err(_) => false,
     }
 }
@@ -106,4 +173,30 @@ fn costs_over_many_variables_are_paid(rt: HostRuntime) {
         let right = is_least(alloc, &mut energy, names.as_slice(), chain);
         expect(&rt, place, right);
     }
+}
+
+#[test]
+fn moves_in_parts_find_the_same(rt: HostRuntime) {
+    let alloc = rt.alloc();
+    let mut energy = Energy::new(alloc);
+    let names = names(alloc);
+    hold(&rt, names.is_ok());
+    let names = names.unwrap_or(Vec::new(alloc));
+    for (place, chain) in CHAINS.iter().enumerate() {
+        let right = is_least_in_parts(alloc, &mut energy, names.as_slice(), chain, 0);
+        expect(&rt, place, right);
+    }
+}
+
+/// Neighbours that differ cost more than labels may cost a pair, so a net is asked for.
+#[test]
+fn large_numbers_make_a_net(rt: HostRuntime) {
+    let alloc = rt.alloc();
+    let mut energy = Energy::new(alloc);
+    let names = names(alloc);
+    hold(&rt, names.is_ok());
+    let names = names.unwrap_or(Vec::new(alloc));
+    let chain = (6_000_000, 0, true, -216, 200);
+    let right = is_least_in_parts(alloc, &mut energy, names.as_slice(), &chain, 1);
+    expect(&rt, 0, right);
 }
