@@ -12,8 +12,9 @@ use crate::rows::{expect, hold, take_ok};
 use cost_store::{DataCost, Problem, SMOOTH_LIMIT, SmoothCost, check_table, is_metric};
 use cut_ways::InOrder;
 use flow_network::{Net, Solved};
+use label_energies::Moves;
 use label_field::{Labelling, Pairs};
-use moves::{Alone, How, Sharing, SolveError, run_expansion};
+use moves::{Alone, How, Sharing, SolveError, run};
 use std::alloc::{AllocError, Global};
 use std::process::Abort;
 use std::sync::atomic::{AtomicUsize, Ordering};
@@ -43,10 +44,10 @@ const PIXELS: usize = 4096;
 /// As `Alone`, but it counts the nets that it is given, and their nodes. A later expansion looks by
 /// so many parts, and a whole move has one. No net is too small to come here.
 #[derive(Drop)]
-struct Counting {
-    parts: usize,
-    cuts: AtomicUsize,
-    nodes: AtomicUsize,
+pub struct Counting {
+    pub parts: usize,
+    pub cuts: AtomicUsize,
+    pub nodes: AtomicUsize,
 }
 
 impl How for Counting {
@@ -102,12 +103,13 @@ fn smooth_of(rt: &impl Abort, alloc: Global, unlike: i64) -> Vec<i64>
     table
 }
 
-/// Runs expansions of the picture. It answers whether it was not refused.
-fn expands<H: Sharing>(
+/// Runs moves of a kind on the picture. It answers whether they were not refused.
+fn makes_moves<H: Sharing>(
     alloc: Global,
     pairs: Pairs,
     labelling: &mut Labelling,
     smooth: &[i64],
+    kind: Moves,
     cycles: u32,
     how: &H,
 ) -> bool
@@ -135,14 +137,15 @@ fn expands<H: Sharing>(
             is_metric(smooth, 4),
         ),
     );
-    run_expansion(alloc, &problem, labelling, cycles, how).is_ok()
+    run(alloc, &problem, labelling, kind, cycles, how).is_ok()
 }
 
-/// The labels where a run of expansions of the picture ends that starts from label 0 everywhere;
-/// none where it is refused.
-fn labels_after<H: Sharing>(
+/// The labels where a run of moves of a kind on the picture ends that starts from label 0
+/// everywhere; none where it is refused.
+pub fn labels_after<H: Sharing>(
     rt: &impl Abort,
     alloc: Global,
+    kind: Moves,
     unlike: i64,
     cycles: u32,
     how: &H,
@@ -155,7 +158,15 @@ fn labels_after<H: Sharing>(
     hold(rt, pairs.sites() == 4096);
     hold(rt, labelling.sites() == 4096);
     hold(rt, labelling.labels() == 4);
-    if !expands(alloc, pairs, &mut labelling, smooth.as_slice(), cycles, how) {
+    if !makes_moves(
+        alloc,
+        pairs,
+        &mut labelling,
+        smooth.as_slice(),
+        kind,
+        cycles,
+        how,
+    ) {
         return None;
     }
     Some(take_ok(rt, Vec::from_slice(alloc, labelling.as_slice())))
@@ -168,7 +179,7 @@ fn has_cuts(rt: &impl Abort, alloc: Global, run: &Run) -> bool {
         cuts: AtomicUsize::new(0),
         nodes: AtomicUsize::new(0),
     };
-    labels_after(rt, alloc, run.1, run.2, &counting).is_some()
+    labels_after(rt, alloc, Moves::Expansion, run.1, run.2, &counting).is_some()
         && counting.cuts.load(Ordering::SeqCst) == run.3
         && counting.nodes.load(Ordering::SeqCst) == run.4
 }
@@ -183,8 +194,8 @@ fn later_expansions_open_few_sites(rt: HostRuntime) {
 #[test]
 fn later_expansions_end_as_whole_ones(rt: HostRuntime) {
     for (place, unlike) in UNLIKE.iter().enumerate() {
-        let near = labels_after(&rt, rt.alloc(), *unlike, 4, &Alone);
-        let whole = labels_after(&rt, rt.alloc(), *unlike, 4, &CutAlone);
+        let near = labels_after(&rt, rt.alloc(), Moves::Expansion, *unlike, 4, &Alone);
+        let whole = labels_after(&rt, rt.alloc(), Moves::Expansion, *unlike, 4, &CutAlone);
         expect(&rt, place, near.is_some() && near == whole);
     }
 }

@@ -1,9 +1,10 @@
 //! Tests of moves between labellings, as tables: by hand, and small random ones and runs with what
 //! scripts answer that try every labelling, without label costs and with them, and the bounds of
 //! runs; how many sites deciding leaves open on a picture, and how many the cuts of a run have
-//! whose later expansions look near the changes; listed moves of which few sites, none or all are
-//! left open; moves over pairs with costs of their own; moves that are closed in by parts; runs
-//! that are made step by step, and may be left after each; and tables of costs that threads fill.
+//! whose later expansions or swaps look near the changes; listed moves of which few sites, none or
+//! all are left open; moves over pairs with costs of their own; moves that are closed in by parts;
+//! runs that are made step by step, and may be left after each; and tables of costs that threads
+//! fill.
 #![tactic(auto)]
 
 #[cfg(test)]
@@ -20,6 +21,8 @@ mod few_open;
 mod filling;
 #[cfg(test)]
 mod later;
+#[cfg(test)]
+mod later_swaps;
 #[cfg(test)]
 mod listed;
 #[cfg(test)]

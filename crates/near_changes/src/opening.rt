@@ -357,6 +357,30 @@ impl Stage {
     {
         pairs.keeps();
         list_new(&mut self.front, choices, &self.fresh_sites)?;
+        self.open_front(choices, pairs, ends, window)
+    }
+
+    /// Opens the sites of `front` that were not looked at, and rings around them, of those of a
+    /// window. `opened` lists all that are open.
+    pub fn open_front(
+        &mut self,
+        choices: &mut Vec<Choice>,
+        pairs: &Pairs,
+        ends: &Neighbours,
+        window: Window,
+    ) -> Result<(), AllocError>
+        requires by_site { AreBySite pairs.now ends.now }
+        requires sites { length choices.old.items ≡ pairs.now.sites }
+        requires inside { All (λ p. p < pairs.now.sites) self.old.front.items }
+        ensures zeros { OnOk result (KeepsZeros choices.old.items choices.new.items) }
+        ensures looked { OnOk result
+            ((p : ℕ) → WasLookedAt choices.old.items p → WasLookedAt choices.new.items p) }
+        ensures front { OnOk result (AreLookedAt window self.old.front.items choices.new.items) }
+        ensures opened { OnOk result (AreOpenSites choices.new.items self.new.opened.items) }
+        ensures same { (self.new.fresh ≡ self.old.fresh)
+            × (self.new.fresh_sites ≡ self.old.fresh_sites) }
+    {
+        pairs.keeps();
         open_all(choices, &self.front, window);
         let rings = Rings {
             count: FIRST_RINGS,

@@ -139,6 +139,30 @@ fn leave_strip<F: Fn(u32, u32) -> i64 + Sync, V: Fn(u32, u32) -> i64 + Sync>(
     Ok(left)
 }
 
+/// How many sites a move can change.
+fn count_changing(at: &[u8], change: Move) -> usize {
+    let mut count = 0usize;
+    for site in 0..at.len() {
+        if change.can_change(u32::from(at[site])) {
+            count += 1;
+        }
+    }
+    count
+}
+
+/// In how many parts a move is closed in at first. The way to cut says it of all sites, and of
+/// those that a swap can change: these may be few.
+fn part_count<H: Sharing>(how: &H, at: &[u8], change: Move) -> usize {
+    let parts = how.parts(at.len());
+    if parts < 2 {
+        return parts;
+    }
+    match change {
+        Move::Expand(_) => parts,
+        Move::Swap(_, _) => how.parts(count_changing(at, change)),
+    }
+}
+
 /// Decides and closes in the sites of a move by parts, side by side, where the way to cut asks for
 /// parts. It answers whether it did.
 fn close_apart<F: Fn(u32, u32) -> i64 + Sync, V: Fn(u32, u32) -> i64 + Sync, H: Sharing>(
@@ -160,7 +184,7 @@ fn close_apart<F: Fn(u32, u32) -> i64 + Sync, V: Fn(u32, u32) -> i64 + Sync, H: 
     ensures refused { WhereMeant F.Fn V.Fn problem.now (λ m.
         IfErr result (IsPrepareRefusal m change (labelling at.now))) }
 {
-    let parts = how.parts(at.len()).min(at.len());
+    let parts = part_count(how, at, change).min(at.len());
     if parts < 2 {
         return Ok(false);
     }

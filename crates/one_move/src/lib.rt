@@ -15,5 +15,5 @@ mod workspace;
 
 pub use error::MoveError;
 pub use move_by_cut::{cut_small, least_nodes, make_move};
-pub use taking::relabel_site;
+pub use taking::{relabel_site, take_best};
 pub use workspace::Workspace;

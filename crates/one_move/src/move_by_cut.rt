@@ -10,7 +10,8 @@ ghost use Rattle.one_move.specs.Prelude.{AreOfOneSize, IsSmallestLeast, Expand, 
 ghost use Rattle.one_move.specs.Prelude.{site_values, HasTaken, costs_of as costs_in};
 ghost use Rattle.one_move.specs.Prelude.{AreCostly};
 ghost use Rattle.one_move.specs.Prelude.{IsSwap, IsFreeFor, IsMade, IsMoved, IsCutRefusal};
-ghost use Rattle.one_move.specs.Prelude.{IsMoveRefusal, TellsPair};
+ghost use Rattle.one_move.specs.Prelude.{IsMoveRefusal, TellsPair, made_value};
+ghost use Rattle.one_move.specs.Prelude.{labelling as labelling_of};
 
 use crate::MoveError;
 use crate::building::build_move;
@@ -105,7 +106,8 @@ pub fn cut_small<H: Sharing>(
 /// `LabelCostInSwap` where a swap is asked for and some label costs something by itself;
 /// `PairNotRegular`, the first pair of the list whose term is not regular; what `how` refuses.
 /// `OutOfMemory` may come at any growth. A refused move leaves the labels as they were. The
-/// workspace is of one problem: its pairs, once they are grouped, are that problem's.
+/// workspace is of one problem: its pairs, once they are grouped, are that problem's. It has the
+/// least values of the sites with the fewest ones afterwards.
 pub fn make_move<F: Fn(u32, u32) -> i64 + Sync, V: Fn(u32, u32) -> i64 + Sync, H: Sharing>(
     alloc: Global,
     problem: &Problem<F, V>,
@@ -127,6 +129,9 @@ pub fn make_move<F: Fn(u32, u32) -> i64 + Sync, V: Fn(u32, u32) -> i64 + Sync, H
     ensures taken { IfOk result (λ _. (a : ℕ) → change ≡ Expand a →
         HasTaken a (site_values space.new.built.variables.choices.items)
         labelling.old.at labelling.new.at) }
+    ensures values { WhereMeant F.Fn V.Fn problem.now (λ m. IfOk result (λ _.
+        IsSmallestLeast m.sites (made_value m change (labelling_of labelling.old.at))
+        (site_values space.new.built.variables.choices.items))) }
     ensures unchanged { OnErr result (labelling.new ≡ labelling.old) }
     ensures refused { IfErr result (IsMoveRefusal (H.refuses how.now) labelling.old.labels change) }
 {

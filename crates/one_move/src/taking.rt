@@ -19,7 +19,7 @@ use move_energy::Choice;
 /// Takes the labels that the least values of the sites with the fewest ones make. Where no labels
 /// are better, an expansion makes the labels as they are; a swap need not, so it takes them only
 /// where their energy is lower.
-pub(crate) fn take_best<F: Fn(u32, u32) -> i64 + Sync, V: Fn(u32, u32) -> i64 + Sync>(
+pub fn take_best<F: Fn(u32, u32) -> i64 + Sync, V: Fn(u32, u32) -> i64 + Sync>(
     problem: &Problem<F, V>,
     field: &mut Labelling,
     change: Move,

@@ -4,3 +4,4 @@ pub mod Courses
 pub mod UnderWay
 pub mod Stages
 pub mod Asked
+pub mod Swaps

@@ -6,7 +6,7 @@ use Rattle.cost_store.specs.declared.problem.Problem.{Problem}
 use Rattle.cost_store.specs.Posed.{Closure, IsMeant}
 use Rattle.label_energies.specs.declared.change.Move.{Move}
 use Rattle.label_energies.specs.declared.cycles.Moves.{Moves}
-use Rattle.label_energies.specs.Energies.{Instance}
+use Rattle.label_energies.specs.Energies.{Instance, labelling}
 use Rattle.label_energies.specs.Chains.{IsBeginning, moves_of}
 use Rattle.one_move.specs.Building.{TellsChange}
 use Rattle.one_move.specs.Moved.{IsCauseOfRefusal}
@@ -19,7 +19,8 @@ use Rattle.run_steps.specs.declared.under_way.RunUnderWay.{RunUnderWay}
 use Rattle.run_steps.specs.Problems.{IsRunOfCycles}
 use Rattle.run_steps.specs.Courses.{IsBetweenMoves, StandsOnCourse, LeadsBest, cycle_of, moves_made}
 use Rattle.run_steps.proofs.Courses.{beginning_at, has_come}
-use Rattle.run_steps.specs.Stages.{IsUnderWay, AreStampsOf}
+use Rattle.run_steps.specs.Stages.{IsUnderWay}
+use Rattle.run_steps.specs.Swaps.{AreMovesStamped}
 use Rattle.run_steps.specs.Bookmarks.{IsWorkingOn, IsRunOver, IsRunIn, LeadMoves}
 use Rattle.run_steps.specs.UnderWay.{IsRunFrom, IsStepOf, ended_of}
 
@@ -107,7 +108,7 @@ stands_too m kind cycles start at new was course is kept stands =
 
 -- a run at labels where it stands in its chain
 pub run_from : {F V : Type 0} (f : Closure F) (v : Closure V) (problem : Problem F V) (kind : Moves) (cycles : ℕ) (start : List ℕ) (field : LabelField)
-    (run : RunUnderWay) → IsUnderWay f v problem field run.space run.changes → run.course.moves ≡ kind → run.course.labels ≡ problem.data_cost.labels
+    (run : RunUnderWay) → IsUnderWay f v problem field run.space run.changes run.swaps → run.course.moves ≡ kind → run.course.labels ≡ problem.data_cost.labels
     → run.course.allowed ≡ cycles
     → ((m : Instance) → IsMeant f v problem m → StandsOnCourse m (moves_of kind m.labels) cycles run.course start field.at run.course.ended)
     → IsRunFrom f v problem kind cycles start field run
@@ -129,15 +130,16 @@ run_from {F} {V} f v problem kind cycles start field run under_way kinds labels 
 
 -- a run is what it works with, what it remembers and where it stands
 pub run_kept : {F V : Type 0} (f : Closure F) (v : Closure V) (problem : Problem F V) (kind : Moves) (cycles : ℕ) (start : List ℕ) (field : LabelField)
-    (old new : RunUnderWay) → new.space ≡ old.space → new.changes ≡ old.changes → new.course ≡ old.course
+    (old new : RunUnderWay) → new.space ≡ old.space → new.changes ≡ old.changes → new.swaps ≡ old.swaps → new.course ≡ old.course
     → IsRunFrom f v problem kind cycles start field old → IsRunFrom f v problem kind cycles start field new
-run_kept {F} {V} f v problem kind cycles start field old new space changes course run =
-    let S : Workspace → Type 0 = λ s. IsUnderWay f v problem field s old.changes in
-    let C : Changes → Type 0 = λ c. IsUnderWay f v problem field new.space c in
+run_kept {F} {V} f v problem kind cycles start field old new space changes swaps course run =
+    let S : Workspace → Type 0 = λ s. IsUnderWay f v problem field s old.changes old.swaps in
+    let C : Changes → Type 0 = λ c. IsUnderWay f v problem field new.space c old.swaps in
+    let W : Changes → Type 0 = λ c. IsUnderWay f v problem field new.space new.changes c in
     let K : Course → Type 0 = λ c. c.moves ≡ kind in
     let L : Course → Type 0 = λ c. c.labels ≡ problem.data_cost.labels in
     let A : Course → Type 0 = λ c. c.allowed ≡ cycles in
-    run_from f v problem kind cycles start field new (subst C (sym changes) (subst S (sym space) run.under_way)) (subst K (sym course) run.kind_is)
+    run_from f v problem kind cycles start field new (subst W (sym swaps) (subst C (sym changes) (subst S (sym space) run.under_way))) (subst K (sym course) run.kind_is)
     (subst L (sym course) run.labels_are) (subst A (sym course) run.allowed_is)
     (λ m meant. (let P : Course → Type 0 = λ c. StandsOnCourse m (moves_of kind m.labels) cycles c start field.at c.ended in subst P (sym course) (run.stands m meant)))
 
@@ -160,9 +162,10 @@ run_in_of {F} {V} f v problem kind cycles start field run from m meant = record 
 }
 
 -- what works at labels and remembers what is true of them is under way
-pub under_way_of : {F V : Type 0} (f : Closure F) (v : Closure V) (problem : Problem F V) (field : LabelField) (space : Workspace) (changes : Changes)
-    → IsWorkingOn f v problem field space → AreStampsOf f v problem field changes → IsUnderWay f v problem field space changes
-under_way_of {F} {V} f v problem field space changes working stamped = record {
+pub under_way_of : {F V : Type 0} (f : Closure F) (v : Closure V) (problem : Problem F V) (field : LabelField) (space : Workspace) (changes swaps : Changes)
+    → IsWorkingOn f v problem field space → ((m : Instance) → IsMeant f v problem m → AreMovesStamped m (labelling field.at) changes swaps)
+    → IsUnderWay f v problem field space changes swaps
+under_way_of {F} {V} f v problem field space changes swaps working stamped = record {
   posed = working.posed;
   fits = working.fits;
   of_problem = working.of_problem;

@@ -9,7 +9,6 @@ use Rattle.label_energies.specs.declared.cycles.Moves.{Moves}
 use Rattle.label_energies.specs.declared.cycles.Moves.TheVariants.{Swap as Swaps}
 use Rattle.label_energies.specs.Energies.{Instance, labelling}
 use Rattle.label_energies.specs.Chains.{Cycles, moves_of}
-use Rattle.near_changes.specs.Changes.{AreStamped}
 use Rattle.near_changes.specs.Fresh.{WasExpanded}
 use Rattle.near_changes.specs.Looking.{changed_since}
 use Rattle.one_move.specs.Building.{IsOfProblem}
@@ -21,6 +20,7 @@ use Rattle.run_steps.specs.declared.under_way.RunUnderWay.{RunUnderWay}
 use Rattle.run_steps.specs.Courses.{StandsOnCourse, moves_before}
 use Rattle.run_steps.specs.Cycles.{IsSoFar}
 use Rattle.run_steps.specs.Problems.{IsRunOfCycles}
+use Rattle.run_steps.specs.Swaps.{AreMovesStamped}
 
 -- a run of these moves from f goes on from g: so many whole cycles, each of which changed
 -- something, lead from f to where another began, and that one has come to a place, at g
@@ -90,7 +90,7 @@ pub record IsRunIn (m : Instance) (kind : Moves) (cycles : ℕ) (start labels : 
   pub allowed_is : run.course.allowed ≡ cycles
   pub stands : StandsOnCourse m (moves_of kind m.labels) cycles run.course start labels
       run.course.ended
-  pub stamped : AreStamped m (labelling labels) run.changes
+  pub stamped : AreMovesStamped m (labelling labels) run.changes run.swaps
 
 -- what moves of a run come to: it is under way at the new labels, and a refusal is that of the
 -- chain's next move

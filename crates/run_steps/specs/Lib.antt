@@ -4,4 +4,5 @@ pub mod Courses
 pub mod UnderWay
 pub mod Bookmarks
 pub mod Stages
+pub mod Swaps
 pub mod Prelude

@@ -4,7 +4,8 @@ pub use Rattle.cost_store.specs.Posed.{IsPosed, WhereMeant, AreOfOneSize, FitsPr
 pub use Rattle.label_energies.specs.Chains.{moves_of}
 pub use Rattle.label_energies.specs.Energies.{labelling, Instance}
 pub use Rattle.label_energies.specs.Moves.{IsBest}
-pub use Rattle.label_energies.specs.declared.change.Move.TheVariants.{Expand}
+pub use Rattle.label_energies.specs.declared.change.Move.TheVariants.{Expand, Swap}
+pub use Rattle.label_field.specs.Limits.{label_limit}
 pub use Rattle.move_energy.specs.Choices.{choice_at, value_of, open_count, IsNumbering}
 pub use Rattle.move_energy.specs.Choices.{AreOpenSites}
 pub use Rattle.move_energy.specs.OpenMoves.{IsAllowedFrom}
@@ -25,3 +26,8 @@ pub use Rattle.near_changes.specs.Changes.{made_of, changed_after, AreStamped}
 pub use Rattle.near_changes.specs.Fresh.{WasExpanded}
 pub use Rattle.near_changes.specs.Looking.{is_marked, AreTaking, IsClosedIn, AreFreshSites}
 pub use Rattle.strip_nets.specs.Looking.{IsStageLeast}
+pub use Rattle.near_swaps.specs.Swaps.{kept_values, IsSettled}
+pub use Rattle.one_move.specs.Building.{made_value, HasFormOf, AreChangesListed}
+pub use Rattle.run_steps.specs.Swaps.{place_of_swap, AreSwapsStamped, AreMovesStamped}
+pub use Rattle.run_steps.specs.Swaps.{IsSwapFound, IsLaterSwap}
+pub use Rattle.site_bounds.specs.Decisions.{IsSmallestLeast}

@@ -28,6 +28,7 @@ use Rattle.one_move.specs.declared.error.MoveError.TheVariants.{OutOfMemory}
 use Rattle.one_move.specs.declared.workspace.Workspace.{Workspace}
 use Rattle.one_move.specs.Building.{IsOfProblem, KeepsDecided}
 use Rattle.one_move.specs.Moved.{IsMoved}
+use Rattle.run_steps.specs.Swaps.{AreMovesStamped}
 
 -- a stage can be cut: its choices are of the sites, its open sites and its fresh sites are listed,
 -- and the pairs are by their sites
@@ -107,8 +108,9 @@ AreStampsOf {F} {V} f v problem field changes =
 -- a run is under way: its labels and its workspace are of a posed problem, and what is remembered
 -- is true of the labels
 pub record IsUnderWay {F V : Type 0} (f : Closure F) (v : Closure V) (problem : Problem F V)
-    (field : LabelField) (space : Workspace) (changes : Changes) : Type 0 where
+    (field : LabelField) (space : Workspace) (changes swaps : Changes) : Type 0 where
   pub posed : IsPosed f v problem
   pub fits : FitsProblem problem field
   pub of_problem : IsOfProblem f v problem space
-  pub stamped : AreStampsOf f v problem field changes
+  pub stamped : WhereMeant f v problem
+      (λ m. AreMovesStamped m (labelling field.at) changes swaps)

@@ -42,7 +42,7 @@ pub record IsRunFrom {F V : Type 0} (f : Closure F) (v : Closure V) (problem : P
     (run : RunUnderWay) : Type 0 where
   pub come : WhereMeant f v problem (λ m. HasComeTo m (moves_of kind m.labels) cycles
       start field.at (cycles_of run) (ended_of run))
-  pub under_way : IsUnderWay f v problem field run.space run.changes
+  pub under_way : IsUnderWay f v problem field run.space run.changes run.swaps
   pub kind_is : run.course.moves ≡ kind
   pub labels_are : run.course.labels ≡ problem.data_cost.labels
   pub allowed_is : run.course.allowed ≡ cycles

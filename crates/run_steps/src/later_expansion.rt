@@ -35,7 +35,7 @@ const STAGE_LIMIT: u32 = 64;
 const OPENED_SHARE: usize = 2;
 
 /// Whether less than one in so many sites changed since a move and has not the label.
-fn are_few(stamps: &[u32], since: u32, at: &[u8], alpha: u32) -> bool
+pub(crate) fn are_few(stamps: &[u32], since: u32, at: &[u8], alpha: u32) -> bool
     requires count { length stamps.now ≡ length at.now }
 {
     let mut changed = 0usize;

@@ -51,6 +51,7 @@ impl RunUnderWay {
                 made: bookmark.made,
                 count: bookmark.mark.noted,
             },
+            swaps: Changes::none(alloc),
             before: Vec::new(alloc),
             course,
         })

@@ -1,13 +1,17 @@
-//! The moves of a run, which remembers its expansions.
+//! The moves of a run, which remembers them.
 ghost use Rattle.std.specs.Prelude.{◌≡◌, ℕ, List, length, IfErr, OnErr};
 ghost use Rattle.run_steps.specs.Prelude.{Expand, labelling as labelling_of, IsBest};
 ghost use Rattle.run_steps.specs.Prelude.{costs_of as costs_in, AreFree, WhereMeant, FitsProblem};
 ghost use Rattle.run_steps.specs.Prelude.{AreOfOneSize, AreStamped, is_marked, AreTaking};
 ghost use Rattle.run_steps.specs.Prelude.{site_values, IsMoved, IsMoveRefusal, HasTaken};
 ghost use Rattle.run_steps.specs.Prelude.{IsWorkingOn};
-ghost use Rattle.run_steps.specs.Prelude.{AreStampsOf};
+ghost use Rattle.run_steps.specs.Prelude.{AreStampsOf, AreMovesStamped, AreSwapsStamped, Swap};
+ghost use Rattle.run_steps.specs.Prelude.{label_limit};
+ghost use Rattle.std.specs.Prelude.{◌<◌};
 
 use crate::later_expansion::make_later;
+use crate::later_swap::swap_labels;
+use crate::swap_memory::note_swap;
 use crate::under_way::RunUnderWay;
 use crate::{MoveError, Sharing};
 use cost_store::{Problem, costs_of, has_cost};
@@ -79,8 +83,9 @@ fn note_later<F: Fn(u32, u32) -> i64 + Sync, V: Fn(u32, u32) -> i64 + Sync>(
 }
 
 impl RunUnderWay {
-    /// The next move of a run, where its labels are those of the last. Of swaps nothing is
-    /// remembered. It is the chain's where what is remembered is true of the labels before.
+    /// The next move of a run, where its labels are those of the last. It is the chain's where what
+    /// is remembered is true of the labels before. What is remembered of moves of the one kind is
+    /// forgotten at one of the other.
     pub(crate) fn make_next<
         F: Fn(u32, u32) -> i64 + Sync,
         V: Fn(u32, u32) -> i64 + Sync,
@@ -96,23 +101,26 @@ impl RunUnderWay {
         requires working { IsWorkingOn F.Fn V.Fn problem.now labelling.old self.old.space }
         ensures working { IsWorkingOn F.Fn V.Fn problem.now labelling.new self.new.space }
         ensures stamped { WhereMeant F.Fn V.Fn problem.now
-            (λ m. AreStamped m (labelling_of labelling.old.at) self.old.changes →
-            AreStamped m (labelling_of labelling.new.at) self.new.changes) }
+            (λ m. AreMovesStamped m (labelling_of labelling.old.at) self.old.changes
+            self.old.swaps → AreMovesStamped m (labelling_of labelling.new.at)
+            self.new.changes self.new.swaps) }
         ensures same { (self.new.course ≡ self.old.course) × (self.new.before ≡ self.old.before) }
         ensures sizes { AreOfOneSize labelling.old labelling.new }
         ensures moved { WhereMeant F.Fn V.Fn problem.now
-            (λ m. AreStamped m (labelling_of labelling.old.at) self.old.changes →
-            IsMoved m change labelling.old.at labelling.new.at result) }
+            (λ m. AreMovesStamped m (labelling_of labelling.old.at) self.old.changes
+            self.old.swaps → IsMoved m change labelling.old.at labelling.new.at result) }
         ensures unchanged { OnErr result (labelling.new ≡ labelling.old) }
         ensures refused { IfErr result
             (IsMoveRefusal (H.refuses how.now) labelling.old.labels change) }
     {
         match change {
-            Move::Expand(alpha) => self.make_expansion(problem, labelling, alpha, how),
-            Move::Swap(_, _) => {
-                let alloc = *self.changes.stamps.allocator();
+            Move::Expand(alpha) => {
+                self.swaps.forget();
+                self.make_expansion(problem, labelling, alpha, how)
+            }
+            Move::Swap(alpha, beta) => {
                 self.changes.forget();
-                make_move(alloc, problem, &mut self.space, labelling, change, how)
+                self.make_swap(problem, labelling, alpha, beta, how)
             }
         }
     }
@@ -132,7 +140,8 @@ impl RunUnderWay {
         ensures stamped { WhereMeant F.Fn V.Fn problem.now
             (λ m. AreStamped m (labelling_of labelling.old.at) self.old.changes →
             AreStamped m (labelling_of labelling.new.at) self.new.changes) }
-        ensures same { (self.new.course ≡ self.old.course) × (self.new.before ≡ self.old.before) }
+        ensures same { (self.new.course ≡ self.old.course) × (self.new.before ≡ self.old.before)
+            × (self.new.swaps ≡ self.old.swaps) }
         ensures sizes { AreOfOneSize labelling.old labelling.new }
         ensures moved { WhereMeant F.Fn V.Fn problem.now
             (λ m. AreStamped m (labelling_of labelling.old.at) self.old.changes →
@@ -163,5 +172,92 @@ impl RunUnderWay {
             &self.space.built.variables.choices,
         );
         Ok(changed)
+    }
+
+    /// A swap of a run that remembers its swaps, near what changed since the last of its labels
+    /// where that is known, and else whole. `before` are the labels.
+    fn make_noted_swap<F: Fn(u32, u32) -> i64 + Sync, V: Fn(u32, u32) -> i64 + Sync, H: Sharing>(
+        &mut self,
+        problem: &Problem<F, V>,
+        labelling: &mut Labelling,
+        alpha: u32,
+        beta: u32,
+        how: &H,
+        before: &[u8],
+    ) -> Result<bool, MoveError>
+        requires ready { H.ready how.now }
+        requires working { IsWorkingOn F.Fn V.Fn problem.now labelling.old self.old.space }
+        requires before { before.now ≡ labelling.old.at }
+        requires labels { (alpha < label_limit) × (beta < label_limit) }
+        ensures working { IsWorkingOn F.Fn V.Fn problem.now labelling.new self.new.space }
+        ensures stamped { WhereMeant F.Fn V.Fn problem.now
+            (λ m. AreSwapsStamped m (labelling_of labelling.old.at) self.old.swaps →
+            AreSwapsStamped m (labelling_of labelling.new.at) self.new.swaps) }
+        ensures same { (self.new.course ≡ self.old.course) × (self.new.before ≡ self.old.before)
+            × (self.new.changes ≡ self.old.changes) }
+        ensures sizes { AreOfOneSize labelling.old labelling.new }
+        ensures moved { WhereMeant F.Fn V.Fn problem.now
+            (λ m. AreSwapsStamped m (labelling_of labelling.old.at) self.old.swaps →
+            IsMoved m (Swap alpha beta) labelling.old.at labelling.new.at result) }
+        ensures unchanged { OnErr result (labelling.new ≡ labelling.old) }
+        ensures refused { IfErr result
+            (IsMoveRefusal (H.refuses how.now) labelling.old.labels (Swap alpha beta)) }
+    {
+        let changed = swap_labels(
+            problem,
+            &mut self.space,
+            labelling,
+            alpha,
+            beta,
+            &self.swaps,
+            how,
+        )?;
+        note_swap(
+            &mut self.swaps,
+            alpha,
+            beta,
+            before,
+            labelling.as_slice(),
+            &self.space.built.variables.choices,
+            changed,
+        );
+        Ok(changed)
+    }
+
+    /// A swap of a run.
+    fn make_swap<F: Fn(u32, u32) -> i64 + Sync, V: Fn(u32, u32) -> i64 + Sync, H: Sharing>(
+        &mut self,
+        problem: &Problem<F, V>,
+        labelling: &mut Labelling,
+        alpha: u32,
+        beta: u32,
+        how: &H,
+    ) -> Result<bool, MoveError>
+        requires ready { H.ready how.now }
+        requires working { IsWorkingOn F.Fn V.Fn problem.now labelling.old self.old.space }
+        ensures working { IsWorkingOn F.Fn V.Fn problem.now labelling.new self.new.space }
+        ensures stamped { WhereMeant F.Fn V.Fn problem.now
+            (λ m. AreSwapsStamped m (labelling_of labelling.old.at) self.old.swaps →
+            AreSwapsStamped m (labelling_of labelling.new.at) self.new.swaps) }
+        ensures same { (self.new.course ≡ self.old.course) × (self.new.before ≡ self.old.before)
+            × (self.new.changes ≡ self.old.changes) }
+        ensures sizes { AreOfOneSize labelling.old labelling.new }
+        ensures moved { WhereMeant F.Fn V.Fn problem.now
+            (λ m. AreSwapsStamped m (labelling_of labelling.old.at) self.old.swaps →
+            IsMoved m (Swap alpha beta) labelling.old.at labelling.new.at result) }
+        ensures unchanged { OnErr result (labelling.new ≡ labelling.old) }
+        ensures refused { IfErr result
+            (IsMoveRefusal (H.refuses how.now) labelling.old.labels (Swap alpha beta)) }
+    {
+        let alloc = *self.swaps.stamps.allocator();
+        let labels = labelling.labels();
+        if alpha < labels && beta < labels && !self.swaps.made.is_empty() {
+            if let Ok(before) = Vec::from_slice(alloc, labelling.as_slice()) {
+                return self.make_noted_swap(problem, labelling, alpha, beta, how, &before);
+            }
+        }
+        self.swaps.forget();
+        let change = Move::Swap(alpha, beta);
+        make_move(alloc, problem, &mut self.space, labelling, change, how)
     }
 }

@@ -10,11 +10,13 @@ ghost use Rattle.run_steps.specs.Prelude.{IsRunFrom, IsSomeRun, IsStepOf, TellsS
 ghost use Rattle.run_steps.specs.Prelude.{IsAhead};
 ghost use Rattle.run_steps.specs.Prelude.{ended_of, cycles_of, left_of, moves_made_by};
 ghost use Rattle.run_steps.specs.Prelude.{labels_changed};
-ghost use Rattle.run_steps.specs.Prelude.{IsRunOver, IsRunIn, IsStepIn, AreStamped};
+ghost use Rattle.run_steps.specs.Prelude.{IsRunOver, IsRunIn, IsStepIn};
 ghost use Rattle.run_steps.specs.Prelude.{labelling as labelling_of, moves_of, LeadMoves};
+ghost use Rattle.run_steps.specs.Prelude.{AreMovesStamped};
 
 use crate::course::{Course, Ended};
 use crate::run_moves::begin_changes;
+use crate::swap_memory::begin_swaps;
 use crate::{MoveError, Sharing};
 use cost_store::Problem;
 use label_energies::{Move, Moves};
@@ -30,6 +32,7 @@ use std::alloc::{AllocError, Global};
 pub struct RunUnderWay {
     pub(crate) space: Workspace,
     pub(crate) changes: Changes,
+    pub(crate) swaps: Changes,
     pub(crate) before: Vec<u8>,
     pub(crate) course: Course,
 }
@@ -63,6 +66,7 @@ impl RunUnderWay {
         RunUnderWay {
             space: Workspace::new(alloc),
             changes: begin_changes(alloc, problem, labelling, moves, cycles),
+            swaps: begin_swaps(alloc, problem, labelling, moves, cycles),
             before: Vec::new(alloc),
             course: Course::begin(moves, labelling.labels(), cycles),
         }
@@ -162,7 +166,7 @@ impl RunUnderWay {
     fn remember(&mut self, labelling: &Labelling) -> Result<(), AllocError>
         ensures before { OnOk result (self.new.before.items ≡ labelling.now.at) }
         ensures same { (self.new.space ≡ self.old.space) × (self.new.changes ≡ self.old.changes)
-            × (self.new.course ≡ self.old.course) }
+            × (self.new.swaps ≡ self.old.swaps) × (self.new.course ≡ self.old.course) }
     {
         self.before.clear();
         self.before.extend_from_slice(labelling.as_slice())
@@ -187,8 +191,9 @@ impl RunUnderWay {
             IsRunIn m kind cycles start labelling.old.at self.old →
             IsStepIn m kind cycles start labelling.new.at self.new result) }
         ensures best { WhereMeant F.Fn V.Fn problem.now
-            (λ m. AreStamped m (labelling_of labelling.old.at) self.old.changes →
-            OnOk result ((change : Change) → IsAhead self.old self.old.course.done change
+            (λ m. AreMovesStamped m (labelling_of labelling.old.at) self.old.changes
+            self.old.swaps → OnOk result ((change : Change) →
+            IsAhead self.old self.old.course.done change
             → LeadsBest m change labelling.old.at labelling.new.at)) }
         ensures left { OnOk result (left_of self.new < left_of self.old) }
         ensures made { OnOk result

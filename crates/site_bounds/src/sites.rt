@@ -28,8 +28,8 @@ pub struct Deciding {
     pub bounds: Bounds,
     pub lists: Lists,
     pub numbers: FormLists,
-    /// The sites that a swap can change, 4 bytes each.
-    swapped: Vec<u32>,
+    /// The sites that the last swap can change, in rising order.
+    pub swapped: Vec<u32>,
 }
 
 /// Opens the sites that a move can change. Those of a swap, which can be few, are listed.
@@ -212,7 +212,7 @@ impl Deciding {
     }
 
     /// Opens the sites of a move, and reads the costs by which threads decide them into `numbers`.
-    /// Refused as `decide` is.
+    /// Those of a swap are listed in `swapped`. Refused as `decide` is.
     pub fn open<F: Fn(u32, u32) -> i64 + Sync, V: Fn(u32, u32) -> i64 + Sync>(
         &mut self,
         problem: &Problem<F, V>,
@@ -226,6 +226,8 @@ impl Deciding {
         ensures costs { KnowsCosts F.Fn V.Fn problem.now self.new.numbers }
         ensures listed { self.new.lists.listed ≡ false }
         ensures opened { OnOk result (AreAllOpen change at.now self.new.bounds.choices.items) }
+        ensures swapped { OnOk result (IsSwap change →
+            AreOpenSites self.new.bounds.choices.items self.new.swapped.items) }
         ensures lists { OnOk result
             (AreFormLists problem.now.pairs self.new.ends at.now self.new.numbers) }
         ensures read { WhereMeant F.Fn V.Fn problem.now (λ m. OnOk result

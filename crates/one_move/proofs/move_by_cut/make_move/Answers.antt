@@ -38,10 +38,8 @@ returns-in_err-bits-clause-moved g c = λ m meant.
           (taken_free m c.args.change c.args.problem.now.label_costs meant.costs_are (c.is_taken.ensures.taken c.if-not-is_taken.false)) c.in_err-bits.ensures.refused,
     )
 
-pub returns-clause-moved : goal.returns-clause-moved
-returns-clause-moved g c = λ m meant.
-    let P : ℕ → Type 0 = λ k. IsMoveOf k c.args.change in
-    let here = subst P (c.labels.ensures.value ∙ c.requires.fits.labels ∙ sym meant.labels_are) (c.is_below.ensures.0 c.if-not-is_below.false) in
+pub returns-clause-values : goal.returns-clause-values
+returns-clause-values g c = λ m meant.
     let ready = rw (c.as_slice.ensures.value) at (c.in-Ok.ensures.built m meant) in
     let pairs = pairs_meant _ _ _ m c.requires.posed meant in
     let least = ready.1 c.in_ok-bits.bits c.in_ok-bits.ensures.least in
@@ -50,8 +48,14 @@ returns-clause-moved g c = λ m meant.
     let size = c.requires.fits.sites ∙ sym meant.sites_are in
     let values = assigned_answer m c.args.change (labelling c.args.labelling.now.at) c.in-Ok.built.price _ _ c.in_ok-bits.bits.items pairs
     (c.in-Ok.ensures.left.choices ∙ ap (λ (xs : List ℕ). length xs) c.as_slice.ensures.value ∙ size) assigned least in
-    let values_paid = rw (c.as_slice-2.ensures.value) at (c.pay.ensures.answer m meant) size values in
-    let best = c.take_best.ensures.best m meant values_paid in
+    rw (c.as_slice-2.ensures.value) at (c.pay.ensures.answer m meant) size values
+
+pub returns-clause-moved : goal.returns-clause-moved
+returns-clause-moved g c = λ m meant.
+    let P : ℕ → Type 0 = λ k. IsMoveOf k c.args.change in
+    let here = subst P (c.labels.ensures.value ∙ c.requires.fits.labels ∙ sym meant.labels_are) (c.is_below.ensures.0 c.if-not-is_below.false) in
+    let ready = rw (c.as_slice.ensures.value) at (c.in-Ok.ensures.built m meant) in
+    let best = c.take_best.ensures.best m meant (returns-clause-values g c m meant) in
     (here, ready.0, best.0, best.1, taken_free m c.args.change c.args.problem.now.label_costs meant.costs_are (c.is_taken.ensures.taken c.if-not-is_taken.false))
 
 pub returns-in-Err-PairNotRegular-clause-refused : goal.returns-in-Err-PairNotRegular-clause-refused

@@ -69,7 +69,7 @@ pub returns-in-Ok-clause-chain : goal.returns-in-Ok-clause-chain
 returns-in-Ok-clause-chain g c = λ kind cycles start from.
     let same = c.in-Ok.ensures.same.0 in record {
       goes_on = run_from _ _ c.args.problem.now kind cycles start c.make_next.new.labelling _
-          (under_way_of _ _ c.args.problem.now _ _ _ c.in-Ok.ensures.working (λ m meant. c.in-Ok.ensures.stamped m meant (from.under_way.stamped m meant)))
+          (under_way_of _ _ c.args.problem.now _ _ _ _ c.in-Ok.ensures.working (λ m meant. c.in-Ok.ensures.stamped m meant (from.under_way.stamped m meant)))
           (c.pass-self.ensures.asked.0 ∙ ap (λ (s : Course). s.moves) same ∙ from.kind_is)
           (c.pass-self.ensures.asked.1 ∙ ap (λ (s : Course). s.labels) same ∙ from.labels_are)
           (c.pass-self.ensures.asked.2 ∙ ap (λ (s : Course). s.allowed) same ∙ from.allowed_is)
@@ -82,7 +82,7 @@ pub returns-in-Err-clause-chain : goal.returns-in-Err-clause-chain
 returns-in-Err-clause-chain g c = λ kind cycles start from.
     let same = c.in-Err.ensures.same.0 in record {
       goes_on = run_from _ _ c.args.problem.now kind cycles start c.make_next.new.labelling c.make_next.new.self
-          (under_way_of _ _ c.args.problem.now _ _ _ c.in-Err.ensures.working (λ m meant. c.in-Err.ensures.stamped m meant (from.under_way.stamped m meant)))
+          (under_way_of _ _ c.args.problem.now _ _ _ _ c.in-Err.ensures.working (λ m meant. c.in-Err.ensures.stamped m meant (from.under_way.stamped m meant)))
           (ap (λ (s : Course). s.moves) same ∙ from.kind_is) (ap (λ (s : Course). s.labels) same ∙ from.labels_are)
           (ap (λ (s : Course). s.allowed) same ∙ from.allowed_is)
           (λ m meant. (returns-in-Err-clause-goes_on g c m meant kind cycles start (run_in_of _ _ c.args.problem.now kind cycles start c.args.labelling.now c.args.self.now from m meant)).goes_on.stands);

@@ -11,7 +11,7 @@ returns-clause-run g c =
       posed = c.requires.posed;
       fits = c.requires.fits;
       of_problem = new_of_problem _ _ c.args.problem.now c.new.result c.new.ensures.ends c.new.ensures.numbers;
-      stamped = c.begin_changes.ensures;
+      stamped = λ m meant. record { expansions = c.begin_changes.ensures m meant; swaps_are = c.begin_swaps.ensures m meant };
     })
     c.begin.ensures.asked.0 labels c.begin.ensures.asked.2
     (λ m meant. begins_here m c.args.moves c.args.cycles c.args.problem.now.data_cost.labels c.args.labelling.now.at c.begin.result c.begin.ensures.asked.0 labels

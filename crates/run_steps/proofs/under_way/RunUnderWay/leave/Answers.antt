@@ -15,7 +15,7 @@ returns-clause-left c = λ m cycles start labels same run going.
     let goes : IsBetweenMoves m moves course start labels = subst E going run.stands in (
       record {
         stands = inr (record { start = goes.start; cycles = goes.cycles; so_far = goes.so_far });
-        stamped = record { sites = run.stamped.sites; most = run.stamped.made; known = run.stamped.known };
+        stamped = (let was = run.stamped.expansions in record { sites = was.sites; most = was.made; known = was.known });
       },
       has_come m moves cycles course start labels None (λ none. subst A run.allowed_is (course.room going)) (λ none. subst I (sym same) (course.inside going)) goes,
     )

@@ -3,6 +3,8 @@ use Rattle.label_energies.specs.declared.change.Move.{Move}
 use Rattle.label_energies.specs.Chains.{moves_of}
 use Rattle.run_steps.specs.Bookmarks.{IsMarkOf}
 use Rattle.run_steps.specs.Courses.{StandsOnCourse}
+use Rattle.label_energies.specs.Energies.{labelling}
+use Rattle.run_steps.proofs.Swaps.{none_swapped}
 use Rattle.run_steps.proofs.UnderWay.{cycle_is}
 use Rattle.run_steps.proofs.under_way.RunUnderWay.resume.Goals as goal
 
@@ -19,5 +21,8 @@ returns-clause-goes_on g c = λ m meant start left.
       kind_is = asked.0;
       allowed_is = asked.2;
       stands = subst S cycle (c.in-Some.ensures.stands m start at (subst K (λ i. moves_of c.args.moves (same i)) left.stands));
-      stamped = record { sites = left.stamped.sites; made = left.stamped.most; known = left.stamped.known };
+      stamped = record {
+        expansions = record { sites = left.stamped.sites; made = left.stamped.most; known = left.stamped.known };
+        swaps_are = none_swapped m (labelling at) c.none.result c.none.ensures;
+      };
     }

@@ -1,0 +1,31 @@
+use Rattle.std.proofs.Common.{◌≡◌, ◌∙◌, ◌<◌, ℕ, Bool, length, get_or, arith, below_more}
+use Rattle.std.proofs.lemmas.List.{length-set}
+use Rattle.std.proofs.lemmas.List.Elements.{All-get_or}
+use Rattle.label_energies.specs.Energies.{labelling}
+use Rattle.move_energy.specs.Choices.{choice_at, choice_of}
+use Rattle.near_swaps.specs.Looking.{settled_value}
+use Rattle.near_swaps.specs.Swaps.{kept_values}
+use Rattle.near_swaps.proofs.Bounds.{told_or_more, told_done, settled_all}
+use Rattle.site_bounds.proofs.Trying.{set_here}
+use Rattle.near_swaps.proofs.looking.settle_listed.Goals as goal
+
+pub loop-index-preserved : goal.loop-index-preserved
+loop-index-preserved c =
+    let now = c.loop-index.choices.items in
+    let opened = c.args.opened.now in
+    let site = get_or opened c.loop-index.index 0 in
+    let inside = All-get_or (λ p. p < length c.args.at.now) opened c.loop-index.index 0 c.loop-index-test.true c.requires.inside in
+    let within : site < length now = omega (arith, inside, c.loop-index.invariant.count, c.requires.sites) in
+    let settled : ℕ → Bool = settled_value c.args.numbers.now c.args.taken.now c.args.bits.now c.args.beta (labelling c.args.at.now) in
+    record {
+      count = length-set now site _ ∙ c.loop-index.invariant.count;
+      each = λ p l. told_or_more now site p _ (λ q. choice_of (settled q)) (λ q. choice_of (kept_values c.args.beta (labelling c.args.at.now) q)) within c.settled_choice.ensures (c.loop-index.invariant.each p l);
+      done = below_more (λ k. choice_at _ (get_or opened k 0) ≡ choice_of (settled (get_or opened k 0))) c.loop-index.index
+          (λ k l. told_done now site (get_or opened k 0) _ (λ q. choice_of (settled q)) within c.settled_choice.ensures (c.loop-index.invariant.done k l))
+          (set_here now site _ within ∙ c.settled_choice.ensures);
+    }
+
+pub returns-clause-each : goal.returns-clause-each
+returns-clause-each c = λ p l.
+    settled_all c.loop-index.choices.items c.args.numbers.now c.args.taken.now c.args.bits.now c.args.beta p (labelling c.args.at.now) c.args.opened.now
+    (c.requires.listed p l) (λ k b. c.loop-index.invariant.done k (omega (arith, b, c.loop-index-test.false))) (c.loop-index.invariant.each p l)
