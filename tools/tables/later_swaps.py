@@ -16,8 +16,8 @@ those with the fewest ones. The labels become what the values make where that ha
 A swap that is made whole has one net: of the pixels that are left open when pixels are decided as in
 tools/tables/open_sites.py, though there be none. A swap is remembered if its values are those by which the pixels keep the
 labels that they have after it. Fresh pixels are those that changed since and the neighbours of these. The next swap of the
-same labels looks near the changes if that one is remembered; of all pixels at most a 128th have one of its labels and
-changed since; and of the pixels that have one of its labels at most a 64th are fresh. Each other swap is made whole.
+same labels looks near the changes if that one is remembered; at most a 64th of all pixels changed since; and of the pixels
+that have one of its labels at most a 64th are fresh. Each other swap is made whole.
 
 Of the pixels that have one of the two labels the fresh ones are opened, and rings around them as in the first stage of
 tools/tables/stage_sites.py. Where more than half of them are open the swap is made whole. Else the values of the open pixels
@@ -35,7 +35,7 @@ import open_sites
 from open_sites import LABELS, SIDE, data_cost, levels_to, neighbours, push_all, smooth_cost
 from stage_sites import KEEPS, OPEN, SITES, TAKES, open_fresh, parts_of
 
-CHANGED_SHARE = 128
+CHANGED_SHARE = 64
 FRESH_SHARE = 64
 OPENED_SHARE = 2
 STAGES = 8
@@ -121,7 +121,7 @@ class Swap:
 
     def near(self, changed):
         """The values as they are found near what changed; none where the swap is to be made whole; and why."""
-        if sum(self.labels[site] in self.ends for site in changed) > SITES // CHANGED_SHARE:
+        if len(changed) > SITES // CHANGED_SHARE:
             return None, 'many changed'
         fresh = sorted({other for site in changed for other in [site, *neighbours(site)]})
         count = sum(self.labels[site] in self.ends for site in fresh)

@@ -1,5 +1,5 @@
 -- The table of rises by what is known, as it is filled.
-use Rattle.std.proofs.Common.{◌≡◌, ℕ, ◌+◌, ◌*◌, ◌<◌, ◌≤◌, Bool, true, false, cond, List, All, slice_index, ℤ, pos, ◌*ℤ◌, ◌-ℤ◌, unsigned_abs, ap, ◌∙◌, arith}
+use Rattle.std.proofs.Common.{◌≡◌, ℕ, ◌+◌, ◌*◌, ◌<◌, ◌≤◌, refl, sym, Bool, true, false, cond, List, All, slice_index, ℤ, pos, ◌*ℤ◌, ◌-ℤ◌, unsigned_abs, ap, ◌∙◌, arith}
 use Rattle.std.proofs.lemmas.Int.{ints}
 use Rattle.move_energy.specs.declared.choice.Choice.{Choice}
 use Rattle.move_energy.specs.declared.choice.Choice.TheVariants.{Open, Zero, One}
@@ -7,11 +7,14 @@ use Rattle.move_energy.specs.declared.rises.EndRises.{EndRises}
 use Rattle.move_energy.specs.declared.by_site.Neighbours.{Neighbours}
 use Rattle.move_energy.specs.Choices.{bit_of}
 use Rattle.site_forms.specs.declared.by_known.ToldRises.{ToldRises}
-use Rattle.site_forms.specs.Fields.{table_cost, code_of, known_place, weighed_rise, AreUnitRises, AreToldRises, AreUniform, unit_rises_at}
+use Rattle.site_forms.specs.Fields.{table_cost, code_of, known_place, weighed_rise, AreUnitRises, AreToldRises, AreUniform, AreExpanding, unit_rises_at}
 use Rattle.site_forms.proofs.Entries.{small_cost, label_within, site_label_within}
 use Rattle.site_forms.proofs.Places.{scaled}
 use Rattle.form_lists.specs.declared.lists.FormLists.{FormLists}
-use Rattle.form_lists.specs.Lists.{IsToldTable}
+use Rattle.form_lists.specs.Lists.{IsToldTable, AreMoveLabels}
+use Rattle.label_energies.specs.Moves.{IsSwap}
+use Rattle.label_energies.specs.declared.change.Move.{Move}
+use Rattle.label_energies.specs.declared.change.Move.TheVariants.{Expand, Swap}
 use Rattle.form_lists.specs.ToldRows.{known_rises, AreTimes, AreUnitsSmall}
 
 pub code_small : (choice : Choice) → code_of choice ≤ 2
@@ -77,3 +80,19 @@ uniform_of ends labels at lists all weighted told = record {
   rows = λ u l. (let below = label_within at u labels l all in let rows = told.rows in omega (arith, below, rows));
   rises = λ own other choice mine theirs. told.rises own other choice (site_label_within at labels own all mine) (site_label_within at labels other all theirs);
 }
+
+-- and an expansion's label is told by what labels become
+pub expanding_of : (ends : Neighbours) (labels : ℕ) (at : List ℕ) (move : Move) (lists : FormLists) (alpha : ℕ) → All (λ label. label < labels) at
+    → AreMoveLabels labels move lists → (IsSwap move → ⊥) → ((a : ℕ) → move ≡ Expand a → alpha ≡ a) → lists.listed ≡ false → ends.even ≡ true → ends.weight ≤ 1000
+    → lists.smooth.symmetric ≡ true → lists.few ≡ false
+    → AreExpanding ends at lists.stays.items lists.turns.items lists.smooth.symmetric lists.few lists.listed alpha
+expanding_of ends labels at (Expand a) lists alpha all become expands is weighted even light mirrored many = record {
+  weighted = weighted;
+  even = even;
+  light = light;
+  mirrored = mirrored;
+  many = many;
+  stay = λ own mine. become.stays_are own (site_label_within at labels own all mine);
+  turn = λ own mine. become.turns_are own (site_label_within at labels own all mine) ∙ sym (is a refl);
+}
+expanding_of ends labels at (Swap a b) lists alpha all become expands is weighted even light mirrored many = absurd (expands tt)

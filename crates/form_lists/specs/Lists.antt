@@ -19,7 +19,7 @@ use Rattle.move_energy.specs.MoveValues.{data_rise}
 use Rattle.site_forms.specs.Fields.{AreReadableLists, AreSymmetric, own_at}
 use Rattle.site_forms.specs.Fields.{AreListedRises, AreCostsRead, AreRisesRead}
 use Rattle.form_lists.specs.PairSides.{AreSidesRead, AreAllSmall}
-use Rattle.site_forms.specs.Fields.{AreUniform, AreToldRises}
+use Rattle.site_forms.specs.Fields.{AreUniform, AreToldRises, AreExpanding}
 use Rattle.site_forms.specs.Fields.{told_in, known_place}
 use Rattle.form_lists.specs.declared.by_pair.PairRises.{PairRises}
 use Rattle.form_lists.specs.declared.lists.FormLists.{FormLists}
@@ -119,6 +119,8 @@ pub record AreFormLists (pairs : PairList) (ends : Neighbours) (at : List ℕ) (
   pub by_place : lists.listed ≡ true → AreListedRises ends lists.rises.items
   pub by_known : lists.uniform ≡ true → AreUniform ends at lists.stays.items lists.turns.items
       lists.smooth.costs.items lists.smooth.symmetric lists.few lists.listed lists.told.items
+  pub by_label : lists.expanding ≡ true → AreExpanding ends at lists.stays.items lists.turns.items
+      lists.smooth.symmetric lists.few lists.listed lists.alpha
 
 -- with own rises that are not large they have numbers for each site too
 abbrev pub AreLabelLists : List ℕ → FormLists → Type 0
@@ -136,6 +138,8 @@ pub record ArePairLists (pairs : PairList) (ends : Neighbours) (at : List ℕ) (
   pub by_place : lists.listed ≡ true → AreListedRises ends lists.rises.items
   pub by_known : lists.uniform ≡ true → AreUniform ends at lists.stays.items lists.turns.items
       lists.smooth.costs.items lists.smooth.symmetric lists.few lists.listed lists.told.items
+  pub by_label : lists.expanding ≡ true → AreExpanding ends at lists.stays.items lists.turns.items
+      lists.smooth.symmetric lists.few lists.listed lists.alpha
 
 -- the table of rises by what is known is of so many labels, for pairs of the weight that all have
 pub record IsToldTable (labels : ℕ) (ends : Neighbours) (lists : FormLists) : Type 0 where

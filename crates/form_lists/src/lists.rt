@@ -3,7 +3,8 @@ ghost use Rattle.std.specs.Prelude.{◌≡◌, ◌⊎◌, ◌<◌, ◌≤◌, �
 ghost use Rattle.std.specs.Prelude.{true, false, unsigned_abs, Bool, ◌+◌, ◌*◌, pos, [], All, List};
 ghost use Rattle.label_field.specs.Limits.{label_limit, weight_limit};
 ghost use Rattle.label_energies.specs.Energies.{labelling, Instance};
-ghost use Rattle.label_energies.specs.Moves.{IsMoveOf, label_after, IsAllowed};
+ghost use Rattle.label_energies.specs.Moves.{IsMoveOf, IsSwap, label_after, IsAllowed};
+ghost use Rattle.label_energies.specs.declared.change.Move.TheVariants.{Expand};
 ghost use Rattle.label_energies.specs.declared.change.Move.{Move as AnyMove};
 ghost use Rattle.cost_store.specs.Limits.{site_cost_limit};
 ghost use Rattle.cost_store.specs.Posed.{IsPosed, IsAsked, WhereMeant};
@@ -54,6 +55,10 @@ pub struct FormLists {
     /// Whether there are few labels, all weights are the same, and all costs in both orders.
     uniform: bool,
     told: Vec<ToldRises>,
+    /// Whether the move is an expansion of `alpha` with more labels, all weights the same, and all
+    /// costs in both orders.
+    expanding: bool,
+    alpha: u8,
     /// Whether the rises of pairs are listed by pair and by place, since each pair has costs of its
     /// own.
     listed: bool,
@@ -78,6 +83,32 @@ fn are_uniform(few: bool, symmetric: bool, ends: &Neighbours) -> bool
     ensures light { result ≡ true → ends.now.weight ≤ weight_limit }
 {
     few && symmetric && ends.even && ends.weight <= WEIGHT_LIMIT
+}
+
+/// Whether a move gives sites one label or leaves them theirs, while pairs have no table, the same
+/// weight by these neighbours, and costs the same in both orders.
+fn is_expanding(change: Move, few: bool, symmetric: bool, ends: &Neighbours) -> bool
+    ensures expands { result ≡ true → IsSwap change → ⊥ }
+    ensures many { result ≡ true → few ≡ false }
+    ensures mirrored { result ≡ true → symmetric ≡ true }
+    ensures even { result ≡ true → ends.now.even ≡ true }
+    ensures light { result ≡ true → ends.now.weight ≤ weight_limit }
+{
+    match change {
+        Move::Expand(_) => !few && symmetric && ends.even && ends.weight <= WEIGHT_LIMIT,
+        Move::Swap(_, _) => false,
+    }
+}
+
+/// The first label of a move: of an expansion its own.
+fn first_label(change: Move) -> u8
+    requires { IsMoveOf label_limit change }
+    ensures { (a : ℕ) → change ≡ Expand a → result ≡ a }
+{
+    match change {
+        Move::Expand(alpha) => alpha as u8,
+        Move::Swap(alpha, _) => alpha as u8,
+    }
 }
 
 /// Begins a list of a label for each label: 0 for all.
@@ -278,6 +309,8 @@ impl FormLists {
             table: Vec::new(alloc),
             uniform: false,
             told: Vec::new(alloc),
+            expanding: false,
+            alpha: 0,
             listed: false,
             sides: Vec::new(alloc),
             rises: Vec::new(alloc),
@@ -425,10 +458,14 @@ impl FormLists {
         if self.listed {
             self.few = false;
             self.uniform = false;
+            self.expanding = false;
             list_sides(&mut self.sides, problem, at, change)?;
             return list_rises(&mut self.rises, &self.sides, problem, ends, at, change);
         }
-        self.make_tables(ends, problem.data_cost.labels, at.len())
+        self.make_tables(ends, problem.data_cost.labels, at.len())?;
+        self.expanding = is_expanding(change, self.few, self.smooth.symmetric, ends);
+        self.alpha = first_label(change);
+        Ok(())
     }
 
     /// Reads the costs of a move from these labels: of each site how much more the move's label
@@ -571,6 +608,8 @@ impl FormLists {
             told: &self.told,
             listed: self.listed,
             rises: &self.rises,
+            expanding: self.expanding,
+            alpha: self.alpha,
             rising: ends.rising,
             even: ends.even,
             weight: ends.weight,

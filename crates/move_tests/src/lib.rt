@@ -22,8 +22,6 @@ mod filling;
 #[cfg(test)]
 mod later;
 #[cfg(test)]
-mod later_swaps;
-#[cfg(test)]
 mod listed;
 #[cfg(test)]
 mod opened;
@@ -43,5 +41,7 @@ mod stepped;
 mod stepped_runs;
 #[cfg(test)]
 mod steps;
+#[cfg(test)]
+mod swaps;
 #[cfg(test)]
 mod worked;

@@ -1,5 +1,5 @@
--- What a run of expansions remembers of its moves: their numbers, those of the last that changed
--- each site, and those of each label's last.
+-- What a run remembers of its moves: their numbers, those of the last that changed each site, and
+-- those of the last at each place. The place of an expansion is its label.
 use Rattle.std.specs.Prelude.{◌≡◌, ◌⊎◌, ℕ, ◌+◌, ◌-◌, ◌^◌, ◌<◌, ◌≤◌, Bool, cond, [], length}
 use Rattle.std.specs.Prelude.{slice_index, slice_set}
 use Rattle.label_energies.specs.Energies.{Instance}
@@ -11,11 +11,11 @@ use Rattle.near_changes.specs.Looking.{changed_since}
 abbrev pub move_limit : ℕ
 move_limit = 2 ^ 32 - 1
 
--- the number of the label's last expansion, 0 where none is remembered
+-- the number of the last move at a place, 0 where none is remembered
 abbrev pub made_of : Changes → ℕ → ℕ
 made_of changes a = slice_index changes.made.items a
 
--- did the site change after the label's last expansion?
+-- did the site change after the last move at a place?
 abbrev pub changed_after : Changes → ℕ → ℕ → Bool
 changed_after changes a = changed_since changes.stamps.items (made_of changes a)
 
@@ -26,8 +26,8 @@ pub record AreStamped (m : Instance) (f : ℕ → ℕ) (changes : Changes) : Typ
   pub made : (a : ℕ) → made_of changes a ≤ changes.count
   pub known : (a : ℕ) → 0 < made_of changes a → WasExpanded m a (changed_after changes a) f
 
--- an expansion of the label is noted: its number is the next one, which the label has now, and so
--- has each site that took the label
+-- a move at a place is noted: its number is the next one, which the place has now, and so has each
+-- site that it changed
 pub record IsNoted (a : ℕ) (took : ℕ → Bool) (old new : Changes) : Type 0 where
   pub within : a < length old.made.items
   pub count : new.count ≡ old.count + 1
@@ -36,12 +36,12 @@ pub record IsNoted (a : ℕ) (took : ℕ → Bool) (old new : Changes) : Type 0 
   pub stamps : (p : ℕ) → p < length old.stamps.items
       → slice_index new.stamps.items p ≡ cond (took p) new.count (slice_index old.stamps.items p)
 
--- all is forgotten, since the label is not one of those that are remembered, or the numbers are at
+-- all is forgotten, since the place is not one of those that are remembered, or the numbers are at
 -- their end
 pub record IsForgotten (a : ℕ) (old new : Changes) : Type 0 where
   pub none : new.made.items ≡ []
   pub cause : (length old.made.items ≤ a) ⊎ (old.count ≡ move_limit)
 
--- what noting an expansion does
+-- what noting a move does
 abbrev pub IsNotedMove : ℕ → (ℕ → Bool) → Changes → Changes → Type 0
 IsNotedMove a took old new = IsNoted a took old new ⊎ IsForgotten a old new

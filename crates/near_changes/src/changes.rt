@@ -1,4 +1,4 @@
-//! What a run of expansions remembers of its moves.
+//! What a run remembers of its moves.
 ghost use Rattle.std.specs.Prelude.{◌≡◌, ◌↔◌, ◌+◌, ◌<◌, ℕ, Bool, true, false, cond, [], replicate};
 ghost use Rattle.std.specs.Prelude.{length, slice_index, slice_set, IfOk, IsTrue, IsFalse};
 ghost use Rattle.std.specs.List.{Contains};
@@ -8,9 +8,10 @@ ghost use Rattle.near_changes.specs.Changes.{made_of, IsForgotten, IsNotedMove};
 use move_energy::Choice;
 use std::alloc::{AllocError, Global};
 
-/// Of each site the number of the move that last changed it, and of each label that of its last
-/// expansion, in a run of expansions whose moves are numbered from 1; 0 where there is none. Where
-/// `made` is empty, nothing is remembered. It takes 4 bytes a site and a label.
+/// Of each site the number of the move that last changed it, and of each place the number of the
+/// last move there, in a run whose moves are numbered from 1; 0 where there is none. The place of
+/// an expansion is its label, and two labels have one for their swap. Where `made` is empty,
+/// nothing is remembered. It takes 4 bytes a site and a place.
 #[derive(Drop)]
 pub struct Changes {
     pub stamps: Vec<u32>,
@@ -30,14 +31,14 @@ impl Changes {
         }
     }
 
-    /// Of a run of expansions that begins: no label was expanded yet.
-    pub fn new(alloc: Global, sites: u32, labels: u32) -> Result<Changes, AllocError>
+    /// Of a run that begins: no move was made yet at so many places.
+    pub fn new(alloc: Global, sites: u32, places: u32) -> Result<Changes, AllocError>
         ensures stamps { IfOk result (λ c. c.stamps.items ≡ replicate sites 0) }
-        ensures made { IfOk result (λ c. (c.made.items ≡ replicate labels 0) × (c.count ≡ 0)) }
+        ensures made { IfOk result (λ c. (c.made.items ≡ replicate places 0) × (c.count ≡ 0)) }
     {
         Ok(Changes {
             stamps: vec![in alloc; 0u32; sites as usize]?,
-            made: vec![in alloc; 0u32; labels as usize]?,
+            made: vec![in alloc; 0u32; places as usize]?,
             count: 0,
         })
     }
@@ -49,52 +50,52 @@ impl Changes {
         self.made.clear();
     }
 
-    /// The number of a label's last expansion, 0 where none is remembered.
-    pub fn last(&self, label: u32) -> u32
-        ensures { result ≡ made_of self.now label }
+    /// The number of the last move at a place, 0 where none is remembered.
+    pub fn last(&self, place: u32) -> u32
+        ensures { result ≡ made_of self.now place }
     {
-        if (label as usize) < self.made.len() {
-            self.made[label as usize]
+        if (place as usize) < self.made.len() {
+            self.made[place as usize]
         } else {
             0
         }
     }
 
-    /// Gives an expansion of a label the next number. It answers no, and forgets all, where the
-    /// label is not one of those that are remembered, or the numbers are at their end.
-    fn begin(&mut self, label: u32) -> bool
-        ensures begun { IsTrue result → (label < length self.old.made.items)
+    /// Gives a move at a place the next number. It answers no, and forgets all, where the place is
+    /// not one of those that are remembered, or the numbers are at their end.
+    fn begin(&mut self, place: u32) -> bool
+        ensures begun { IsTrue result → (place < length self.old.made.items)
             × (self.new.count ≡ self.old.count + 1)
-            × (self.new.made.items ≡ slice_set self.old.made.items label self.new.count) }
-        ensures forgotten { IsFalse result → IsForgotten label self.old self.new }
+            × (self.new.made.items ≡ slice_set self.old.made.items place self.new.count) }
+        ensures forgotten { IsFalse result → IsForgotten place self.old self.new }
         ensures same { self.new.stamps.items ≡ self.old.stamps.items }
     {
-        if label as usize >= self.made.len() || self.count == u32::MAX {
+        if place as usize >= self.made.len() || self.count == u32::MAX {
             self.made.clear();
             return false;
         }
         self.count += 1;
-        self.made[label as usize] = self.count;
+        self.made[place as usize] = self.count;
         true
     }
 
-    /// Notes an expansion of a label that gave it to the sites whose value is 1.
-    pub fn note_values(&mut self, label: u32, choices: &[Choice])
-        ensures { IsNotedMove label (λ p. bit_of (choice_at choices.now p) false)
+    /// Notes a move at a place that changed the sites whose value is 1.
+    pub fn note_values(&mut self, place: u32, choices: &[Choice])
+        ensures { IsNotedMove place (λ p. bit_of (choice_at choices.now p) false)
             self.old self.new }
     {
-        if self.begin(label) {
+        if self.begin(place) {
             stamp_values(&mut self.stamps, self.count, choices);
         }
     }
 
-    /// Notes an expansion of a label that gave it to the listed sites.
-    pub fn note_sites(&mut self, label: u32, sites: &[u32])
-        ensures { (took : ℕ → Bool) → (label < length self.old.made.items → (p : ℕ) →
+    /// Notes a move at a place that changed the listed sites.
+    pub fn note_sites(&mut self, place: u32, sites: &[u32])
+        ensures { (took : ℕ → Bool) → (place < length self.old.made.items → (p : ℕ) →
             p < length self.old.stamps.items → (took p ≡ true) ↔ Contains sites.now p) →
-            IsNotedMove label took self.old self.new }
+            IsNotedMove place took self.old self.new }
     {
-        if self.begin(label) {
+        if self.begin(place) {
             stamp_sites(&mut self.stamps, self.count, sites);
         }
     }

@@ -1,4 +1,4 @@
-//! What an expansion that is made once more knows of the sites.
+//! What a move that is made once more knows of the sites.
 ghost use Rattle.std.specs.Prelude.{◌≡◌, ◌==◌, [], ℕ, ◌<◌, false, length, OnOk, if◌then◌else◌};
 ghost use Rattle.near_changes.specs.Looking.{is_marked};
 ghost use Rattle.near_changes.specs.Working.{IsMarkedToo, IsListedToo};
@@ -6,17 +6,17 @@ ghost use Rattle.near_changes.specs.Working.{IsMarkedToo, IsListedToo};
 use label_field::Pair;
 use std::alloc::{AllocError, Global};
 
-/// What an expansion that is made once more knows of the sites while it looks, in stages, only
-/// where something changed. It keeps its memory for the next one: 2 bytes a site, and 4 for each
-/// that is listed.
+/// What a move that is made once more knows of the sites while it looks, in stages, only where
+/// something changed. It keeps its memory for the next one: 2 bytes a site, and 4 for each that is
+/// listed.
 #[derive(Drop)]
 pub struct Stage {
-    /// Of each site whether it is fresh: it changed since the label's last expansion or is beside
-    /// one that did, and could take the label.
+    /// Of each site whether it is fresh: it changed since the last such move or is beside one that
+    /// did, and has not the label of an expansion.
     pub fresh: Vec<bool>,
     /// Those sites.
     pub fresh_sites: Vec<u32>,
-    /// Of each site whether it is in the set that takes the label.
+    /// Of each site whether it is in the set that takes the label, or in a swap in the closed set.
     pub taken: Vec<bool>,
     /// Those sites.
     pub taking: Vec<u32>,

@@ -1,14 +1,17 @@
 -- Where a swap looks that is made once more, and what its cuts show.
 use Rattle.std.specs.Prelude.{◌≡◌, ◌≢◌, ℕ, ◌<◌, Bool, true, false, cond, List, length}
-use Rattle.std.specs.List.{Contains}
+use Rattle.std.specs.List.{All, Contains}
 use Rattle.label_energies.specs.Energies.{labelling}
 use Rattle.move_energy.specs.declared.choice.Choice.{Choice}
 use Rattle.move_energy.specs.declared.choice.Choice.TheVariants.{Open, Zero, One}
 use Rattle.move_energy.specs.BySite.{IsListing}
-use Rattle.move_energy.specs.Choices.{bit_of, choice_at, open_rank}
+use Rattle.move_energy.specs.Choices.{bit_of, choice_at, open_rank, AreOpenSites}
 use Rattle.near_changes.specs.Looking.{is_marked}
+use Rattle.near_changes.specs.declared.stage.Stage.{Stage}
 use Rattle.near_swaps.specs.Swaps.{kept_values}
 use Rattle.pseudo_bool.specs.Energies.{assignment}
+use Rattle.site_forms.specs.declared.numbers.SiteForm.{SiteForm}
+use Rattle.site_forms.specs.Numbers.{IsOverPairs}
 
 -- what counts as 1 counts as 0
 abbrev pub as_zero : Choice → Choice
@@ -52,3 +55,17 @@ HaveZerosOther b f choices = (p : ℕ) → p < length f → choice_at choices p 
 abbrev pub CoversOthers : List Choice → List ℕ → Type 0
 CoversOthers choices sites = (p : ℕ) → p < length choices → choice_at choices p ≢ Zero
     → Contains sites p
+
+-- a stage of a swap can begin: its open sites are listed, and so are all that are not at 0, among
+-- the swap's own; no site at 0 has label b; and the fresh sites are listed
+pub record IsSwapStageReady (form : SiteForm) (b : ℕ) (own : List ℕ) (choices : List Choice)
+    (stage : Stage) : Type 0 where
+  pub over : IsOverPairs form
+  pub sites : length choices ≡ length form.at.now
+  pub opened : AreOpenSites choices stage.opened.items
+  pub own_are : All (λ p. p < length form.at.now) own
+  pub covers : CoversOthers choices own
+  pub zeros : HaveZerosOther b form.at.now choices
+  pub fresh : (p : ℕ) → p < form.pairs.now.sites → is_marked stage.fresh.items p ≡ true
+      → Contains stage.fresh_sites.items p
+  pub inside : All (λ p. p < form.pairs.now.sites) stage.fresh_sites.items

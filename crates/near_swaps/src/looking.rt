@@ -12,7 +12,7 @@ ghost use Rattle.near_changes.specs.Looking.{is_marked, IsClosedIn};
 ghost use Rattle.near_changes.specs.Working.{KeepsFresh, KeepsZeros};
 ghost use Rattle.near_swaps.specs.Looking.{as_zero, lowest_value, values_in};
 ghost use Rattle.near_swaps.specs.Looking.{settled_value, AreBoundsSame, AreTurnsListed};
-ghost use Rattle.near_swaps.specs.Looking.{HaveZerosOther, CoversOthers};
+ghost use Rattle.near_swaps.specs.Looking.{HaveZerosOther, CoversOthers, IsSwapStageReady};
 ghost use Rattle.near_swaps.specs.Swaps.{kept_values, may_turn, may_turn_at, AreLeastBetween};
 ghost use Rattle.near_swaps.specs.Swaps.{IsEndOfSwap};
 ghost use Rattle.persistency.specs.Fixing.{AreLeastZeros, IsLeftOpen};
@@ -353,15 +353,7 @@ fn end_near(
     own: &[u32],
     beta: u8,
 ) -> Result<bool, AllocError>
-    requires over { IsOverPairs form.now }
-    requires sites { length variables.old.choices.items ≡ length form.now.at.now }
-    requires opened { AreOpenSites variables.old.choices.items stage.old.opened.items }
-    requires own { All (λ p. p < length form.now.at.now) own.now }
-    requires covers { CoversOthers variables.old.choices.items own.now }
-    requires zeros { HaveZerosOther beta form.now.at.now variables.old.choices.items }
-    requires fresh { (p : ℕ) → p < form.now.pairs.now.sites →
-        is_marked stage.old.fresh.items p ≡ true → Contains stage.old.fresh_sites.items p }
-    requires inside { All (λ p. p < form.now.pairs.now.sites) stage.old.fresh_sites.items }
+    requires { IsSwapStageReady form.now beta own.now variables.old.choices.items stage.old }
     ensures count { OnOk result
         (length variables.new.choices.items ≡ length variables.old.choices.items) }
     ensures kept { IfOk result (λ found. IsFalse found →
@@ -400,15 +392,7 @@ fn make_stage(
     own: &[u32],
     beta: u8,
 ) -> Result<bool, AllocError>
-    requires over { IsOverPairs form.now }
-    requires sites { length variables.old.choices.items ≡ length form.now.at.now }
-    requires opened { AreOpenSites variables.old.choices.items stage.old.opened.items }
-    requires own { All (λ p. p < length form.now.at.now) own.now }
-    requires covers { CoversOthers variables.old.choices.items own.now }
-    requires zeros { HaveZerosOther beta form.now.at.now variables.old.choices.items }
-    requires fresh { (p : ℕ) → p < form.now.pairs.now.sites →
-        is_marked stage.old.fresh.items p ≡ true → Contains stage.old.fresh_sites.items p }
-    requires inside { All (λ p. p < form.now.pairs.now.sites) stage.old.fresh_sites.items }
+    requires { IsSwapStageReady form.now beta own.now variables.old.choices.items stage.old }
     ensures count { OnOk result
         (length variables.new.choices.items ≡ length variables.old.choices.items) }
     ensures zeros { IfOk result (λ found. IsFalse found →

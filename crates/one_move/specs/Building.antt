@@ -5,7 +5,7 @@ use Rattle.std.specs.Prelude.{slice_index, ◌⊎◌, ◌+◌}
 use Rattle.std.specs.Global.{Vec}
 use Rattle.label_field.specs.LabelFields.{LabelField}
 use Rattle.cost_store.specs.declared.problem.Problem.{Problem}
-use Rattle.cost_store.specs.Posed.{Closure, IsPosed, IsAsked, WhereMeant}
+use Rattle.cost_store.specs.Posed.{Closure, IsPosed, IsAsked, FitsProblem, WhereMeant}
 use Rattle.label_energies.specs.declared.change.Move.{Move}
 use Rattle.label_energies.specs.declared.change.Move.TheVariants.{Expand}
 use Rattle.label_energies.specs.Energies.{Instance, labelling, energy, plain_energy}
@@ -48,6 +48,13 @@ abbrev pub IsOfProblem : {F V : Type 0} → Closure F → Closure V → Problem 
 IsOfProblem {F} {V} f v problem space =
     (space.deciding.ends.starts.items ≢ [] → AreBySite problem.pairs space.deciding.ends)
     × KnowsCosts f v problem space.deciding.numbers
+
+-- the workspace is that of a posed problem, and the labels are of its sites
+pub record IsWorkingOn {F V : Type 0} (f : Closure F) (v : Closure V) (problem : Problem F V)
+    (field : LabelField) (space : Workspace) : Type 0 where
+  pub posed : IsPosed f v problem
+  pub fits : FitsProblem problem field
+  pub of_problem : IsOfProblem f v problem space
 
 -- the lists of the workspace are those of the move from f, and its pairs are by their sites
 pub record HasListsOfMove (pairs : PairList) (move : Move) (f : List ℕ)

@@ -150,8 +150,12 @@ fn count_changing(at: &[u8], change: Move) -> usize {
     count
 }
 
-/// In how many parts a move is closed in at first. The way to cut says it of all sites, and of
-/// those that a swap can change: these may be few.
+/// The threads of a swap take as long to start as those of an expansion over a quarter of its sites
+/// gain.
+const SWAP_SHARE: usize = 4;
+
+/// In how many parts a move is closed in at first. The way to cut says it of all sites, and for a
+/// swap of a share of those that it can change: these may be few.
 fn part_count<H: Sharing>(how: &H, at: &[u8], change: Move) -> usize {
     let parts = how.parts(at.len());
     if parts < 2 {
@@ -159,7 +163,7 @@ fn part_count<H: Sharing>(how: &H, at: &[u8], change: Move) -> usize {
     }
     match change {
         Move::Expand(_) => parts,
-        Move::Swap(_, _) => how.parts(count_changing(at, change)),
+        Move::Swap(_, _) => how.parts(count_changing(at, change) / SWAP_SHARE),
     }
 }
 

@@ -19,9 +19,9 @@ use Rattle.run_steps.specs.declared.under_way.RunUnderWay.{RunUnderWay}
 use Rattle.run_steps.specs.Problems.{IsRunOfCycles}
 use Rattle.run_steps.specs.Courses.{IsBetweenMoves, StandsOnCourse, LeadsBest, cycle_of, moves_made}
 use Rattle.run_steps.proofs.Courses.{beginning_at, has_come}
-use Rattle.run_steps.specs.Stages.{IsUnderWay}
-use Rattle.run_steps.specs.Swaps.{AreMovesStamped}
-use Rattle.run_steps.specs.Bookmarks.{IsWorkingOn, IsRunOver, IsRunIn, LeadMoves}
+use Rattle.run_steps.specs.Remembered.{AreMovesStamped, IsUnderWay}
+use Rattle.one_move.specs.Building.{IsWorkingOn}
+use Rattle.run_steps.specs.Bookmarks.{IsRunOver, IsRunIn, LeadMoves}
 use Rattle.run_steps.specs.UnderWay.{IsRunFrom, IsStepOf, ended_of}
 
 -- the moves of its cycles are those of the problem's labels

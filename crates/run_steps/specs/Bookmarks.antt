@@ -2,7 +2,7 @@
 use Rattle.std.specs.Prelude.{◌≡◌, ◌⊎◌, ℕ, ◌+◌, ◌<◌, ◌≤◌, List, length, slice_index, Result, Err}
 use Rattle.std.specs.Prelude.{IfErr}
 use Rattle.cost_store.specs.declared.problem.Problem.{Problem}
-use Rattle.cost_store.specs.Posed.{Closure, IsPosed, FitsProblem}
+use Rattle.cost_store.specs.Posed.{Closure}
 use Rattle.label_field.specs.LabelFields.{LabelField}
 use Rattle.label_energies.specs.declared.change.Move.{Move}
 use Rattle.label_energies.specs.declared.cycles.Moves.{Moves}
@@ -11,16 +11,15 @@ use Rattle.label_energies.specs.Energies.{Instance, labelling}
 use Rattle.label_energies.specs.Chains.{Cycles, moves_of}
 use Rattle.near_changes.specs.Fresh.{WasExpanded}
 use Rattle.near_changes.specs.Looking.{changed_since}
-use Rattle.one_move.specs.Building.{IsOfProblem}
+use Rattle.one_move.specs.Building.{IsWorkingOn}
 use Rattle.one_move.specs.declared.error.MoveError.{MoveError}
 use Rattle.one_move.specs.declared.error.MoveError.TheVariants.{LabelCostInSwap}
-use Rattle.one_move.specs.declared.workspace.Workspace.{Workspace}
 use Rattle.run_steps.specs.declared.bookmark.Mark.{Mark}
 use Rattle.run_steps.specs.declared.under_way.RunUnderWay.{RunUnderWay}
 use Rattle.run_steps.specs.Courses.{StandsOnCourse, moves_before}
 use Rattle.run_steps.specs.Cycles.{IsSoFar}
 use Rattle.run_steps.specs.Problems.{IsRunOfCycles}
-use Rattle.run_steps.specs.Swaps.{AreMovesStamped}
+use Rattle.run_steps.specs.Remembered.{AreMovesStamped}
 
 -- a run of these moves from f goes on from g: so many whole cycles, each of which changed
 -- something, lead from f to where another began, and that one has come to a place, at g
@@ -68,13 +67,6 @@ pub record WasLeftAt (m : Instance) (kind : Moves) (start labels : List ℕ) (ma
     (stamps made : List ℕ) : Type 0 where
   pub stands : IsMarkOf m (moves_of kind m.labels) mark start labels
   pub stamped : AreStamps m (labelling labels) stamps made mark.noted
-
--- the workspace is that of a posed problem, and the labels are of its sites
-pub record IsWorkingOn {F V : Type 0} (f : Closure F) (v : Closure V) (problem : Problem F V)
-    (field : LabelField) (space : Workspace) : Type 0 where
-  pub posed : IsPosed f v problem
-  pub fits : FitsProblem problem field
-  pub of_problem : IsOfProblem f v problem space
 
 -- the run works at labels of the problem
 pub record IsRunOver {F V : Type 0} (f : Closure F) (v : Closure V) (problem : Problem F V)

@@ -3,6 +3,5 @@ pub mod Cycles
 pub mod Courses
 pub mod UnderWay
 pub mod Bookmarks
-pub mod Stages
-pub mod Swaps
+pub mod Remembered
 pub mod Prelude

@@ -13,7 +13,7 @@ use Rattle.run_steps.specs.declared.under_way.Step.{Step}
 use Rattle.run_steps.specs.Courses.{StandsOnCourse, HasComeTo, cycles_unless, cycle_of, moves_left}
 use Rattle.run_steps.specs.Courses.{labels_changed, moves_made}
 use Rattle.run_steps.specs.Problems.{IsRunOfCycles}
-use Rattle.run_steps.specs.Stages.{IsUnderWay}
+use Rattle.run_steps.specs.Remembered.{IsUnderWay}
 use Rattle.one_move.specs.declared.error.MoveError.{MoveError}
 use Rattle.one_move.specs.declared.error.MoveError.TheVariants.{LabelCostInSwap}
 

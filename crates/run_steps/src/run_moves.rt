@@ -1,86 +1,18 @@
 //! The moves of a run, which remembers them.
-ghost use Rattle.std.specs.Prelude.{◌≡◌, ℕ, List, length, IfErr, OnErr};
-ghost use Rattle.run_steps.specs.Prelude.{Expand, labelling as labelling_of, IsBest};
-ghost use Rattle.run_steps.specs.Prelude.{costs_of as costs_in, AreFree, WhereMeant, FitsProblem};
-ghost use Rattle.run_steps.specs.Prelude.{AreOfOneSize, AreStamped, is_marked, AreTaking};
-ghost use Rattle.run_steps.specs.Prelude.{site_values, IsMoved, IsMoveRefusal, HasTaken};
+ghost use Rattle.std.specs.Prelude.{◌≡◌, ◌<◌, IfErr, OnErr};
+ghost use Rattle.run_steps.specs.Prelude.{Expand, Swap, labelling as labelling_of, label_limit};
+ghost use Rattle.run_steps.specs.Prelude.{WhereMeant, AreOfOneSize, IsMoved, IsMoveRefusal};
+ghost use Rattle.run_steps.specs.Prelude.{AreStamped, AreSwapsStamped, AreMovesStamped};
 ghost use Rattle.run_steps.specs.Prelude.{IsWorkingOn};
-ghost use Rattle.run_steps.specs.Prelude.{AreStampsOf, AreMovesStamped, AreSwapsStamped, Swap};
-ghost use Rattle.run_steps.specs.Prelude.{label_limit};
-ghost use Rattle.std.specs.Prelude.{◌<◌};
 
-use crate::later_expansion::make_later;
-use crate::later_swap::swap_labels;
-use crate::swap_memory::note_swap;
 use crate::under_way::RunUnderWay;
 use crate::{MoveError, Sharing};
-use cost_store::{Problem, costs_of, has_cost};
-use label_energies::{Move, Moves};
+use cost_store::Problem;
+use label_energies::Move;
 use label_field::Labelling;
-use move_energy::Choice;
-use near_changes::{Changes, Stage};
+use later_expansions::{make_later_expansion, note_later, note_whole};
+use later_swaps::{note_swap, swap_labels};
 use one_move::make_move;
-use std::alloc::Global;
-
-/// What a run remembers at its beginning: its moves from then on where it is one of expansions that
-/// come again, the smooth costs were stored as a metric or each pair has costs of its own, and no
-/// label costs anything by itself. Else, and where memory for that is refused, nothing.
-pub(crate) fn begin_changes<F: Fn(u32, u32) -> i64 + Sync, V: Fn(u32, u32) -> i64 + Sync>(
-    alloc: Global,
-    problem: &Problem<F, V>,
-    labelling: &Labelling,
-    moves: Moves,
-    cycles: u32,
-) -> Changes
-    requires fits { FitsProblem problem.now labelling.now }
-    ensures { AreStampsOf F.Fn V.Fn problem.now labelling.now result }
-{
-    let comes_again = moves == Moves::Expansion && cycles > 1;
-    let testable = problem.smooth_cost.by_metric || problem.pairs.are_numbered();
-    if !comes_again || !testable || has_cost(costs_of(&problem.label_costs)) {
-        return Changes::none(alloc);
-    }
-    match Changes::new(alloc, labelling.sites(), labelling.labels()) {
-        Ok(changes) => changes,
-        Err(_) => Changes::none(alloc),
-    }
-}
-
-/// Notes an expansion that was made whole. Where a label costs something by itself, none is
-/// remembered.
-fn note_whole<F: Fn(u32, u32) -> i64 + Sync, V: Fn(u32, u32) -> i64 + Sync>(
-    problem: &Problem<F, V>,
-    changes: &mut Changes,
-    alpha: u32,
-    choices: &[Choice],
-)
-    ensures { (f g : List ℕ) → HasTaken alpha (site_values choices.now) f g →
-        WhereMeant F.Fn V.Fn problem.now (λ m. length f ≡ m.sites → IsBest m (Expand alpha) f g →
-        AreStamped m (labelling_of f) changes.old → AreStamped m (labelling_of g) changes.new) }
-{
-    if has_cost(costs_of(&problem.label_costs)) {
-        changes.forget();
-    } else {
-        changes.note_values(alpha, choices);
-    }
-}
-
-/// Notes an expansion that looked near the changes alone.
-fn note_later<F: Fn(u32, u32) -> i64 + Sync, V: Fn(u32, u32) -> i64 + Sync>(
-    problem: &Problem<F, V>,
-    changes: &mut Changes,
-    alpha: u32,
-    stage: &Stage,
-)
-    requires free { AreFree (costs_in problem.now.label_costs) }
-    ensures { (f g : List ℕ) → AreTaking (length f) stage.now →
-        HasTaken alpha (is_marked stage.now.taken.items) f g →
-        WhereMeant F.Fn V.Fn problem.now (λ m. length f ≡ m.sites → IsBest m (Expand alpha) f g →
-        AreStamped m (labelling_of f) changes.old → AreStamped m (labelling_of g) changes.new) }
-{
-    let _costs = &problem.label_costs;
-    changes.note_sites(alpha, &stage.taking);
-}
 
 impl RunUnderWay {
     /// The next move of a run, where its labels are those of the last. It is the chain's where what
@@ -150,7 +82,7 @@ impl RunUnderWay {
         ensures refused { IfErr result
             (IsMoveRefusal (H.refuses how.now) labelling.old.labels (Expand alpha)) }
     {
-        let later = make_later(
+        let later = make_later_expansion(
             problem,
             &mut self.space,
             labelling,

@@ -15,12 +15,12 @@ ghost use Rattle.run_steps.specs.Prelude.{labelling as labelling_of, moves_of, L
 ghost use Rattle.run_steps.specs.Prelude.{AreMovesStamped};
 
 use crate::course::{Course, Ended};
-use crate::run_moves::begin_changes;
-use crate::swap_memory::begin_swaps;
 use crate::{MoveError, Sharing};
 use cost_store::Problem;
 use label_energies::{Move, Moves};
 use label_field::Labelling;
+use later_expansions::begin_changes;
+use later_swaps::begin_swaps;
 use near_changes::Changes;
 use one_move::Workspace;
 use std::alloc::{AllocError, Global};

@@ -21,19 +21,26 @@ of_bit : (b : Bool) (g : Bool → ℤ) → g b ≡ cond b (g true) (g false)
 of_bit true g = refl
 of_bit false g = refl
 
--- a number of the table, at a place of a site
+-- a rise of a pair of the weight that all have, at a place of a site
+pub weighed_at_place : (form : SiteForm) (bit : Bool) (u place : ℕ) (z : ℤ) → AreSymmetric form.smooth.now → form.ends.now.even ≡ true → form.listed ≡ false
+    → z ≡ weighed_rise form.stays.now form.turns.now form.smooth.now form.ends.now.weight (labelling form.at.now u) (labelling form.at.now (neighbour_at form.ends.now place)) bit
+    → z ≡ rise_at_place form bit u place
+weighed_at_place form bit u place z mirrored even weighted is =
+    let ends = form.ends.now in
+    let own = labelling form.at.now u in
+    let other = labelling form.at.now (neighbour_at ends place) in
+    is
+    ∙ first_or_second form ends.weight own other (is_first ends u place) bit mirrored
+    ∙ ap (λ all. end_rise_by form (cond all ends.weight (slice_index ends.weights.items place)) (is_first ends u place) own other bit) (sym even)
+    ∙ ap (λ listed. cond listed (listed_rise form bit place) (rise_by_labels form bit u place)) (sym weighted)
+
+-- a number of the table
 pub told_at_place : (form : SiteForm) (bit : Bool) (u place : ℕ) (z : ℤ)
     → AreUniform form.ends.now form.at.now form.stays.now form.turns.now form.smooth.now form.symmetric form.few form.listed form.told.now
     → z ≡ weighed_rise form.stays.now form.turns.now form.smooth.now form.ends.now.weight (labelling form.at.now u) (labelling form.at.now (neighbour_at form.ends.now place)) bit
     → z ≡ rise_at_place form bit u place
 told_at_place form bit u place z uniform is =
-    let ends = form.ends.now in
-    let own = labelling form.at.now u in
-    let other = labelling form.at.now (neighbour_at ends place) in
-    is
-    ∙ first_or_second form ends.weight own other (is_first ends u place) bit (form.form.numbers.mirrored uniform.mirrored)
-    ∙ ap (λ even. end_rise_by form (cond even ends.weight (slice_index ends.weights.items place)) (is_first ends u place) own other bit) (sym uniform.even)
-    ∙ ap (λ listed. cond listed (listed_rise form bit place) (rise_by_labels form bit u place)) (sym uniform.weighted)
+    weighed_at_place form bit u place z (form.form.numbers.mirrored uniform.mirrored) uniform.even uniform.weighted is
 
 pub told_rise_is : (form : SiteForm) (known : List Choice) (given : Bool) (u place : ℕ) (z : ℤ)
     → AreUniform form.ends.now form.at.now form.stays.now form.turns.now form.smooth.now form.symmetric form.few form.listed form.told.now

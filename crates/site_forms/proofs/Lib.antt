@@ -5,3 +5,4 @@ pub mod Places
 pub mod Entries
 pub mod Telling
 pub mod ByKnown
+pub mod ByLabel

@@ -172,17 +172,31 @@ pub record AreUniform (ends : Neighbours) (at stays turns smooth : List ℕ) (sy
       → AreToldRises stays turns smooth ends.weight own other choice
       (told_in told (known_place own other choice))
 
+-- by the value of its variable each site keeps its label or gets this one; all pairs have the
+-- weight that the neighbours say, and costs the same in both orders; no table has their rises
+pub record AreExpanding (ends : Neighbours) (at stays turns : List ℕ) (symmetric few : Bool)
+    (listed : Bool) (alpha : ℕ) : Type 0 where
+  pub weighted : listed ≡ false
+  pub even : ends.even ≡ true
+  pub light : ends.weight ≤ weight_limit
+  pub mirrored : symmetric ≡ true
+  pub many : few ≡ false
+  pub stay : (own : ℕ) → IsSiteLabel at own → slice_index stays own ≡ own
+  pub turn : (own : ℕ) → IsSiteLabel at own → slice_index turns own ≡ alpha
+
 -- the lists are of these sites and their places: what a pair rises by is told by its weight and the
--- labels of its ends, or else listed at each place; and by what is known, if it is said so
+-- labels of its ends, or else listed at each place; by what is known, if it is said so; and in an
+-- expansion, if that is said, by its label
 pub record AreReadable (ends : Neighbours) (own : List ℤ) (at stays turns smooth : List ℕ)
     (symmetric few : Bool) (table : List EndRises) (uniform : Bool) (told : List ToldRises)
-    (listed : Bool) (rises : List EndRises) : Type 0 where
+    (listed : Bool) (rises : List EndRises) (expanding : Bool) (alpha : ℕ) : Type 0 where
   pub places : ArePlaces (length at) ends
   pub numbers : AreReadableLists own at stays turns smooth symmetric few table
   pub light : listed ≡ false → AreLight (length at) ends
   pub by_place : listed ≡ true → AreListedRises ends rises
   pub by_known : uniform ≡ true
       → AreUniform ends at stays turns smooth symmetric few listed told
+  pub by_label : expanding ≡ true → AreExpanding ends at stays turns symmetric few listed alpha
 
 -- what the labels that a move makes cost beside one another was read of it
 abbrev pub AreCostsRead : Instance → Move → List ℕ → List ℕ → Type 0

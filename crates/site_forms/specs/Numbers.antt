@@ -38,6 +38,13 @@ rise_by_labels form bit u place =
     end_rise_by form (weight_at form.ends.now place) (is_first form.ends.now u place)
     (labelling form.at.now u) (labelling form.at.now (neighbour_at form.ends.now place)) bit
 
+-- by how much a pair of the weight that all have rises where its first end, which has the one
+-- label, gets the label of an expansion, while its other end has the other
+abbrev pub expanded_rise : SiteForm → ℕ → ℕ → ℤ
+expanded_rise form own other =
+    pos (form.ends.now.weight * table_cost form.smooth.now true form.alpha other)
+    -ℤ pos (form.ends.now.weight * table_cost form.smooth.now true own other)
+
 -- as it is listed at the place
 abbrev pub listed_rise : SiteForm → Bool → ℕ → ℤ
 listed_rise form bit place =
@@ -79,6 +86,11 @@ pub record AreRisesAt (form : SiteForm) (u place : ℕ) (rises : EndRises) : Typ
   pub high : rises.high ≡ rise_at_place form true u place
   pub low_small : unsigned_abs rises.low ≤ pair_cost_limit
   pub high_small : unsigned_abs rises.high ≤ pair_cost_limit
+
+-- in an expansion the site rises by this number at each place whose neighbour has the label
+pub record IsHighRise (form : SiteForm) (u : ℕ) (high : ℤ) : Type 0 where
+  pub value : form.expanding ≡ true → high ≡ expanded_rise form (labelling form.at.now u) form.alpha
+  pub small : unsigned_abs high ≤ pair_cost_limit
 
 -- this holds of each function whose rises the numbers tell
 abbrev pub Tells : SiteForm → (((ℕ → Bool) → ℤ) → Type 0) → Type 0

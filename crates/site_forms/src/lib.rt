@@ -6,6 +6,7 @@
 
 mod by_known;
 mod ends;
+mod expanding;
 pub mod laws;
 mod numbers;
 mod reading;

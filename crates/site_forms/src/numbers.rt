@@ -28,11 +28,13 @@ pub struct SiteForm<'a> {
     pub told: &'a [ToldRises],
     pub listed: bool,
     pub rises: &'a [EndRises],
+    pub expanding: bool,
+    pub alpha: u8,
     /// `rising`, `even` and `weight` of the neighbours, which are the same at all places.
     pub rising: bool,
     pub even: bool,
     pub weight: u32,
     pub ghost form: { AreReadable ends.now own.now at.now stays.now turns.now smooth.now
-        symmetric few table.now uniform told.now listed rises.now },
+        symmetric few table.now uniform told.now listed rises.now expanding alpha },
     pub ghost flags: { AreFlagsOf ends.now rising even weight },
 }

@@ -10,11 +10,12 @@ ghost use Rattle.move_energy.specs.Choices.{choice_at};
 ghost use Rattle.move_energy.specs.Assignments.{rise};
 ghost use Rattle.move_energy.specs.Ends.{decided_or, AvoidsSite, HasNoneBefore, rise_limit};
 ghost use Rattle.site_forms.specs.Forms.{place_rise};
-ghost use Rattle.site_forms.specs.Numbers.{form_of, Tells, IsSitePlace, AreRisesAt};
+ghost use Rattle.site_forms.specs.Numbers.{form_of, Tells, IsSitePlace, AreRisesAt, IsHighRise};
 ghost use Rattle.site_forms.specs.Numbers.{AreSiteRises};
 
 use crate::by_known::place_told;
 use crate::ends::{head_at, is_first_end, weight_beside, weight_read};
+use crate::expanding::{expanded_ends, high_rise};
 use crate::numbers::SiteForm;
 use crate::reading::end_rises;
 use move_energy::{Choice, EndRises, Rises, SiteRises, rises_beside};
@@ -92,20 +93,27 @@ pub fn rises_of_place(form: &SiteForm, site: u32, place: u32) -> EndRises
     }
 }
 
-/// The same, where what the form says of all places is a const parameter.
+/// The same, where what the form says of all places is a const parameter. `high` is the rise that
+/// is the same at all places of an expansion.
 #[inline]
-fn rises_here<const LISTED: bool, const FEW: bool, const EVEN: bool>(
+fn rises_here<const EXPANDING: bool, const LISTED: bool, const FEW: bool, const EVEN: bool>(
     form: &SiteForm,
     site: u32,
     place: u32,
     head: u32,
+    high: i32,
 ) -> EndRises
+    requires label { EXPANDING ≡ form.now.expanding }
+    requires high { IsHighRise form.now site high }
     requires kind { LISTED ≡ form.now.listed }
     requires way { (FEW ≡ form.now.few) × (EVEN ≡ form.now.even) }
     requires place { IsSitePlace form.now site place }
     requires head { head ≡ neighbour_at form.now.ends.now place }
     ensures { AreRisesAt form.now site place result }
 {
+    if EXPANDING {
+        return expanded_ends(form, site, place, head, high);
+    }
     if LISTED {
         return listed_rises(form, site, place);
     }
@@ -140,14 +148,16 @@ fn told_rises(form: &SiteForm, known: &[Choice], site: u32, place: u32, head: u3
 /// The rises of a site as far as the neighbour at a place goes, at least and at most, by what is
 /// known of the neighbour.
 #[inline]
-fn rises_at<const TOLD: bool, const LISTED: bool, const FEW: bool, const EVEN: bool>(
-    form: &SiteForm,
-    known: &[Choice],
-    site: u32,
-    place: u32,
-    head: u32,
-) -> Rises
+fn rises_at<
+    const TOLD: bool,
+    const EXPANDING: bool,
+    const LISTED: bool,
+    const FEW: bool,
+    const EVEN: bool,
+>(form: &SiteForm, known: &[Choice], site: u32, place: u32, head: u32, high: i32) -> Rises
     requires told { TOLD ≡ form.now.uniform }
+    requires label { EXPANDING ≡ form.now.expanding }
+    requires high { IsHighRise form.now site high }
     requires kind { LISTED ≡ form.now.listed }
     requires way { (FEW ≡ form.now.few) × (EVEN ≡ form.now.even) }
     requires known { length known.now ≡ length form.now.at.now }
@@ -163,7 +173,7 @@ fn rises_at<const TOLD: bool, const LISTED: bool, const FEW: bool, const EVEN: b
     if TOLD {
         return told_rises(form, known, site, place, head);
     }
-    let rises = rises_here::<LISTED, FEW, EVEN>(form, site, place, head);
+    let rises = rises_here::<EXPANDING, LISTED, FEW, EVEN>(form, site, place, head, high);
     rises_beside(rises, known[head as usize])
 }
 
@@ -205,15 +215,28 @@ fn either(one: bool, other: bool) -> bool
     one | other
 }
 
+/// The rise of a site that is the same at all its places, in an expansion; else 0.
+#[inline]
+fn high_of<const EXPANDING: bool>(form: &SiteForm, site: u32) -> i32
+    requires label { EXPANDING ≡ form.now.expanding }
+    requires site { site < length form.now.at.now }
+    ensures { IsHighRise form.now site result }
+{
+    if EXPANDING { high_rise(form, site) } else { 0 }
+}
+
 /// The rises of a site by what is known of its neighbours, summed place by place. What the form
 /// says of all places is a const parameter, so that the loop does not ask for it at each.
 #[inline]
-fn sum_rises<const TOLD: bool, const LISTED: bool, const FEW: bool, const EVEN: bool>(
-    form: &SiteForm,
-    known: &[Choice],
-    site: u32,
-) -> SiteRises
+fn sum_rises<
+    const TOLD: bool,
+    const EXPANDING: bool,
+    const LISTED: bool,
+    const FEW: bool,
+    const EVEN: bool,
+>(form: &SiteForm, known: &[Choice], site: u32) -> SiteRises
     requires told { TOLD ≡ form.now.uniform }
+    requires label { EXPANDING ≡ form.now.expanding }
     requires kind { LISTED ≡ form.now.listed }
     requires way { (FEW ≡ form.now.few) × (EVEN ≡ form.now.even) }
     requires known { length known.now ≡ length form.now.at.now }
@@ -223,9 +246,12 @@ fn sum_rises<const TOLD: bool, const LISTED: bool, const FEW: bool, const EVEN: 
     let mut least = i64::from(form.own[site as usize]);
     let mut greatest = least;
     let mut beside = false;
+    let high = high_of::<EXPANDING>(form, site);
     for place in start(form, site)..start(form, site + 1) {
         let head = head_at(form, site, place);
-        let rises = rises_at::<TOLD, LISTED, FEW, EVEN>(form, known, site, place, head);
+        let rises = rises_at::<TOLD, EXPANDING, LISTED, FEW, EVEN>(
+            form, known, site, place, head, high,
+        );
         least += rises.least;
         greatest += rises.greatest;
         beside = either(beside, meets_open(form, known, site, place, head));
@@ -237,21 +263,21 @@ fn sum_rises<const TOLD: bool, const LISTED: bool, const FEW: bool, const EVEN: 
     }
 }
 
-/// The same, where whether the rises are listed by place is a const parameter, and no table has
-/// them by what is known.
+/// The same, where whether the rises are listed by place is a const parameter, no table has them by
+/// what is known, and none is the same at all places.
 #[inline]
 fn sum_by_kind<const LISTED: bool>(form: &SiteForm, known: &[Choice], site: u32) -> SiteRises
-    requires apart { form.now.uniform ≡ false }
+    requires apart { (form.now.uniform ≡ false) × (form.now.expanding ≡ false) }
     requires kind { LISTED ≡ form.now.listed }
     requires known { length known.now ≡ length form.now.at.now }
     requires site { site < length form.now.at.now }
     ensures { AreSiteRises form.now known.now site result }
 {
     match (form.few, form.even) {
-        (true, true) => sum_rises::<false, LISTED, true, true>(form, known, site),
-        (true, false) => sum_rises::<false, LISTED, true, false>(form, known, site),
-        (false, true) => sum_rises::<false, LISTED, false, true>(form, known, site),
-        (false, false) => sum_rises::<false, LISTED, false, false>(form, known, site),
+        (true, true) => sum_rises::<false, false, LISTED, true, true>(form, known, site),
+        (true, false) => sum_rises::<false, false, LISTED, true, false>(form, known, site),
+        (false, true) => sum_rises::<false, false, LISTED, false, true>(form, known, site),
+        (false, false) => sum_rises::<false, false, LISTED, false, false>(form, known, site),
     }
 }
 
@@ -262,6 +288,9 @@ fn other_rises(form: &SiteForm, known: &[Choice], site: u32) -> SiteRises
     requires site { site < length form.now.at.now }
     ensures { AreSiteRises form.now known.now site result }
 {
+    if form.expanding {
+        return sum_rises::<false, true, false, false, true>(form, known, site);
+    }
     if form.listed {
         return sum_by_kind::<true>(form, known, site);
     }
@@ -278,7 +307,7 @@ pub fn site_rises(form: &SiteForm, known: &[Choice], site: u32) -> SiteRises
     ensures { AreSiteRises form.now known.now site result }
 {
     if form.uniform {
-        return sum_rises::<true, false, true, true>(form, known, site);
+        return sum_rises::<true, false, false, true, true>(form, known, site);
     }
     other_rises(form, known, site)
 }

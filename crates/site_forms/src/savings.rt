@@ -6,6 +6,7 @@ ghost use Rattle.move_energy.specs.Weights.{surplus_of, pair_table};
 ghost use Rattle.site_forms.specs.Numbers.{WhereRead, IsSitePlace};
 
 use crate::ends::weight_read;
+use crate::expanding::{expanded_ends, high_rise};
 use crate::numbers::SiteForm;
 use crate::rises::{listed_rises, place_rises, told_ends};
 use move_energy::saving_of;
@@ -22,6 +23,10 @@ pub fn saving_beside(form: &SiteForm, site: u32, place: u32, head: u32) -> i64
 {
     if form.uniform {
         return saving_of(told_ends(form, site, place, head));
+    }
+    if form.expanding {
+        let high = high_rise(form, site);
+        return saving_of(expanded_ends(form, site, place, head, high));
     }
     if form.listed {
         return saving_of(listed_rises(form, site, place));

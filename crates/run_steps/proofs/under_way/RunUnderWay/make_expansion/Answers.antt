@@ -2,7 +2,7 @@ use Rattle.std.proofs.Common.{◌∙◌, Bool, List, Option, Ok, length, refl, s
 use Rattle.std.specs.Prelude.{IfSome}
 use Rattle.cost_store.specs.LabelCosts.{costs_of, AreFree}
 use Rattle.near_changes.specs.Looking.{is_marked, AreTaking}
-use Rattle.run_steps.specs.Stages.{IsLater}
+use Rattle.later_expansions.specs.Stages.{IsLater}
 use Rattle.label_field.specs.LabelFields.{LabelField}
 use Rattle.label_energies.specs.Energies.{labelling}
 use Rattle.move_energy.specs.declared.choice.Choice.{Choice}
@@ -24,7 +24,7 @@ returns-clause-working g c = record {
 pub returns-clause-stamped : goal.returns-clause-stamped
 returns-clause-stamped g c = λ m meant stamped.
     let a = c.args.alpha in
-    let f = c.make_later.new.labelling.at in
+    let f = c.make_later_expansion.new.labelling.at in
     let h = c.make_move.new.labelling.at in
     let same = c.in_ok-later.ensures.kept c.in_default.is in
     let S : LabelField → Type 0 = λ field. AreStamped m (labelling field.at) c.args.self.now.changes in
@@ -37,8 +37,8 @@ pub returns-in-Some-clause-stamped : goal.returns-in-Some-clause-stamped
 returns-in-Some-clause-stamped g c = λ m meant stamped.
     let a = c.args.alpha in
     let f = c.args.labelling.now.at in
-    let h = c.make_later.new.labelling.at in
-    let stage = c.make_later.new.space.stage in
+    let h = c.make_later_expansion.new.labelling.at in
+    let stage = c.make_later_expansion.new.space.stage in
     let T : Option Bool → Type 0 = λ later. IfSome later (λ _. AreTaking (length f) stage × HasTaken a (is_marked stage.taken.items) f h × AreFree (costs_of c.args.problem.now.label_costs)) in
     let M : Option Bool → Type 0 = λ later. IsLater m a f h (Ok later) in
     let taken = subst T c.in-Some.is c.in_ok-later.ensures.taken in

@@ -4,8 +4,8 @@ use Rattle.label_energies.specs.declared.change.Move.TheVariants.{Swap}
 use Rattle.label_energies.specs.Energies.{labelling}
 use Rattle.label_energies.specs.Moves.{IsReached}
 use Rattle.one_move.specs.Building.{site_values}
-use Rattle.run_steps.specs.Swaps.{AreSwapsStamped}
-use Rattle.run_steps.proofs.Swaps.{settled_after}
+use Rattle.later_swaps.specs.Swaps.{AreSwapsStamped}
+use Rattle.later_swaps.proofs.Swaps.{settled_after}
 use Rattle.run_steps.proofs.under_way.RunUnderWay.make_noted_swap.Goals as goal
 
 pub returns-clause-stamped : goal.returns-clause-stamped

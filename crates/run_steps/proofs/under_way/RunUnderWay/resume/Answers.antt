@@ -4,7 +4,7 @@ use Rattle.label_energies.specs.Chains.{moves_of}
 use Rattle.run_steps.specs.Bookmarks.{IsMarkOf}
 use Rattle.run_steps.specs.Courses.{StandsOnCourse}
 use Rattle.label_energies.specs.Energies.{labelling}
-use Rattle.run_steps.proofs.Swaps.{none_swapped}
+use Rattle.later_swaps.proofs.Swaps.{none_swapped}
 use Rattle.run_steps.proofs.UnderWay.{cycle_is}
 use Rattle.run_steps.proofs.under_way.RunUnderWay.resume.Goals as goal
 

@@ -4,7 +4,7 @@ use Rattle.run_steps.specs.declared.course.Course.{Course}
 use Rattle.run_steps.specs.Courses.{cycle_of}
 use Rattle.label_energies.specs.Energies.{labelling}
 use Rattle.near_changes.specs.declared.changes.Changes.{Changes}
-use Rattle.run_steps.specs.Swaps.{AreMovesStamped}
+use Rattle.run_steps.specs.Remembered.{AreMovesStamped}
 use Rattle.run_steps.proofs.UnderWay.{over_of, run_kept}
 use Rattle.run_steps.proofs.under_way.RunUnderWay.step.Goals as goal
 
