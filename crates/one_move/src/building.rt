@@ -202,7 +202,7 @@ fn close_apart<F: Fn(u32, u32) -> i64 + Sync, V: Fn(u32, u32) -> i64 + Sync, H: 
         .deciding
         .numbers
         .form(&problem.pairs, &space.deciding.ends, at);
-    let size = how.strip_sites().max(1);
+    let size = strip_size(how, problem.data_cost.labels);
     let fork = how.fork();
     close_parts(
         &fork,
@@ -261,14 +261,26 @@ fn leave_rest<F: Fn(u32, u32) -> i64 + Sync, V: Fn(u32, u32) -> i64 + Sync>(
     Ok(rest)
 }
 
+/// A move between more labels than this has shorter strips: it leaves most sites open, and reads a
+/// wide table of costs beside the rows of a strip.
+const MANY_LABELS: u32 = 64;
+
+/// Its strips have one in so many sites of those of another.
+const MANY_SHARE: usize = 2;
+
 /// How many open sites a move closes in at once: all, where the way to cut takes all that is open
 /// as one net.
-fn strip_size<H: Sharing>(how: &H) -> usize
+fn strip_size<H: Sharing>(how: &H, labels: u32) -> usize
     ensures { 0 < result }
 {
-    match how.strip_sites() {
-        0 => usize::MAX,
-        sites => sites,
+    let sites = how.strip_sites();
+    if sites == 0 {
+        return usize::MAX;
+    }
+    if labels > MANY_LABELS {
+        (sites / MANY_SHARE).max(1)
+    } else {
+        sites
     }
 }
 
@@ -292,7 +304,7 @@ fn build_decided<F: Fn(u32, u32) -> i64 + Sync, V: Fn(u32, u32) -> i64 + Sync, H
         return Ok(rest);
     }
     decide(alloc, problem, space, at, change)?;
-    let size = strip_size(how);
+    let size = strip_size(how, problem.data_cost.labels);
     if space.deciding.lists.listed && space.deciding.lists.count <= size {
         let open = leave_open(problem, space, at, change, small)?;
         return Ok(open);

@@ -51,6 +51,7 @@ along_push old new u w p z ne l sent el es ee = record {
   labels = el;
   sinks = es;
   starts = sent.starts;
+  ends = sent.ends;
   heads = sent.heads;
   excess = omega (arith, left_at old.excess.items new.excess.items u w z ne l ee);
 }
@@ -70,6 +71,7 @@ push_more v a b c h p = record {
   labels = p.labels ∙ h.labels;
   sinks = p.sinks ∙ h.sinks;
   starts = p.starts ∙ h.starts;
+  ends = p.ends ∙ h.ends;
   heads = λ q. p.heads q ∙ h.heads q;
   excess = omega (arith, h.excess, p.excess);
 }
@@ -77,11 +79,11 @@ push_more v a b c h p = record {
 -- a place of the row stays one
 pub push_place : (v : ℕ) (old new : Work) (p : ℕ) → IsPush v old new → IsPlace old.rows v p → IsPlace new.rows v p
 push_place v old new p h (low, high) =
-    (omega (arith, ap (λ (xs : List ℕ). slice_index xs v) h.starts, low), omega (arith, ap (λ (xs : List ℕ). slice_index xs (v + 1)) h.starts, high))
+    (omega (arith, ap (λ (xs : List ℕ). slice_index xs v) h.starts, low), omega (arith, ap (λ (xs : List ℕ). slice_index xs v) h.ends, high))
 
 pub place_push : (v : ℕ) (old new : Work) (p : ℕ) → IsPush v old new → IsPlace new.rows v p → IsPlace old.rows v p
 place_push v old new p h (low, high) =
-    (omega (arith, ap (λ (xs : List ℕ). slice_index xs v) h.starts, low), omega (arith, ap (λ (xs : List ℕ). slice_index xs (v + 1)) h.starts, high))
+    (omega (arith, ap (λ (xs : List ℕ). slice_index xs v) h.starts, low), omega (arith, ap (λ (xs : List ℕ). slice_index xs v) h.ends, high))
 
 -- a direction that is spent stays so while others are pushed along
 spent_kept : (old new : Work) (v q : ℕ) → IsPush v old new → residual_at new.rows q ≡ residual_at old.rows q → IsSpent old v q → IsSpent new v q

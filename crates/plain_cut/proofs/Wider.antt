@@ -9,23 +9,26 @@ use Rattle.flow_network.specs.Progress.{top, IsLabelledPreflow}
 use Rattle.flow_network.proofs.Smallest.{reaches_before}
 use Rattle.flow_network.proofs.Widening.{added, added_at, length-added, given_widened, widened_rooms}
 use Rattle.sink_distances.specs.declared.rows.Rows.{Rows}
-use Rattle.sink_distances.specs.Rows.{carried_flow, near_of, places_of, IsRows}
+use Rattle.sink_distances.specs.Rows.{carried_flow, near_of, places_of, start_at, IsRows}
 use Rattle.plain_cut.specs.declared.work.Work.{Work}
 use Rattle.plain_cut.specs.State.{work_flow, LeadsByZeros, CountAsSink, IsWork, HasNoActiveNode}
 use Rattle.sink_distances.specs.Distances.{AreDistancesButZeros}
 use Rattle.sink_distances.proofs.Laws.{residual_nodes}
 use Rattle.plain_cut.proofs.Zeros.{below_reaches, reaches_below}
 
-same_places : (net : Network) (sinks : List ℕ) → places_of (network_of net.sources sinks net.arcs) ≡ places_of net
+same_places : (net : Network) (start : ℕ → ℕ) (sinks : List ℕ) → places_of start (network_of net.sources sinks net.arcs) ≡ places_of start net
 unfolding places_of near_of
-same_places net sinks = refl
+same_places net start sinks = refl
 
 -- the rows of a net do not depend on what its nodes can send the sink
 pub rows_with : (net : Network) (sinks : List ℕ) (rows : Rows) → IsRows net rows → IsRows (network_of net.sources sinks net.arcs) rows
 rows_with net sinks rows r = record {
   starts_len = r.starts_len;
-  firsts = r.firsts ∙ sym (same_places net sinks);
+  ends_len = r.ends_len;
+  few = r.few;
+  firsts = r.firsts ∙ sym (same_places net (start_at rows) sinks);
   firsts_len = r.firsts_len;
+  room = r.room;
   within = r.within;
   arcs = λ k l. let a = r.arcs k l in record {
     first = a.first;

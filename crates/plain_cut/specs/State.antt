@@ -99,6 +99,7 @@ pub record IsPush (v : ℕ) (old new : Work) : Type 0 where
   pub labels : new.labels.items ≡ old.labels.items
   pub sinks : new.rooms.items ≡ old.rooms.items
   pub starts : new.rows.starts.items ≡ old.rows.starts.items
+  pub ends : new.rows.ends.items ≡ old.rows.ends.items
   pub heads : (p : ℕ) → head_at new.rows p ≡ head_at old.rows p
   pub excess : slice_index new.excess.items v ≤ slice_index old.excess.items v
 

@@ -166,6 +166,7 @@ fn finish_laid(
     let rows = Rows {
         net: Outline::of_laid(&laid),
         starts: laid.starts,
+        ends: laid.ends,
         cells: laid.cells,
     };
     finish(alloc, outline, rows, laid.sources, laid.sinks, space)

@@ -21,6 +21,7 @@ fn send(net: &Outline, work: &mut Work, v: usize, p: usize, left: u64) -> u64
     requires left { left ≡ slice_index work.old.excess.items v }
     ensures work { IsUnlabelled net.now work.new }
     ensures starts { work.new.rows.starts.items ≡ work.old.rows.starts.items }
+    ensures ends { work.new.rows.ends.items ≡ work.old.rows.ends.items }
     ensures left { result ≡ slice_index work.new.excess.items v }
 {
     let _nodes = net.nodes();
@@ -62,6 +63,7 @@ fn try_send(
     requires left { left ≡ slice_index work.old.excess.items v }
     ensures work { IsUnlabelled net.now work.new }
     ensures starts { work.new.rows.starts.items ≡ work.old.rows.starts.items }
+    ensures ends { work.new.rows.ends.items ≡ work.old.rows.ends.items }
     ensures left { result ≡ slice_index work.new.excess.items v }
 {
     let _nodes = net.nodes();
@@ -84,7 +86,7 @@ fn send_first(net: &Outline, work: &mut Work, v: usize)
     }
     try_push_sink(net, work, v);
     let mut left = work.excess[v];
-    'row: for p in work.rows.starts[v]..work.rows.starts[v + 1] {
+    'row: for p in work.rows.starts[v]..work.rows.ends[v] {
         if left == 0 {
             return;
         }
@@ -105,7 +107,7 @@ fn send_last(net: &Outline, work: &mut Work, v: usize, low: usize, high: usize)
     }
     try_push_sink(net, work, v);
     let mut left = work.excess[v];
-    'row: for p in (work.rows.starts[v]..work.rows.starts[v + 1]).rev() {
+    'row: for p in (work.rows.starts[v]..work.rows.ends[v]).rev() {
         if left == 0 {
             return;
         }

@@ -190,7 +190,7 @@ fn push_row(net: &Outline, work: &mut Work, v: usize) -> Result<(), AllocError>
     ensures spent { OnOk result ((p : ℕ) → IsPlace work.old.rows v p → IsSpent work.new v p) }
 {
     let first = work.rows.starts[v];
-    let last = work.rows.starts[v + 1];
+    let last = work.rows.ends[v];
     push_places(net, work, v, first, last)?;
     Ok(())
 }
@@ -205,7 +205,7 @@ fn push_round(net: &Outline, work: &mut Work, v: usize, stop: &mut u32) -> Resul
     ensures spent { OnOk result ((p : ℕ) → IsPlace work.old.rows v p → IsSpent work.new v p) }
 {
     let first = work.rows.starts[v];
-    let last = work.rows.starts[v + 1];
+    let last = work.rows.ends[v];
     let from = u32::min(u32::max(*stop, first), last);
     *stop = push_places(net, work, v, from, last)?;
     if work.excess[v] > 0 {

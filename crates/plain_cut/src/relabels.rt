@@ -41,7 +41,7 @@ fn highest_label(net: &Outline, work: &Work, v: usize) -> u32
     ensures limits { IsNet net.now }
 {
     let mut least = net.top_label();
-    'row: for p in work.rows.starts[v]..work.rows.starts[v + 1] {
+    'row: for p in work.rows.starts[v]..work.rows.ends[v] {
         least = lower(net, work, v, p as usize, least);
     }
     least

@@ -7,8 +7,7 @@ ghost use Rattle.flow_network.specs.Preflow.{IsReach};
 ghost use Rattle.flow_network.specs.Answer.{side_of, IsRightCut};
 ghost use Rattle.flow_network.specs.Progress.{top};
 ghost use Rattle.sink_distances.specs.Distances.{AreDistancesButZeros};
-ghost use Rattle.sink_distances.specs.Rows.{carried_flow, firsts_of, first_at, second_at};
-ghost use Rattle.sink_distances.specs.Rows.{places_of, IsRows, CarryNothing};
+ghost use Rattle.sink_distances.specs.Rows.{IsRows, CarryNothing};
 ghost use Rattle.plain_cut.specs.State.{work_flow, IsWork, IsRaised, HasNoActiveNode};
 
 use crate::discharges::discharge_all;
@@ -18,7 +17,9 @@ use crate::wide::count_wide;
 use crate::work::{Work, raise_near};
 use crate::workspace::Workspace;
 use flow_network::{Net, Solved, cut_capacity};
-use sink_distances::{Extent, Outline, Rows, Spare, rows_by_node, rows_of, side_below, zeros};
+use sink_distances::{
+    Extent, Outline, Rows, Spare, carried_flows, rows_by_node, rows_of, side_below, zeros,
+};
 use std::alloc::{AllocError, Global};
 use std::collections::VecDeque;
 use std::mem::replace;
@@ -209,10 +210,10 @@ pub fn solve(alloc: Global, net: &Net) -> Result<Solved, AllocError>
     let sources = Vec::from_slice(alloc, net.sources())?;
     let sinks = Vec::from_slice(alloc, net.sinks())?;
     let shape = Outline::of(net.graph());
-    let (rows, firsts) = rows_by_node(alloc, net.graph())?;
+    let rows = rows_by_node(alloc, net.graph())?;
     let mut space = Workspace::new(alloc);
     let work = finish(alloc, &shape, rows, sources, sinks, &mut space)?;
-    answer_of(alloc, net, &shape, work, firsts.as_slice())
+    answer_of(alloc, net, &shape, work)
 }
 
 /// The sink side of the smallest least cut of the net, one bit for each node: that which `solve`
@@ -277,35 +278,11 @@ fn turn_to_given(sinks: &[u64], rooms: &mut [u64])
     }
 }
 
-/// What each arc carries: what its direction back can carry. `firsts` tells where each arc's other
-/// direction stands.
-fn carried_flows(alloc: Global, rows: &Rows, firsts: &[u32]) -> Result<Vec<u64>, AllocError>
-    requires firsts { firsts.now ≡ firsts_of rows.now }
-    requires first { (k : ℕ) → k < length firsts.now
-        → first_at rows.now k < length rows.now.cells.items }
-    requires second { (k : ℕ) → k < length firsts.now
-        → second_at rows.now k < length rows.now.cells.items }
-    ensures { IfOk result (λ flow. flow.items ≡ carried_flow rows.now) }
-{
-    let mut flow = vec![in alloc; 0u64; firsts.len()]?;
-    'arcs: for k in 0..firsts.len() {
-        flow[k] = rows.back(firsts[k] as usize);
-    }
-    Ok(flow)
-}
-
 /// The answer of work that is finished, whose labels are the exact distances where they are not 0:
 /// the nodes that reach the sink, and the preflow.
-fn answer_of(
-    alloc: Global,
-    net: &Net,
-    outline: &Outline,
-    work: Work,
-    firsts: &[u32],
-) -> Result<Solved, AllocError>
+fn answer_of(alloc: Global, net: &Net, outline: &Outline, work: Work) -> Result<Solved, AllocError>
     requires limits { IsNet net.now }
     requires outline { outline.now ≡ net.now }
-    requires firsts { firsts.now ≡ places_of net.now }
     requires work { IsWork net.now work }
     requires finished { HasNoActiveNode net.now work }
     requires exact { AreDistancesButZeros net.now (work_flow net.now work) work.labels.items }
@@ -315,7 +292,7 @@ fn answer_of(
 {
     let side = least_side(alloc, outline, &work)?;
     let value = cut_capacity(net, side.as_slice());
-    let arc_flow = carried_flows(alloc, &work.rows, firsts)?;
+    let arc_flow = carried_flows(alloc, net.graph(), &work.rows)?;
     let mut sink_flow = work.rooms;
     turn_to_given(net.sinks(), sink_flow.as_mut_slice());
     Ok(Solved {

@@ -22,7 +22,7 @@ pub fn count_wide(net: &Outline, rows: &Rows) -> usize
     let mut count = 0;
     'nodes: for behind in 0..nodes / NODES_A_WIDE_ONE {
         let v = nodes - 1 - behind;
-        if rows.starts[v + 1].saturating_sub(rows.starts[v]) > NARROW {
+        if rows.ends[v].saturating_sub(rows.starts[v]) > NARROW {
             count = behind + 1;
         }
     }

@@ -19,7 +19,7 @@ pub struct Workspace {
 }
 
 /// The most nodes of a net whose lists are kept, as many as a picture of 512 by 512 has: they take
-/// 84 bytes a node of two arcs while the next net is made. Lists of larger nets are given back.
+/// 88 bytes a node of two arcs while the next net is made. Lists of larger nets are given back.
 const KEPT_NODES: usize = 262_144;
 
 /// The most directions, 16 bytes each, of a net whose lists are kept: those of such a picture where
@@ -54,6 +54,7 @@ impl Workspace {
         let rows = work.rows;
         self.rows = Spare {
             starts: rows.starts,
+            ends: rows.ends,
             cells: rows.cells,
         };
         self.labels = work.labels;

@@ -4,6 +4,8 @@ pub mod Order
 pub mod Scanning
 pub mod Searching
 pub mod Showing
+pub mod Carrying
+pub mod Places
 pub mod Making
 pub mod Putting
 pub mod Seeing

@@ -4,7 +4,7 @@ use Rattle.std.proofs.lemmas.Bool.{cases_lt}
 use Rattle.flow_network.specs.Cut.{Network}
 use Rattle.flow_network.specs.Progress.{top_label}
 use Rattle.sink_distances.specs.declared.rows.Rows.{Rows}
-use Rattle.sink_distances.specs.Rows.{head_at, opposite_at, residual_at, start_at, carried_flow, IsRows}
+use Rattle.sink_distances.specs.Rows.{head_at, opposite_at, residual_at, start_at, end_at, carried_flow, IsRows}
 use Rattle.sink_distances.specs.Search.{Search, search_label, Grows, IsBefore}
 use Rattle.sink_distances.proofs.Order.{grows_more, grows_falls}
 use Rattle.sink_distances.proofs.Showing.{before_place}
@@ -54,7 +54,7 @@ seen_none net rows w label p s t before none = record {
 
 -- all of the row were seen
 pub seen_all : (net : Network) (rows : Rows) (w label p : ℕ) (s t : Search) → IsRows net rows → IsSeen net rows w label p s t
-    → start_at rows (w + 1) ≤ p → (v : ℕ) → IsBefore net (carried_flow rows) w v → search_label t v ≤ label
+    → end_at rows w ≤ p → (v : ℕ) → IsBefore net (carried_flow rows) w v → search_label t v ≤ label
 seen_all net rows w label p s t r seen done v before =
     let (q, place, head, some) = before_place net rows w v r before in
     omega (arith, ap (search_label t) head, seen.marked q place.0 (omega (arith, place.1, done)) some)

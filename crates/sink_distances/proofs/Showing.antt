@@ -9,7 +9,7 @@ use Rattle.flow_network.specs.Cut.{Network, nodes, IsNet}
 use Rattle.flow_network.specs.Preflow.{arc_at, IsResidual}
 use Rattle.flow_network.proofs.Duality.{arc_is}
 use Rattle.sink_distances.specs.declared.rows.Rows.{Rows}
-use Rattle.sink_distances.specs.Rows.{head_at, opposite_at, residual_at, start_at, firsts_of, first_at, second_at, carried_flow, IsPlace, IsPlaceOf, IsRows, IsSent}
+use Rattle.sink_distances.specs.Rows.{arc_ends, head_at, opposite_at, residual_at, start_at, end_at, firsts_of, places_of, first_at, second_at, carried_flow, IsPlace, IsPlaceOf, IsRows, IsSent, HaveRowRoom}
 use Rattle.sink_distances.specs.Search.{IsBefore}
 
 -- ---- what each arc carries
@@ -122,6 +122,9 @@ place_residual net rows sinks v p r l place some = residual_of net rows sinks v 
 sent_starts : (old new : Rows) (p z v : ℕ) → IsSent old new p z → start_at new v ≡ start_at old v
 sent_starts old new p z v s = ap (λ (xs : List ℕ). slice_index xs v) s.starts
 
+sent_ends : (old new : Rows) (p z v : ℕ) → IsSent old new p z → end_at new v ≡ end_at old v
+sent_ends old new p z v s = ap (λ (xs : List ℕ). slice_index xs v) s.ends
+
 sent_first : (old new : Rows) (p z k : ℕ) → IsSent old new p z → first_at new k ≡ first_at old k
 sent_first old new p z k s = ap (λ (xs : List ℕ). slice_index xs k) s.firsts
 
@@ -132,10 +135,10 @@ sent_head : (old new : Rows) (p z q q' : ℕ) → IsSent old new p z → q' ≡ 
 sent_head old new p z q q' s e = s.heads q' ∙ ap (head_at old) e
 
 pub sent_place : (old new : Rows) (p z v q : ℕ) → IsSent old new p z → IsPlace old v q → IsPlace new v q
-sent_place old new p z v q s (low, high) = (omega (arith, sent_starts old new p z v s, low), omega (arith, sent_starts old new p z (v + 1) s, high))
+sent_place old new p z v q s (low, high) = (omega (arith, sent_starts old new p z v s, low), omega (arith, sent_ends old new p z v s, high))
 
 pub place_sent : (old new : Rows) (p z v q : ℕ) → IsSent old new p z → IsPlace new v q → IsPlace old v q
-place_sent old new p z v q s (low, high) = (omega (arith, sent_starts old new p z v s, low), omega (arith, sent_starts old new p z (v + 1) s, high))
+place_sent old new p z v q s (low, high) = (omega (arith, sent_starts old new p z v s, low), omega (arith, sent_ends old new p z v s, high))
 
 -- what a direction and its opposite can carry together stays
 sum_sent : (net : Network) (old new : Rows) (p z j k : ℕ) → IsRows net old → IsSent old new p z → z ≤ residual_at old p
@@ -186,6 +189,14 @@ of_sent net old new p z v q s (k, l, inl (at, end)) = (k, l, inl (at ∙ sym (se
 of_sent net old new p z v q s (k, l, inr (at, end)) =
     (k, l, inr (at ∙ sym (sent_opposite old new p z (first_at old k) (first_at new k) s (sent_first old new p z k s)), end))
 
+sent_room : (net : Network) (old new : Rows) → new.starts.items ≡ old.starts.items → length new.cells.items ≡ length old.cells.items
+    → HaveRowRoom (nodes net) (arc_ends net.arcs) (start_at old) (length old.cells.items)
+    → HaveRowRoom (nodes net) (arc_ends net.arcs) (start_at new) (length new.cells.items)
+sent_room net old new starts len room =
+    let R : ℕ → Type 0 = λ total. HaveRowRoom (nodes net) (arc_ends net.arcs) (start_at new) total in
+    let S : List ℕ → Type 0 = λ xs. HaveRowRoom (nodes net) (arc_ends net.arcs) (slice_index xs) (length old.cells.items) in
+    subst R (sym len) (subst S (sym starts) room)
+
 -- rows keep showing the net
 pub rows_sent : (net : Network) (old new : Rows) (v p z : ℕ) → IsRows net old → v < nodes net → IsPlace old v p → z ≤ residual_at old p
     → IsSent old new p z → IsRows net new
@@ -195,9 +206,12 @@ rows_sent net old new v p z r lv place le s =
     let second : (k : ℕ) → second_at new k ≡ second_at old k = λ k. sent_opposite old new p z (first_at old k) (first_at new k) s (first k) in
     record {
       starts_len = ap (length {A = ℕ}) s.starts ∙ r.starts_len;
-      firsts = s.firsts ∙ r.firsts;
+      ends_len = ap (length {A = ℕ}) s.ends ∙ r.ends_len;
+      few = omega (arith, s.len, r.few);
+      firsts = s.firsts ∙ r.firsts ∙ ap (λ (xs : List ℕ). places_of (slice_index xs) net) (sym s.starts);
       firsts_len = ap (length {A = ℕ}) s.firsts ∙ r.firsts_len;
-      within = λ u l. omega (arith, sent_starts old new p z u s, s.len, r.within u l);
+      room = sent_room net old new s.starts s.len r.room;
+      within = λ u l. omega (arith, sent_ends old new p z u s, s.len, r.within u l);
       arcs = λ k l.
           let a = r.arcs k l in
           record {

@@ -6,7 +6,12 @@ use Rattle.sink_distances.specs.Rows.{IsRows, CarryNothing}
 
 -- the rows of a net that stands in them
 abbrev pub rows_laid : Laid → Rows
-rows_laid laid = record { starts = laid.starts; cells = laid.cells; net = laid_net laid }
+rows_laid laid = record {
+  starts = laid.starts;
+  ends = laid.ends;
+  cells = laid.cells;
+  net = laid_net laid;
+}
 
 -- they show the net, and no arc carries anything
 pub record AreLaid (laid : Laid) : Type 0 where

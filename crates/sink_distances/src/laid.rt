@@ -4,8 +4,10 @@ use crate::Cell;
 /// A net whose arcs stand in rows.
 #[derive(Drop)]
 pub struct Laid {
-    /// Where each node's row begins, and at the end where the last one ends.
+    /// Where each node's row begins.
     pub starts: Vec<u32>,
+    /// Where it ends. What stands from there to the next row means nothing.
+    pub ends: Vec<u32>,
     /// The directions of the arcs by the nodes that they leave.
     pub cells: Vec<Cell>,
     /// Where each arc's direction from its first node stands.

@@ -9,6 +9,7 @@
 ghost use Rattle.sink_distances.specs.Laws.{DistancesLabel, DistancesRise, DistancesReach};
 
 mod adjacency;
+mod carried;
 mod filling;
 mod labels;
 mod laid;
@@ -21,6 +22,7 @@ mod search;
 mod side;
 
 pub use adjacency::{Adjacency, arcs_by_node};
+pub use carried::carried_flows;
 pub use filling::{rows_by_node, rows_of, zeros};
 pub use labels::top_label;
 pub use laid::Laid;

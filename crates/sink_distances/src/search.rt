@@ -424,7 +424,7 @@ fn mark_row(
         → slice_index labels.new v ≤ label }
 {
     let cells = rows.cells.as_slice();
-    'row: for p in rows.starts[w]..rows.starts[w + 1] {
+    'row: for p in rows.starts[w]..rows.ends[w] {
         tally = mark_back(cells, excess, labels, order, tally, p as usize, label);
     }
     tally

@@ -1,15 +1,15 @@
 -- How many ends of a strip's pairs lie at each of its nodes: as many as its site has neighbours
 -- that are open and in the strip.
-use Rattle.std.proofs.Common.{◌≡◌, ◌≢◌, ℕ, zero, suc, ◌+◌, ◌-◌, ◌<◌, ◌≤◌, ◌++◌, Bool, true, false, cond, inl, inr, List, [], ◌∷◌, length, get_or, set, slice_index, sum_by, refl, sym, ap, ◌∙◌, arith}
+use Rattle.std.proofs.Common.{◌≡◌, ◌≢◌, ℕ, zero, suc, ◌+◌, ◌<◌, ◌≤◌, Bool, true, false, cond, inl, inr, List, [], ◌∷◌, All, length, get_or, set, take, slice_index, sum_by, refl, sym, ap, subst, ◌∙◌, arith}
 use Rattle.std.specs.Prelude.{◌&&◌, ◌||◌, ◌==◌, not, nat_lt, count_by}
 use Rattle.std.specs.List.{flat_map}
-use Rattle.std.proofs.lemmas.Bool.{cases_eq}
+use Rattle.std.proofs.lemmas.Bool.{cases_eq, cases_lt}
 use Rattle.std.proofs.lemmas.Bool.Decides.{nat_tests}
 use Rattle.std.proofs.Math.Bool.{and-true}
 use Rattle.std.proofs.lemmas.List.Concat.{flat_map-cons}
 use Rattle.std.proofs.lemmas.List.{length-set, get_or-set_same, get_or-set_other}
 use Rattle.std.proofs.lemmas.List.Recursion.{is_count_by}
-use Rattle.std.proofs.lemmas.List.Sums.{sum_by-cons, sum_by-append}
+use Rattle.std.proofs.lemmas.List.Sums.{sum_by-cons, sum_by-append, sum_by_more, sum_by-take-le, count_by-le-length}
 use Rattle.sums.specs.Sums.{sum_below, count_if}
 use Rattle.sums.proofs.SumLemmas.{sum_below-same, sum_below-pick}
 use Rattle.counting_sort.specs.Grouping.{count_of, count_below}
@@ -18,19 +18,19 @@ use Rattle.label_field.specs.PairLists.{IsPair}
 use Rattle.label_energies.proofs.Energy.{sum_by-same}
 use Rattle.move_energy.specs.BySite.{degree, neighbours_start, neighbour_at, is_first, weight_at, pair_from, pair_beside, pair_of, rising_sites, is_counted, has_chosen, met_below, met_at}
 use Rattle.move_energy.specs.declared.choice.Choice.{Choice}
-use Rattle.move_energy.specs.Choices.{choice_at, is_open, open_at, open_rank, AreOpenSites}
+use Rattle.move_energy.specs.Choices.{choice_at, is_open, open_at, open_rank}
 use Rattle.move_energy.specs.Weights.{are_open}
 use Rattle.move_energy.proofs.Beside.{pairs_are_met_once}
 use Rattle.move_energy.proofs.Listings.{listed_sites_are_summed}
 use Rattle.move_energy.proofs.Numbers.{rank_below}
 use Rattle.move_energy.proofs.Opened.{opened_count, opened_has, opened_place, true_open}
 use Rattle.persistency.specs.Borders.{is_inside, range_of}
-use Rattle.sink_distances.specs.Laying.{AreEndsCounted}
+use Rattle.sink_distances.specs.Laying.{AreRowsBegun}
 use Rattle.strip_nets.specs.declared.material.Material.{Material}
 use Rattle.strip_nets.specs.declared.material.StripSites.{StripSites}
 use Rattle.strip_nets.specs.Building.{CanBuild, AreStripSites, view_by}
 use Rattle.strip_nets.specs.Meeting.{ends_met, ends_below, ends_at, strip_ends, inside_degree}
-use Rattle.strip_nets.proofs.Sizes.{seen_length}
+use Rattle.strip_nets.proofs.Sizes.{seen_length, degrees}
 use Rattle.strip_nets.proofs.Views.{inside_is}
 
 -- ---- how many numbers of a list pass a test
@@ -116,6 +116,13 @@ both_open false y h = absurd (cc (h))
 
 below_one : (a n : ℕ) → a < n → count_if (nat_lt a n) 1 ≡ 1
 below_one a n l = ap (λ (b : Bool). count_if b 1) (let e : nat_lt a n ≡ true = grind (arith, nat_tests) in e)
+
+past_one : (a n : ℕ) → n ≤ a → (cond {A = ℕ} (nat_lt a n) 1 0) ≡ 0
+past_one a n l = grind (arith, nat_tests)
+
+all_cons : (n x : ℕ) (xs : List ℕ) → x < n → All (λ v. v < n) xs → All (λ v. v < n) (x ∷ xs)
+all_cons n x xs l all zero d k = l
+all_cons n x xs l all (suc k) d m = all k d (omega (arith, m))
 
 pub strip_ends_inside : (material : Material) (sites : StripSites) → CanBuild material → AreStripSites material sites
     → count_below (length sites.opened.now) (strip_ends material sites) ≡ length (strip_ends material sites)
@@ -245,20 +252,6 @@ abbrev pub inside_below : Material → StripSites → ℕ → ℕ → ℕ
 inside_below material sites site k =
     sum_below k (λ j. count_if (is_inside (choice_at material.known.now) (range_of sites.from sites.to) (neighbour_at material.form.ends.now (neighbours_start material.form.ends.now site + j))) 1)
 
--- with one neighbour more
-pub inside_more : (material : Material) (sites : StripSites) (site place count head one : ℕ) → neighbours_start material.form.ends.now site ≤ place → head ≡ neighbour_at material.form.ends.now place
-    → one ≡ count_if (is_inside (choice_at material.known.now) (range_of sites.from sites.to) head) 1
-    → count ≡ inside_below material sites site (place - neighbours_start material.form.ends.now site)
-    → count + one ≡ inside_below material sites site (place + 1 - neighbours_start material.form.ends.now site)
-inside_more material sites site place count head one from at is so_far =
-    let start = neighbours_start material.form.ends.now site in
-    let inside : ℕ → ℕ = λ p. count_if (is_inside (choice_at material.known.now) (range_of sites.from sites.to) (neighbour_at material.form.ends.now p)) 1 in
-    let here : inside (start + (place - start)) ≡ inside place = ap inside (let e : start + (place - start) ≡ place = omega (arith, from) in e) in
-    let there = ap (λ p. count_if (is_inside (choice_at material.known.now) (range_of sites.from sites.to) p) 1) at in
-    let more : inside_below material sites site (place + 1 - start) ≡ inside_below material sites site (suc (place - start)) =
-    ap (inside_below material sites site) (let e : place + 1 - start ≡ suc (place - start) = omega (arith, from) in e) in
-    omega (arith, so_far, is, there, here, more)
-
 pub counted_few : (b : Bool) → count_if b 1 ≤ 1
 counted_few true = omega arith
 counted_few false = omega arith
@@ -268,42 +261,89 @@ inside_few material sites site zero = omega arith
 inside_few material sites site (suc k) =
     omega (arith, inside_few material sites site k, counted_few (is_inside (choice_at material.known.now) (range_of sites.from sites.to) (neighbour_at material.form.ends.now (neighbours_start material.form.ends.now site + k))))
 
--- behind the places of the first i nodes stands how many ends lie at each
-pub record AreFirstCounted (material : Material) (sites : StripSites) (i : ℕ) (counts : List ℕ) : Type 0 where
-  pub len : length counts ≡ length sites.opened.now + 1
-  pub first : slice_index counts 0 ≡ 0
-  pub each : (v : ℕ) → v < i → slice_index counts (v + 1) ≡ count_of v (strip_ends material sites)
+-- ---- the rows
 
-pub none_counted : (material : Material) (sites : StripSites) (counts : List ℕ) → AreEndsCounted (length sites.opened.now) [] counts → AreFirstCounted material sites 0 counts
-none_counted material sites counts h = record { len = h.len; first = h.first; each = λ v l. absurd (omega (arith, l)) }
+no_numbers : (n : ℕ) → All (λ v. v < n) []
+no_numbers n k d l = absurd (omega (arith, l))
 
-pub one_counted : (material : Material) (sites : StripSites) (i site count : ℕ) (old new : List ℕ) → CanBuild material → AreStripSites material sites → i < length sites.opened.now
+-- each number is below n if so many are
+all_below : (n : ℕ) (xs : List ℕ) → count_below n xs ≡ length xs → All (λ v. v < n) xs
+all_below n [] h = no_numbers n
+all_below n (x ∷ xs) h =
+    let more = sum_by-cons (λ (y : ℕ). cond (nat_lt y n) 1 0) x xs in
+    let most = count_by-le-length (λ (y : ℕ). nat_lt y n) xs in
+    elim (cases_lt x n) [
+      | inl less ↦ all_cons n x xs less (all_below n xs (omega (arith, h, more, most, below_one x n less)))
+      | inr past ↦ absurd (omega (arith, h, more, most, past_one x n past))
+    ]
+
+-- the rows of the first i nodes begin, each with room for its ends, behind the rows before it, and
+-- all end before the total
+pub record AreFirstBegun (material : Material) (sites : StripSites) (i : ℕ) (starts : List ℕ) (total : ℕ) : Type 0 where
+  pub len : length starts ≡ length sites.opened.now
+  pub within : (v : ℕ) → v < i → slice_index starts v + count_of v (strip_ends material sites) ≤ total
+  pub apart : (u v : ℕ) → u < v → v < i → slice_index starts u + count_of u (strip_ends material sites) ≤ slice_index starts v
+  pub total_is : total ≡ sum_by (degree material.form.ends.now) (take i sites.opened.now)
+
+pub none_begun : (material : Material) (sites : StripSites) (starts : List ℕ) → length starts ≡ length sites.opened.now → AreFirstBegun material sites 0 starts 0
+none_begun material sites starts len = record {
+  len = len;
+  within = λ v l. absurd (omega (arith, l));
+  apart = λ u v l k. absurd (omega (arith, k));
+  total_is = refl;
+}
+
+pub one_begun : (material : Material) (sites : StripSites) (i site total degree_is : ℕ) (old new : List ℕ) → CanBuild material → AreStripSites material sites → i < length sites.opened.now
     → site ≡ slice_index sites.opened.now i → (site < material.form.pairs.now.sites) × (open_at (view_by sites material) site ≡ true)
-    → count ≡ inside_degree material sites site → AreFirstCounted material sites i old → new ≡ set old (i + 1) count → AreFirstCounted material sites (i + 1) new
-one_counted material sites i site count old new can listed l at is counted h written =
+    → degree_is ≡ degree material.form.ends.now site → AreFirstBegun material sites i old total → new ≡ set old i total → AreFirstBegun material sites (i + 1) new (total + degree_is)
+one_begun material sites i site total degree_is old new can listed l at is room h written =
     let v = view_by sites material in
-    let low : i + 1 < length old = omega (arith, l, h.len) in
-    let rank : open_rank v site ≡ i = ap (open_rank v) at ∙ (opened_has v sites.opened.now i listed l).2 in
-    let here : count ≡ count_of i (strip_ends material sites) =
-    counted ∙ sym (node_ends material sites site can listed is.0 is.1) ∙ ap (λ (k : ℕ). count_of k (strip_ends material sites)) rank in
+    let ends = strip_ends material sites in
+    let opened = sites.opened.now in
+    let low : i < length old = omega (arith, l, h.len) in
+    let rank : open_rank v site ≡ i = ap (open_rank v) at ∙ (opened_has v opened i listed l).2 in
+    let here : count_of i ends ≡ inside_degree material sites site = ap (λ (k : ℕ). count_of k ends) (sym rank) ∙ node_ends material sites site can listed is.0 is.1 in
+    let most : count_of i ends ≤ degree_is = omega (arith, here, room, inside_few material sites site (degree material.form.ends.now site)) in
+    let mine : slice_index new i ≡ total = ap (λ (xs : List ℕ). slice_index xs i) written ∙ get_or-set_same old i total 0 low in
+    let kept : (u : ℕ) → u < i → slice_index new u ≡ slice_index old u = λ u k.
+    ap (λ (xs : List ℕ). slice_index xs u) written ∙ get_or-set_other old i u total 0 (λ e. omega (arith, e, k)) in
     record {
-      len = ap (length {A = ℕ}) written ∙ length-set old (i + 1) count ∙ h.len;
-      first = ap (λ (xs : List ℕ). slice_index xs 0) written ∙ get_or-set_other old (i + 1) 0 count 0 (λ e. omega (arith, e)) ∙ h.first;
-      each = λ u k. elim (cases_eq u i) [
-        | inl same ↦
-            ap (λ (j : ℕ). slice_index new (j + 1)) same ∙ ap (λ (xs : List ℕ). slice_index xs (i + 1)) written ∙ get_or-set_same old (i + 1) count 0 low ∙ here
-            ∙ ap (λ (j : ℕ). count_of j (strip_ends material sites)) (sym same)
-        | inr other ↦
-            ap (λ (xs : List ℕ). slice_index xs (u + 1)) written ∙ get_or-set_other old (i + 1) (u + 1) count 0 (λ e. other (omega (arith, e)))
-            ∙ h.each u (omega (arith, k, other))
+      len = ap (length {A = ℕ}) written ∙ length-set old i total ∙ h.len;
+      within = λ u k. elim (cases_eq u i) [
+        | inl same ↦ (let S : ℕ → Type 0 = λ w. slice_index new w + count_of w ends ≤ total + degree_is in subst S (sym same) (omega (arith, mine, most)))
+        | inr other ↦ (let before : u < i = omega (arith, k, other) in omega (arith, kept u before, h.within u before))
       ];
+      apart = λ u w k m. elim (cases_eq w i) [
+        | inl same ↦
+            let before : u < i = omega (arith, k, same) in
+            let S : ℕ → Type 0 = λ x. slice_index new u + count_of u ends ≤ slice_index new x in
+            subst S (sym same) (omega (arith, kept u before, h.within u before, mine))
+        | inr other ↦
+            let before : w < i = omega (arith, m, other) in
+            let first : u < i = omega (arith, k, before) in
+            omega (arith, kept u first, kept w before, h.apart u w k before)
+      ];
+      total_is =
+          let next : sum_by (degree material.form.ends.now) (take (i + 1) opened) ≡ sum_by (degree material.form.ends.now) (take i opened) + degree material.form.ends.now (get_or opened i 0) =
+          sum_by_more (degree material.form.ends.now) opened i 0 l in
+          let now = ap (degree material.form.ends.now) at in
+          omega (arith, h.total_is, next, now, room);
     }
 
-pub all_counted : (material : Material) (sites : StripSites) (i : ℕ) (counts : List ℕ) → CanBuild material → AreStripSites material sites → length sites.opened.now ≤ i
-    → AreFirstCounted material sites i counts → AreEndsCounted (length sites.opened.now) (strip_ends material sites) counts
-all_counted material sites i counts can listed all h = record {
+-- so many places at most
+pub total_few : (material : Material) (sites : StripSites) (i total : ℕ) (starts : List ℕ) → CanBuild material → AreStripSites material sites → AreFirstBegun material sites i starts total
+    → total ≤ 8388608
+total_few material sites i total starts can listed h =
+    omega (arith, h.total_is, sum_by-take-le (degree material.form.ends.now) sites.opened.now i, degrees material sites can listed)
+
+pub all_begun : (material : Material) (sites : StripSites) (i total : ℕ) (starts : List ℕ) → CanBuild material → AreStripSites material sites → length sites.opened.now ≤ i
+    → AreFirstBegun material sites i starts total → AreRowsBegun (length sites.opened.now) (strip_ends material sites) starts total
+all_begun material sites i total starts can listed all h = record {
   len = h.len;
-  first = h.first;
-  each = λ v l. h.each v (omega (arith, l, all));
-  all = strip_ends_inside material sites can listed;
+  nodes = all_below (length sites.opened.now) (strip_ends material sites) (strip_ends_inside material sites can listed);
+  room = record {
+    within = λ v l. h.within v (omega (arith, l, all));
+    apart = λ u v l k. h.apart u v l (omega (arith, k, all));
+  };
+  few = omega (arith, total_few material sites i total starts can listed h);
 }

@@ -1,6 +1,6 @@
 -- The pairs of a strip, in the order in which they are met.
-use Rattle.std.proofs.Common.{◌≡◌, ℕ, zero, suc, ◌+◌, ◌-◌, ◌*◌, ◌<◌, ◌≤◌, ◌++◌, Bool, true, false, cond, inl, inr, List, [], ◌∷◌, length, take, drop, get_or, slice_index, length-take, sum_by, append_assoc, length-append, add-one, refl, sym, ap, subst, ◌∙◌, arith}
-use Rattle.std.specs.Prelude.{◌&&◌, ◌==◌, not, ℤ, pos, unsigned_abs}
+use Rattle.std.proofs.Common.{◌≡◌, ℕ, zero, suc, ◌+◌, ◌-◌, ◌*◌, ◌<◌, ◌≤◌, ◌++◌, Bool, true, false, cond, inl, inr, List, [], ◌∷◌, length, take, drop, get_or, length-take, sum_by, append_assoc, length-append, refl, sym, ap, subst, ◌∙◌, arith}
+use Rattle.std.specs.Prelude.{◌&&◌, not, ℤ, pos, unsigned_abs}
 use Rattle.sums.specs.Sums.{count_if}
 use Rattle.label_energies.specs.declared.change.Move.{Move}
 use Rattle.label_energies.specs.Energies.{Instance}
@@ -11,10 +11,10 @@ use Rattle.move_energy.specs.Built.{AddsCost}
 use Rattle.move_energy.proofs.Adding.{cost_none}
 use Rattle.std.specs.List.{flat_map}
 use Rattle.std.proofs.lemmas.Bool.{cases_lt}
-use Rattle.std.proofs.lemmas.List.{append-nil, get_or_past, take_more, take_all, take-append-drop, take-append-le}
+use Rattle.std.proofs.lemmas.List.{append-nil, take_more, take_all, take-append-drop, take-append-le}
 use Rattle.std.proofs.Math.Seq.{take-append_seam}
 use Rattle.strip_nets.specs.RowForms.{IsFirstPart}
-use Rattle.std.proofs.lemmas.List.Sums.{count_by-le-length, sum_by-cons}
+use Rattle.std.proofs.lemmas.List.Sums.{sum_by-cons}
 use Rattle.std.proofs.lemmas.List.Concat.{flat_map-cons}
 use Rattle.std.proofs.lemmas.Grind.{flat_map-append}
 use Rattle.label_field.specs.declared.pair.Pair.{Pair}
@@ -24,7 +24,6 @@ use Rattle.move_energy.specs.Choices.{choice_at, open_at, open_rank}
 use Rattle.move_energy.proofs.Parts.{beside_has}
 use Rattle.persistency.specs.Borders.{is_inside, range_of}
 use Rattle.move_energy.specs.Weights.{are_open, pair_surplus, unsaved_surplus}
-use Rattle.sink_distances.specs.Laying.{AreEndsCounted}
 use Rattle.strip_nets.specs.declared.material.Material.{Material}
 use Rattle.strip_nets.specs.declared.material.StripSites.{StripSites}
 use Rattle.strip_nets.specs.declared.rows.Met.{Met}

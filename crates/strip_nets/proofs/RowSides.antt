@@ -34,10 +34,10 @@ pub net_same : (form : RowForm) (laid : Laid) → laid.sources.items ≡ map sou
     → laid.cells ≡ form.laying.cells → laid.firsts ≡ form.laying.firsts → laid_net laid ≡ row_net form
 net_same form laid sources sinks cells firsts = λ i. network_of (sources i) (sinks i) (arcs_standing (cells i).items (firsts i).items)
 
-pub row_laid : (n : ℕ) (ends : List ℕ) (form : RowForm) (laid : Laid) → IsRowForm n ends form → laid.starts ≡ form.laying.nexts → laid.cells ≡ form.laying.cells
+pub row_laid : (n : ℕ) (ends : List ℕ) (form : RowForm) (laid : Laid) → IsRowForm n ends form → laid.starts ≡ form.laying.starts → laid.ends ≡ form.laying.nexts → laid.cells ≡ form.laying.cells
     → laid.firsts ≡ form.laying.firsts → laid_net laid ≡ row_net form → AreLaid laid
-row_laid n ends form laid h starts cells firsts same =
-    let part : ArePartLaid n ends (arcs_in form) laid.starts.items laid.cells.items laid.firsts.items = rw (starts, cells, firsts) h.laid in
+row_laid n ends form laid h starts nexts cells firsts same =
+    let part : ArePartLaid n ends (arcs_in form) laid.starts.items laid.ends.items laid.cells.items laid.firsts.items = rw (starts, nexts, cells, firsts) h.laid in
     laid_done n ends (arcs_in form) laid part (omega (arith, ap (length {A = ℕ}) h.full, ends_len (arcs_in form)))
     (ap (λ (net : Network). nodes net) same ∙ row_nodes form ∙ h.nodes)
     (subst IsNet (sym same) (row_is_net n ends form h))

@@ -13,12 +13,11 @@ use Rattle.pseudo_bool.specs.Energies.{entry}
 use Rattle.compile_cut.specs.Weights.{weights_value, weights_size, arcs_value, arcs_size}
 use Rattle.compile_cut.proofs.WeightLemmas.{weights_value-add}
 use Rattle.move_energy.specs.Built.{AddsCost}
-use Rattle.counting_sort.proofs.Ranks.{rank-lt}
 use Rattle.sink_distances.specs.declared.rows.Cell.{Cell}
 use Rattle.sink_distances.specs.Rows.{arc_ends}
 use Rattle.sink_distances.specs.Laying.{ArePartLaid}
 use Rattle.sink_distances.proofs.Making.{ends_len}
-use Rattle.sink_distances.proofs.Putting.{next_pair, near_is, far_is, arcs_stand}
+use Rattle.sink_distances.proofs.Putting.{next_pair, near_is, far_is, place_low, arcs_stand}
 use Rattle.strip_nets.specs.declared.material.RowForm.{RowForm}
 use Rattle.strip_nets.specs.RowForms.{arcs_in, form_in, IsFirstPart, IsLaidTo}
 
@@ -28,17 +27,17 @@ next_of ends arcs a b begins =
     ap (λ (k : ℕ). take k ends) (let e : 2 * length arcs + 2 ≡ length (arc_ends arcs ++ a ∷ b ∷ []) = omega (arith, length-append (arc_ends arcs) (a ∷ b ∷ []), ends_len arcs) in e) ∙ begins
 
 -- both ends of the next pair have a place
-pub near_place : (n a b : ℕ) (ends : List ℕ) (arcs : List Arc) (nexts : List ℕ) (cells : List Cell) (firsts : List ℕ) → ArePartLaid n ends arcs nexts cells firsts
-    → take (2 * length arcs + 2) ends ≡ arc_ends arcs ++ a ∷ b ∷ [] → a < n → slice_index nexts (a + 1) < length cells
-near_place n a b ends arcs nexts cells firsts h next l =
+pub near_place : (n a b : ℕ) (ends : List ℕ) (arcs : List Arc) (starts nexts : List ℕ) (cells : List Cell) (firsts : List ℕ) → ArePartLaid n ends arcs starts nexts cells firsts
+    → take (2 * length arcs + 2) ends ≡ arc_ends arcs ++ a ∷ b ∷ [] → a < n → slice_index nexts a < length cells
+near_place n a b ends arcs starts nexts cells firsts h next l =
     let p = next_pair ends arcs a b h.begins next in
-    omega (arith, near_is n a b ends arcs nexts cells firsts h p l, rank-lt ends (2 * length arcs) (omega (arith, p.long)), h.cells_len)
+    omega (arith, near_is n a b ends arcs starts nexts cells firsts h p l, place_low n ends arcs starts nexts cells firsts (2 * length arcs) h (omega (arith, p.long)))
 
-pub far_place : (n a b : ℕ) (ends : List ℕ) (arcs : List Arc) (nexts : List ℕ) (cells : List Cell) (firsts : List ℕ) → ArePartLaid n ends arcs nexts cells firsts
-    → take (2 * length arcs + 2) ends ≡ arc_ends arcs ++ a ∷ b ∷ [] → a ≢ b → b < n → slice_index nexts (b + 1) < length cells
-far_place n a b ends arcs nexts cells firsts h next off l =
+pub far_place : (n a b : ℕ) (ends : List ℕ) (arcs : List Arc) (starts nexts : List ℕ) (cells : List Cell) (firsts : List ℕ) → ArePartLaid n ends arcs starts nexts cells firsts
+    → take (2 * length arcs + 2) ends ≡ arc_ends arcs ++ a ∷ b ∷ [] → a ≢ b → b < n → slice_index nexts b < length cells
+far_place n a b ends arcs starts nexts cells firsts h next off l =
     let p = next_pair ends arcs a b h.begins next in
-    omega (arith, far_is n a b ends arcs nexts cells firsts h p off l, rank-lt ends (2 * length arcs + 1) p.long, h.cells_len)
+    omega (arith, far_is n a b ends arcs starts nexts cells firsts h p off l, place_low n ends arcs starts nexts cells firsts (2 * length arcs + 1) h p.long)
 
 -- how many pairs there are at most
 pub few_firsts : (n : ℕ) (ends : List ℕ) (form : RowForm) → IsLaidTo n ends form → 2 * length form.laying.firsts.items ≤ length ends
@@ -60,18 +59,18 @@ one_arc n arc h zero d l = h
 one_arc n arc h (suc k) d l = absurd (omega (arith, l))
 
 pub saving_laid : (n a b s : ℕ) (ends : List ℕ) (old new : RowForm) → IsLaidTo n ends old → s ≤ 20000000 → a < n → b < n
-    → ArePartLaid n ends (arcs_in old ++ record { from = a; to = b; capacity = s } ∷ []) new.laying.nexts.items new.laying.cells.items new.laying.firsts.items
+    → ArePartLaid n ends (arcs_in old ++ record { from = a; to = b; capacity = s } ∷ []) new.laying.starts.items new.laying.nexts.items new.laying.cells.items new.laying.firsts.items
     → vec_len new.weights ≡ vec_len old.weights → new.weights.items ≡ set old.weights.items b (entry old.weights.items b -ℤ pos s)
     → IsLaidTo n ends new
 saving_laid n a b s ends old new h small la l part len less =
     let arc : Arc = record { from = a; to = b; capacity = s } in
-    let same = arcs_stand n ends (arcs_in old ++ arc ∷ []) new.laying.nexts.items new.laying.cells.items new.laying.firsts.items part in
+    let same = arcs_stand n ends (arcs_in old ++ arc ∷ []) new.laying.starts.items new.laying.nexts.items new.laying.cells.items new.laying.firsts.items part in
     let many : length new.laying.firsts.items ≡ length old.laying.firsts.items + 1 = omega (arith, part.firsts_len, h.laid.firsts_len, length-append (arcs_in old) (arc ∷ [])) in
     let W : List ℤ → Type 0 = λ ws. weights_size ws ≤ 20000000 * length new.laying.firsts.items in
     let A : List Arc → Type 0 = λ xs. arcs_size xs ≤ 20000000 * length new.laying.firsts.items in
     record {
       nodes = len ∙ h.nodes;
-      laid = subst (λ (xs : List Arc). ArePartLaid n ends xs new.laying.nexts.items new.laying.cells.items new.laying.firsts.items) (sym same) part;
+      laid = subst (λ (xs : List Arc). ArePartLaid n ends xs new.laying.starts.items new.laying.nexts.items new.laying.cells.items new.laying.firsts.items) (sym same) part;
       arcs_are = subst (All (IsArc n)) (sym same) (All-append (IsArc n) (arcs_in old) (arc ∷ []) h.arcs_are (one_arc n arc (record { from = la; to = l })));
       weights = subst W (sym less) (omega (arith, many, h.weights, small, size_less old.weights.items b s (omega (arith, l, h.nodes, old.weights.ok.0))));
       arcs = subst A (sym same) (omega (arith, many, h.arcs, small, arcs_more (arcs_in old) arc));
@@ -82,11 +81,11 @@ ends_more [] arc = refl
 ends_more (x ∷ arcs) arc = ap (λ (xs : List ℕ). x.from ∷ x.to ∷ xs) (ends_more arcs arc)
 
 pub saving_ends : (n a b s : ℕ) (ends : List ℕ) (old new : RowForm)
-    → ArePartLaid n ends (arcs_in old ++ record { from = a; to = b; capacity = s } ∷ []) new.laying.nexts.items new.laying.cells.items new.laying.firsts.items
+    → ArePartLaid n ends (arcs_in old ++ record { from = a; to = b; capacity = s } ∷ []) new.laying.starts.items new.laying.nexts.items new.laying.cells.items new.laying.firsts.items
     → arc_ends (arcs_in new) ≡ arc_ends (arcs_in old) ++ a ∷ b ∷ []
 saving_ends n a b s ends old new part =
     let arc : Arc = record { from = a; to = b; capacity = s } in
-    ap arc_ends (arcs_stand n ends (arcs_in old ++ arc ∷ []) new.laying.nexts.items new.laying.cells.items new.laying.firsts.items part) ∙ ends_more (arcs_in old) arc
+    ap arc_ends (arcs_stand n ends (arcs_in old ++ arc ∷ []) new.laying.starts.items new.laying.nexts.items new.laying.cells.items new.laying.firsts.items part) ∙ ends_more (arcs_in old) arc
 
 saved : (x y : Bool) (s : ℕ) → int_counted y (pos 0 -ℤ pos s) +ℤ pos (count_if (y && not x) s) +ℤ pos s ≡ pos (count_if (not (x && y)) s)
 saved true true s = omega (arith, ints)
@@ -98,12 +97,12 @@ less_is : (w : ℤ) (s : ℕ) → w -ℤ pos s ≡ w +ℤ (pos 0 -ℤ pos s)
 less_is w s = omega (arith, ints)
 
 pub saving_costs : (n a b s : ℕ) (ends : List ℕ) (old new : RowForm) → IsLaidTo n ends old → b < n
-    → ArePartLaid n ends (arcs_in old ++ record { from = a; to = b; capacity = s } ∷ []) new.laying.nexts.items new.laying.cells.items new.laying.firsts.items
+    → ArePartLaid n ends (arcs_in old ++ record { from = a; to = b; capacity = s } ∷ []) new.laying.starts.items new.laying.nexts.items new.laying.cells.items new.laying.firsts.items
     → new.weights.items ≡ set old.weights.items b (entry old.weights.items b -ℤ pos s)
     → AddsCost (form_in old) (form_in new) (λ x. count_if (not (x a && x b)) s)
 saving_costs n a b s ends old new h l part less =
     let arc : Arc = record { from = a; to = b; capacity = s } in
-    let same = arcs_stand n ends (arcs_in old ++ arc ∷ []) new.laying.nexts.items new.laying.cells.items new.laying.firsts.items part in
+    let same = arcs_stand n ends (arcs_in old ++ arc ∷ []) new.laying.starts.items new.laying.nexts.items new.laying.cells.items new.laying.firsts.items part in
     record {
       rest = pos s;
       value = λ x.

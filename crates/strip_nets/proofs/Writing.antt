@@ -3,7 +3,7 @@ use Rattle.std.proofs.Common.{◌≡◌, ℕ, zero, suc, ◌+◌, ◌*◌, ◌<�
 use Rattle.std.proofs.lemmas.List.{take_more, get_or-map, length-map}
 use Rattle.std.proofs.lemmas.List.Elements.{All-append}
 use Rattle.sums.specs.Sums.{count_if}
-use Rattle.counting_sort.proofs.Ranks.{rank-lt}
+use Rattle.sink_distances.proofs.Putting.{place_low}
 use Rattle.flow_network.specs.declared.arc.Arc.{Arc}
 use Rattle.flow_network.specs.Cut.{enters, IsArc}
 use Rattle.sink_distances.specs.Laid.{arc_standing, opposite_in}
@@ -26,7 +26,9 @@ pub first_low : (n : ℕ) (ends : List ℕ) (form : RowForm) (k : ℕ) → IsRow
     → slice_index form.laying.firsts.items k < length form.laying.cells.items
 first_low n ends form k h l =
     let less : k < length (arcs_in form) = omega (arith, l, h.laid.firsts_len) in
-    omega (arith, (h.laid.each k less).first, rank-lt ends (2 * k) (omega (arith, less, ap (length {A = ℕ}) h.full, ends_len (arcs_in form))), h.laid.cells_len)
+    let f = form.laying in
+    let low = place_low n ends (arcs_in form) f.starts.items f.nexts.items f.cells.items f.firsts.items (2 * k) h.laid (omega (arith, less, ap (length {A = ℕ}) h.full, ends_len (arcs_in form))) in
+    omega (arith, (h.laid.each k less).first, low)
 
 pub second_low : (n : ℕ) (ends : List ℕ) (form : RowForm) (k : ℕ) → IsRowForm n ends form → k < length form.laying.firsts.items
     → opposite_in form.laying.cells.items (slice_index form.laying.firsts.items k) < length form.laying.cells.items
@@ -34,7 +36,9 @@ second_low n ends form k h l =
     let less : k < length (arcs_in form) = omega (arith, l, h.laid.firsts_len) in
     let s = h.laid.each k less in
     let at = ap (λ (c : Cell). c.opposite) (ap (cell_in form.laying.cells.items) s.first ∙ s.forth) in
-    omega (arith, at, rank-lt ends (2 * k + 1) (omega (arith, less, ap (length {A = ℕ}) h.full, ends_len (arcs_in form))), h.laid.cells_len)
+    let f = form.laying in
+    let low = place_low n ends (arcs_in form) f.starts.items f.nexts.items f.cells.items f.firsts.items (2 * k + 1) h.laid (omega (arith, less, ap (length {A = ℕ}) h.full, ends_len (arcs_in form))) in
+    omega (arith, at, low)
 
 pub next_arc : (form : RowForm) (k : ℕ) (arc : Arc) → k < length form.laying.firsts.items → arc ≡ arc_standing form.laying.cells.items (slice_index form.laying.firsts.items k)
     → take (k + 1) (arcs_in form) ≡ take k (arcs_in form) ++ arc ∷ []

@@ -50,8 +50,8 @@ IsFirstPart xs all = take (length xs) all ≡ xs
 -- numbers are in their limits
 pub record IsLaidTo (n : ℕ) (ends : List ℕ) (form : RowForm) : Type 0 where
   pub nodes : vec_len form.weights ≡ n
-  pub laid : ArePartLaid n ends (arcs_in form) form.laying.nexts.items form.laying.cells.items
-      form.laying.firsts.items
+  pub laid : ArePartLaid n ends (arcs_in form) form.laying.starts.items form.laying.nexts.items
+      form.laying.cells.items form.laying.firsts.items
   pub arcs_are : All (IsArc n) (arcs_in form)
   pub weights : weights_size form.weights.items ≤ surplus_limit * length form.laying.firsts.items
   pub arcs : arcs_size (arcs_in form) ≤ surplus_limit * length form.laying.firsts.items

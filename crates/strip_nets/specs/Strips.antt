@@ -14,8 +14,8 @@ use Rattle.strip_nets.specs.RowForms.{arcs_in}
 pub record IsRowForm (n : ℕ) (ends : List ℕ) (form : RowForm) : Type 0 where
   pub nodes : vec_len form.weights ≡ n
   pub few : n ≤ site_limit
-  pub laid : ArePartLaid n ends (arcs_in form) form.laying.nexts.items form.laying.cells.items
-      form.laying.firsts.items
+  pub laid : ArePartLaid n ends (arcs_in form) form.laying.starts.items form.laying.nexts.items
+      form.laying.cells.items form.laying.firsts.items
   pub full : arc_ends (arcs_in form) ≡ ends
   pub arcs_are : All (IsArc n) (arcs_in form)
   pub size : weights_size form.weights.items + arcs_size (arcs_in form) ≤ 1000000000000000

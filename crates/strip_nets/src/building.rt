@@ -1,9 +1,8 @@
 //! The form of a strip and its border.
 ghost use Rattle.std.specs.Prelude.{◌≡◌, ◌<◌, ◌≤◌, ◌+◌, ◌+ℤ◌, ℕ, Bool, List, All, pos, length};
-ghost use Rattle.std.specs.Prelude.{vec_len, OnOk, replicate, [], ◌-◌};
+ghost use Rattle.std.specs.Prelude.{vec_len, OnOk, replicate, ◌-◌};
 ghost use Rattle.label_field.specs.Limits.{site_limit};
 ghost use Rattle.compile_cut.specs.Limits.{form_size};
-ghost use Rattle.sink_distances.specs.Laying.{AreEndsCounted};
 ghost use Rattle.strip_nets.specs.RowForms.{form_in};
 ghost use Rattle.compile_cut.specs.Weights.{weights_size, weights_value};
 ghost use Rattle.move_energy.specs.Choices.{AreOpenSites};
@@ -16,7 +15,7 @@ ghost use Rattle.strip_nets.specs.Strips.{IsStripLaid};
 ghost use Rattle.strip_nets.specs.Views.{strip_view};
 
 use crate::material::{Material, RowForm, StripSites};
-use crate::rows::{add_rows, count_rows};
+use crate::rows::{add_rows, begin_rows};
 use std::alloc::AllocError;
 
 /// Numbers the listed sites of a strip in their order, at places that are counted from its first
@@ -41,12 +40,10 @@ fn number_sites(numbers: &mut Vec<u32>, sites: &StripSites) -> Result<(), AllocE
     Ok(())
 }
 
-/// Begins the form of so many nodes, which weigh nothing and of which no pair is counted. Its lists
-/// keep their memory.
+/// Begins the form of so many nodes, which weigh nothing. Its lists keep their memory.
 fn begin_form(form: &mut RowForm, nodes: usize) -> Result<(), AllocError>
-    requires { nodes ≤ site_limit }
     ensures weights { OnOk result (form.new.weights.items ≡ replicate nodes (pos 0)) }
-    ensures begun { OnOk result (AreEndsCounted nodes [] form.new.laying.nexts.items) }
+    ensures rows { OnOk result (length form.new.laying.starts.items ≡ nodes) }
 {
     form.weights.clear();
     form.weights.resize(nodes, 0)?;
@@ -100,8 +97,8 @@ pub(crate) fn build_strip(
 {
     number_sites(numbers, sites)?;
     begin_form(form, sites.opened.len())?;
-    count_rows(material, sites, &mut form.laying.nexts);
-    form.laying.open()?;
+    let total = begin_rows(material, sites, &mut form.laying.starts);
+    form.laying.open(total)?;
     add_rows(material, sites, form, numbers, list, borders)?;
     add_weights(&mut form.weights, list);
     Ok(())

@@ -77,7 +77,8 @@ impl Room {
             return;
         }
         let rows = self.space.take_rows(alloc);
-        self.form.laying.nexts = rows.starts;
+        self.form.laying.starts = rows.starts;
+        self.form.laying.nexts = rows.ends;
         self.form.laying.cells = rows.cells;
     }
 }

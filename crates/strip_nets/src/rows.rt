@@ -20,13 +20,12 @@ ghost use Rattle.site_forms.specs.Numbers.{WhereRead};
 ghost use Rattle.strip_nets.specs.Building.{CanBuild, AreStripSites, view_by};
 ghost use Rattle.strip_nets.specs.Building.{AreStartWeights, AreWeighed};
 ghost use Rattle.strip_nets.specs.Building.{ArePlacesOf, IsStripNumbering};
-ghost use Rattle.sink_distances.specs.Laying.{AreEndsCounted};
+ghost use Rattle.sink_distances.specs.Laying.{AreRowsBegun};
 ghost use Rattle.sink_distances.specs.Rows.{arc_ends};
 ghost use Rattle.compile_cut.specs.Weights.{source_part};
 ghost use Rattle.pseudo_bool.specs.Energies.{entry};
 ghost use Rattle.strip_nets.specs.RowForms.{arcs_in, form_in, IsFirstPart, IsLaidTo};
 ghost use Rattle.strip_nets.specs.Meeting.{is_met, ends_at, ends_met, strip_ends, IsMet};
-ghost use Rattle.strip_nets.specs.Meeting.{inside_degree};
 ghost use Rattle.strip_nets.specs.Building.{counts_in, unsaved_in, unsaved_at};
 ghost use Rattle.strip_nets.specs.Building.{border_of_site, weight_by_now};
 ghost use Rattle.strip_nets.specs.Limits.{borders_limit};
@@ -157,19 +156,6 @@ fn is_met_at(
     is_first_end(&material.form, site, place, head)
 }
 
-/// One for a neighbour that is open and lies in the strip, and else 0. No branch is taken on what
-/// is found: some half of the neighbours are so, in no order.
-#[inline]
-fn one_inside(material: &Material, sites: &StripSites, head: u32) -> u32
-    requires known { head < length material.now.known.now }
-    ensures { result ≡ count_if (inside_of (choice_at material.now.known.now)
-        (range_of sites.now.from sites.now.to) head) 1 }
-{
-    let is_open = material.known[head as usize].is_open();
-    let inside = is_open & (head >= sites.from) & (head < sites.to);
-    u32::from(inside)
-}
-
 /// Whether the pair to a neighbour counts in any of the three ways.
 #[inline]
 fn counts_somewhere(beside: Beside, met: bool) -> bool
@@ -253,39 +239,37 @@ fn met_nodes(
     }
 }
 
-/// How many neighbours of a site are open and in the strip: as many ends of the strip's pairs lie
-/// at its node.
-fn count_inside(material: &Material, sites: &StripSites, places: &Places, site: u32) -> u32
+/// How many neighbours a site has.
+#[inline]
+fn count_neighbours(material: &Material, places: &Places, site: u32) -> u32
     requires can { CanBuild material.now }
     requires places { ArePlacesOf material.now places.now }
     requires site { site < material.now.form.pairs.now.sites }
-    ensures { result ≡ inside_degree material.now sites.now site }
+    ensures { result ≡ degree material.now.form.ends.now site }
 {
-    let mut count = 0u32;
-    for place in row_start(material, places, site)..row_start(material, places, site + 1) {
-        let head = head_beside(material, places, site, place);
-        count += one_inside(material, sites, head);
-    }
-    count
+    row_start(material, places, site + 1) - row_start(material, places, site)
 }
 
-/// Counts the ends of all pairs of a strip by their nodes, which the listed sites have in their
-/// order.
-pub(crate) fn count_rows(material: &Material, sites: &StripSites, counts: &mut Vec<u32>)
+/// Begins the row of each listed site, with room for the pairs to all its neighbours. It answers
+/// how many places all rows have. No neighbour is looked at: in a strip most of them are open.
+pub(crate) fn begin_rows(material: &Material, sites: &StripSites, starts: &mut Vec<u32>) -> u32
     requires can { CanBuild material.now }
     requires opened { AreStripSites material.now sites.now }
-    requires begun { AreEndsCounted (length sites.now.opened.now) [] counts.old.items }
-    ensures { AreEndsCounted (length sites.now.opened.now) (strip_ends material.now sites.now)
-        counts.new.items }
+    requires count { length starts.old.items ≡ length sites.now.opened.now }
+    ensures { AreRowsBegun (length sites.now.opened.now) (strip_ends material.now sites.now)
+        starts.new.items result }
 {
     // Copies of its own: what is written to the lists cannot change them, so they are read once.
     let material = *material;
     let sites = *sites;
     let places = places_of(&material);
+    let mut total = 0u32;
     for index in 0..sites.opened.len() {
         let site = site_at(&material, &sites, index);
-        counts[index + 1] = count_inside(&material, &sites, &places, site);
+        starts[index] = total;
+        total += count_neighbours(&material, &places, site);
     }
+    total
 }
 
 /// Takes an amount off a weight.

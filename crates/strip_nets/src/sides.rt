@@ -29,7 +29,8 @@ fn take_net(alloc: Global, form: &mut RowForm) -> Result<Laid, AllocError>
     let sources = source_capacities(alloc, form.weights.as_slice())?;
     let sinks = sink_capacities(alloc, form.weights.as_slice())?;
     Ok(Laid {
-        starts: replace(&mut form.laying.nexts, Vec::new(alloc)),
+        starts: replace(&mut form.laying.starts, Vec::new(alloc)),
+        ends: replace(&mut form.laying.nexts, Vec::new(alloc)),
         cells: replace(&mut form.laying.cells, Vec::new(alloc)),
         firsts: replace(&mut form.laying.firsts, Vec::new(alloc)),
         sources,

@@ -7,4 +7,5 @@ invariant-row l = record {
   work : IsUnlabelled l.net l.work;
   left : l.left ≡ slice_index l.work.excess.items l.v;
   starts : l.work.rows.starts.items ≡ l.initial.work.rows.starts.items;
+  ends : l.work.rows.ends.items ≡ l.initial.work.rows.ends.items;
 }

@@ -1,4 +1,4 @@
-use Rattle.std.proofs.Common.{arith, inl, inr, ◌≡◌, ◌+◌, slice_index}
+use Rattle.std.proofs.Common.{arith, inl, inr, ◌≡◌, slice_index}
 use Rattle.std.proofs.lemmas.Bool.{cases_lt}
 use Rattle.std.proofs.lemmas.List.{get_or_read}
 use Rattle.plain_cut.proofs.Steps.{steps_more}
@@ -16,8 +16,8 @@ returns-in_ok-stop-2-clause-spent c = λ p place.
     let old = c.args.work.now in
     let first : c.index-first.result.now ≡ slice_index old.rows.starts.items v =
     get_or_read old.rows.starts.items v c.index-first.result.now (omega (arith, c.requires.work.shown.starts_len, c.requires.node)) c.index-first.ensures 0 in
-    let last : c.index-last.result.now ≡ slice_index old.rows.starts.items (v + 1) =
-    get_or_read old.rows.starts.items (v + 1) c.index-last.result.now (omega (arith, c.requires.work.shown.starts_len, c.requires.node)) c.index-last.ensures 0 in
+    let last : c.index-last.result.now ≡ slice_index old.rows.ends.items v =
+    get_or_read old.rows.ends.items v c.index-last.result.now (omega (arith, c.requires.work.shown.ends_len, c.requires.node)) c.index-last.ensures 0 in
     elim (cases_lt p c.min-from.result) [
       | inl before ↦ c.in_ok-stop-2.ensures.spent p (omega (arith, place.0, first)) before
       | inr behind ↦

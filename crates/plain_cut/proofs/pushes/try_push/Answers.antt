@@ -40,7 +40,7 @@ pub returns-then-left-eq0-clause-steps : goal.returns-then-left-eq0-clause-steps
 returns-then-left-eq0-clause-steps c = record { work = c.requires.work; fall = omega arith; lower = omega arith; counted = omega arith; queued = λ limit q. q }
 
 pub returns-then-left-eq0-clause-push : goal.returns-then-left-eq0-clause-push
-returns-then-left-eq0-clause-push c = record { labels = refl; sinks = refl; starts = refl; heads = λ q. refl; excess = omega arith }
+returns-then-left-eq0-clause-push c = record { labels = refl; sinks = refl; starts = refl; ends = refl; heads = λ q. refl; excess = omega arith }
 
 pub returns-then-left-eq0-clause-others : goal.returns-then-left-eq0-clause-others
 returns-then-left-eq0-clause-others c = λ q off place. refl

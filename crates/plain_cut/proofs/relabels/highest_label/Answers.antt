@@ -1,4 +1,4 @@
-use Rattle.std.proofs.Common.{arith, inl, inr, ◌≡◌, ◌+◌, slice_index}
+use Rattle.std.proofs.Common.{arith, inl, inr, ◌≡◌, slice_index}
 use Rattle.std.proofs.lemmas.Bool.{cases_lt}
 use Rattle.std.proofs.lemmas.List.{get_or_read}
 use Rattle.sink_distances.specs.Rows.{IsPlace}
@@ -8,8 +8,8 @@ pub lower-least-requires-clause-place : goal.lower-least-requires-clause-place
 lower-least-requires-clause-place c =
     let first : c.index-p.result.now ≡ slice_index c.args.work.now.rows.starts.items c.args.v =
     get_or_read c.args.work.now.rows.starts.items c.args.v c.index-p.result.now (omega (arith, c.requires.work.shown.starts_len, c.requires.node)) c.index-p.ensures 0 in
-    let last : c.index-p-end.result.now ≡ slice_index c.args.work.now.rows.starts.items (c.args.v + 1) =
-    get_or_read c.args.work.now.rows.starts.items (c.args.v + 1) c.index-p-end.result.now (omega (arith, c.requires.work.shown.starts_len, c.requires.node)) c.index-p-end.ensures 0 in
+    let last : c.index-p-end.result.now ≡ slice_index c.args.work.now.rows.ends.items c.args.v =
+    get_or_read c.args.work.now.rows.ends.items c.args.v c.index-p-end.result.now (omega (arith, c.requires.work.shown.ends_len, c.requires.node)) c.index-p-end.ensures 0 in
     (omega (arith, first, c.row.auto.p), omega (arith, last, c.row-test.true))
 
 pub row-preserved : goal.row-preserved
@@ -18,8 +18,8 @@ row-preserved c =
     let told = c.lower-least.ensures in
     let first : c.index-p.result.now ≡ slice_index c.args.work.now.rows.starts.items c.args.v =
     get_or_read c.args.work.now.rows.starts.items c.args.v c.index-p.result.now (omega (arith, c.requires.work.shown.starts_len, c.requires.node)) c.index-p.ensures 0 in
-    let last : c.index-p-end.result.now ≡ slice_index c.args.work.now.rows.starts.items (c.args.v + 1) =
-    get_or_read c.args.work.now.rows.starts.items (c.args.v + 1) c.index-p-end.result.now (omega (arith, c.requires.work.shown.starts_len, c.requires.node)) c.index-p-end.ensures 0 in
+    let last : c.index-p-end.result.now ≡ slice_index c.args.work.now.rows.ends.items c.args.v =
+    get_or_read c.args.work.now.rows.ends.items c.args.v c.index-p-end.result.now (omega (arith, c.requires.work.shown.ends_len, c.requires.node)) c.index-p-end.ensures 0 in
     let place : IsPlace c.args.work.now.rows c.args.v p = (omega (arith, first, c.row.auto.p), omega (arith, last, c.row-test.true)) in
     record {
       rises = elim told.one [
@@ -37,8 +37,8 @@ row-preserved c =
 
 pub returns : goal.returns
 returns c =
-    let last : c.index-p-end.result.now ≡ slice_index c.args.work.now.rows.starts.items (c.args.v + 1) =
-    get_or_read c.args.work.now.rows.starts.items (c.args.v + 1) c.index-p-end.result.now (omega (arith, c.requires.work.shown.starts_len, c.requires.node)) c.index-p-end.ensures 0 in
+    let last : c.index-p-end.result.now ≡ slice_index c.args.work.now.rows.ends.items c.args.v =
+    get_or_read c.args.work.now.rows.ends.items c.args.v c.index-p-end.result.now (omega (arith, c.requires.work.shown.ends_len, c.requires.node)) c.index-p-end.ensures 0 in
     record {
       rises = c.row.invariant.rises;
       lowest = record {

@@ -7,15 +7,6 @@ use Rattle.flow_network.proofs.Given.{length-given}
 use Rattle.plain_cut.proofs.Solving.{solved_certified}
 use Rattle.plain_cut.proofs.solver.answer_of.Goals as goal
 
-pub carried_flows-requires-clause-firsts : goal.carried_flows-requires-clause-firsts
-carried_flows-requires-clause-firsts c = c.requires.firsts ∙ sym c.requires.work.shown.firsts
-
-pub carried_flows-requires-clause-first : goal.carried_flows-requires-clause-first
-carried_flows-requires-clause-first c = λ k l. (c.requires.work.shown.arcs k (omega (arith, l, ap (length {A = ℕ}) (c.requires.firsts ∙ sym c.requires.work.shown.firsts), c.requires.work.shown.firsts_len))).first
-
-pub carried_flows-requires-clause-second : goal.carried_flows-requires-clause-second
-carried_flows-requires-clause-second c = λ k l. (c.requires.work.shown.arcs k (omega (arith, l, ap (length {A = ℕ}) (c.requires.firsts ∙ sym c.requires.work.shown.firsts), c.requires.work.shown.firsts_len))).second
-
 pub returns : goal.returns
 returns c =
     let net = c.args.net.now in

@@ -5,11 +5,9 @@ use Rattle.std.proofs.lemmas.List.{get_or-map}
 use Rattle.persistency.specs.Borders.{border_at, range_of}
 use Rattle.label_energies.specs.Energies.{labelling}
 use Rattle.move_energy.specs.Choices.{choice_at}
-use Rattle.strip_nets.specs.Building.{IsStripNumbering}
 use Rattle.strip_nets.proofs.Sizes.{sites_few, strip_ends_few}
 use Rattle.strip_nets.proofs.Laying.{IsLaid, rows_stand}
 use Rattle.strip_nets.proofs.Numbering.{listed_from, listed_to}
-use Rattle.sink_distances.proofs.Putting.{counts_sum}
 use Rattle.strip_nets.specs.declared.material.RowForm.{RowForm}
 use Rattle.strip_nets.specs.Meeting.{strip_ends}
 use Rattle.strip_nets.specs.RowForms.{form_in}
@@ -31,23 +29,8 @@ number_sites-requires-clause-to c =
     let a = c.args in
     listed_to a.material.now.known.now a.sites.now.from a.sites.now.to a.sites.now.opened.now c.requires.opened
 
-pub begin_form-requires : goal.begin_form-requires
-begin_form-requires c =
-    sites_few c.args.material.now c.args.sites.now c.requires.can c.requires.opened
-
 pub returns-clause-numbering : goal.returns-clause-numbering
 returns-clause-numbering c = c.in_ok-number_sites.ensures.each c.args.material.now.known.now c.requires.opened
-
-pub open-requires-clause-small : goal.open-requires-clause-small
-open-requires-clause-small c =
-    let a = c.args in
-    let counted = c.count_rows.ensures in
-    omega (
-      arith,
-      counts_sum (length a.sites.now.opened.now) (strip_ends a.material.now a.sites.now) c.count_rows.new.counts.items counted,
-      counted.all,
-      strip_ends_few a.material.now a.sites.now c.requires.can c.requires.opened,
-    )
 
 pub add_rows-requires-clause-laid : goal.add_rows-requires-clause-laid
 add_rows-requires-clause-laid c =
@@ -55,7 +38,7 @@ add_rows-requires-clause-laid c =
     let n = length a.sites.now.opened.now in
     let ends = strip_ends a.material.now a.sites.now in
     let form : RowForm = record { weights = c.begin_form.new.form.weights; laying = c.open.new.self } in
-    begun_laid n ends form c.in_ok-begin_form.ensures.weights (c.in_ok-open.ensures n ends c.count_rows.ensures)
+    begun_laid n ends form c.in_ok-begin_form.ensures.weights (c.in_ok-open.ensures n ends c.begin_rows-total.ensures)
 
 pub add_rows-requires-clause-none : goal.add_rows-requires-clause-none
 add_rows-requires-clause-none c =
@@ -63,7 +46,7 @@ add_rows-requires-clause-none c =
     let n = length a.sites.now.opened.now in
     let ends = strip_ends a.material.now a.sites.now in
     let form : RowForm = record { weights = c.begin_form.new.form.weights; laying = c.open.new.self } in
-    begun_ends n ends form (c.in_ok-open.ensures n ends c.count_rows.ensures)
+    begun_ends n ends form (c.in_ok-open.ensures n ends c.begin_rows-total.ensures)
 
 pub add_weights-requires-clause-room : goal.add_weights-requires-clause-room
 add_weights-requires-clause-room c =
@@ -105,7 +88,7 @@ returns-clause-built c = λ m move read weighs.
     let ends = strip_ends a.material.now a.sites.now in
     let rows = c.in_ok-add_rows.ensures in
     let first : RowForm = record { weights = c.begin_form.new.form.weights; laying = c.open.new.self } in
-    let part = c.in_ok-open.ensures n ends c.count_rows.ensures in
+    let part = c.in_ok-open.ensures n ends c.begin_rows-total.ensures in
     let none = begun_constant n ends first c.in_ok-begin_form.ensures.weights part in
     let begun = begun_laid n ends first c.in_ok-begin_form.ensures.weights part in
     let old = form_in c.add_rows.new.form in

@@ -15,15 +15,15 @@ use Rattle.strip_nets.proofs.rows.put_saving.Goals as goal
 pub put-requires-clause-near : goal.put-requires-clause-near
 put-requires-clause-near c =
     let r = c.requires.laid in
-    near_place r.0 c.args.first c.args.second r.1 (arcs_in c.args.form.now) _ _ _ r.2.laid (next_of r.1 (arcs_in c.args.form.now) c.args.first c.args.second r.3) r.4
+    near_place r.0 c.args.first c.args.second r.1 (arcs_in c.args.form.now) _ _ _ _ r.2.laid (next_of r.1 (arcs_in c.args.form.now) c.args.first c.args.second r.3) r.4
 
 pub put-requires-clause-far : goal.put-requires-clause-far
 put-requires-clause-far c =
     let r = c.requires.laid in
-    far_place r.0 c.args.first c.args.second r.1 (arcs_in c.args.form.now) _ _ _ r.2.laid (next_of r.1 (arcs_in c.args.form.now) c.args.first c.args.second r.3) c.requires.apart r.5
+    far_place r.0 c.args.first c.args.second r.1 (arcs_in c.args.form.now) _ _ _ _ r.2.laid (next_of r.1 (arcs_in c.args.form.now) c.args.first c.args.second r.3) c.requires.apart r.5
 
 pub put-requires-clause-few : goal.put-requires-clause-few
-put-requires-clause-few c = omega (arith, c.requires.laid.2.laid.cells_len, c.requires.laid.6)
+put-requires-clause-few c = c.requires.laid.2.laid.rows.few
 
 pub returns-clause-laid : goal.returns-clause-laid
 returns-clause-laid c = λ n ends laid begins.
