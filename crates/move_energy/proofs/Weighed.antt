@@ -1,11 +1,11 @@
 -- The form of the weights of the open sites, and what it stands for once the pairs' savings are
 -- added.
-use Rattle.std.proofs.Common.{◌≡◌, ◌==◌, ℕ, zero, suc, ◌+◌, ◌-◌, ◌<◌, ◌≤◌, Bool, true, false, cond, List, [], ◌∷◌, ◌++◌, length, vec_len, take, All, map, sum_by, ℤ, pos, ◌+ℤ◌, ◌-ℤ◌, unsigned_abs, w64, to_z, of_z, lit<, refl, sym, ap, ◌∙◌, subst, add-one, arith}
+use Rattle.std.proofs.Common.{◌≡◌, ◌==◌, ℕ, zero, suc, ◌+◌, ◌-◌, ◌<◌, ◌≤◌, Bool, true, false, cond, List, [], ◌∷◌, ◌++◌, length, vec_len, All, map, sum_by, ℤ, pos, ◌+ℤ◌, ◌-ℤ◌, unsigned_abs, w64, to_z, of_z, lit<, refl, sym, ap, ◌∙◌, subst, arith}
 use Rattle.std.specs.Prelude.{◌&&◌, ◌||◌, not}
 use Rattle.std.proofs.lemmas.Int.{ints, to_z-of_z}
-use Rattle.std.proofs.lemmas.List.{length-append, append-nil, map-append, take_all}
-use Rattle.std.proofs.lemmas.List.Sums.{sum_by-cons, sum_by_push, sum_by_more}
-use Rattle.sums.specs.Sums.{count_if}
+use Rattle.std.proofs.lemmas.List.{length-append, append-nil, map-append}
+use Rattle.std.proofs.lemmas.List.Sums.{sum_by-cons, sum_by_push}
+use Rattle.sums.specs.Sums.{sum_below, count_if}
 use Rattle.sums.specs.IntegerSums.{int_sum_below, int_counted}
 use Rattle.sums.proofs.IntegerSumLemmas.{int_sum_below-same, within_fits}
 use Rattle.flow_network.specs.declared.arc.Arc.{Arc}
@@ -57,29 +57,16 @@ weights_sum choices weights x (suc n) =
     let place = ap (λ i. int_counted (is_open (choice_at choices n) && x i) (weight_at weights n)) (weights_length choices weights n) in
     omega (arith, ints, value_more (choice_at choices n) (open_weights choices weights n) (weight_at weights n) x, place, weights_sum choices weights x n)
 
-size_more : (c : Choice) (xs : List ℤ) (w : ℤ) → weights_size (xs ++ cond (is_open c) (w ∷ []) []) ≤ weights_size xs + unsigned_abs w
-size_more Open xs w = omega (arith, sum_by_push unsigned_abs xs w)
-size_more DecidedZero xs w = omega (arith, ap (λ (ys : List ℤ). weights_size ys) (append-nil xs))
-size_more DecidedOne xs w = omega (arith, ap (λ (ys : List ℤ). weights_size ys) (append-nil xs))
+size_more : (b : Bool) (xs : List ℤ) (w : ℤ) → weights_size (xs ++ cond b (w ∷ []) []) ≡ weights_size xs + count_if b (unsigned_abs w)
+size_more true xs w = sum_by_push unsigned_abs xs w
+size_more false xs w = (let e = ap (λ (ys : List ℤ). weights_size ys) (append-nil xs) in omega (arith, e))
 
-taken_size : (choices : List Choice) (weights : List ℤ) (n : ℕ) → n ≤ length weights
-    → weights_size (open_weights choices weights n) ≤ weights_size (take n weights)
-taken_size choices weights zero l = omega arith
-taken_size choices weights (suc n) l =
-    let next = sum_by_more unsigned_abs weights n (pos 0) (omega (arith, l)) in
-    let same = ap (λ k. weights_size (take k weights)) (add-one n) in
-    omega (
-      arith,
-      size_more (choice_at choices n) (open_weights choices weights n) (weight_at weights n),
-      taken_size choices weights n (omega (arith, l)),
-      next,
-      same,
-    )
-
-pub open_size : (choices : List Choice) (weights : List ℤ) (n : ℕ) → length weights ≡ n → weights_size (open_weights choices weights n) ≤ weights_size weights
-open_size choices weights n size =
-    let all = ap (λ (ws : List ℤ). weights_size ws) (take_all n weights (omega (arith, size))) in
-    omega (arith, all, taken_size choices weights n (omega (arith, size)))
+-- together, without their signs
+pub open_size : (choices : List Choice) (weights : List ℤ) (n : ℕ)
+    → weights_size (open_weights choices weights n) ≡ sum_below n (λ u. count_if (is_open (choice_at choices u)) (unsigned_abs (weight_at weights u)))
+open_size choices weights zero = refl
+open_size choices weights (suc n) =
+    omega (arith, size_more (open_at choices n) (open_weights choices weights n) (weight_at weights n), open_size choices weights n)
 
 -- ---- the form of the weights
 

@@ -24,7 +24,7 @@ use Rattle.move_energy.specs.Choices.{StandsFor}
 use Rattle.move_energy.specs.Problems.{IsPrepareRefusal}
 use Rattle.move_energy.specs.Limits.{weights_limit}
 use Rattle.move_energy.specs.OpenMoves.{IsAllowedFrom}
-use Rattle.move_energy.specs.Weights.{AreWeights}
+use Rattle.move_energy.specs.Weights.{AreWeights, open_weights}
 use Rattle.label_field.specs.PairLists.{PairList}
 use Rattle.move_energy.specs.BySite.{AreBySite, IsListing}
 use Rattle.site_bounds.specs.Listed.{AreListed, changes}
@@ -76,11 +76,13 @@ abbrev pub IsRestWhereListed : Move → List ℕ → Workspace → Type 0
 IsRestWhereListed move f space =
     IsTrue space.deciding.lists.listed → IsRestListed move f space
 
--- the workspace has a weight for each site, and together they are in their limit
+-- the workspace has a number for each site, and those of the open ones, which are their weights,
+-- are in their limit together
 abbrev pub AreWeightsSized : ℕ → Workspace → Type 0
 AreWeightsSized n space =
     (length space.deciding.bounds.greatest.items ≡ n)
-    × (weights_size space.deciding.bounds.greatest.items ≤ weights_limit)
+    × (weights_size (open_weights space.built.variables.choices.items
+    space.deciding.bounds.greatest.items n) ≤ weights_limit)
 
 -- the weights of the open sites are those of the partly decided move from f
 abbrev pub KnowsWeights : Instance → Move → List ℕ → Workspace → Type 0

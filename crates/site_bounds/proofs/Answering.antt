@@ -18,13 +18,13 @@ use Rattle.move_energy.specs.Assignments.{set_bit, rise}
 use Rattle.site_bounds.specs.Decisions.{with_decisions}
 use Rattle.move_energy.specs.MoveValues.{move_value, data_rise, pair_rise}
 use Rattle.move_energy.specs.Ends.{AvoidsSite, HasNoneBefore}
-use Rattle.site_bounds.specs.Working.{bound_at, open_ends, IsSummed, IsMarked, IsAnswered, TellsValue, AreWaiting, AreWaitingBut, ArePartlyDecided}
+use Rattle.site_bounds.specs.Working.{bound_at, open_ends, greatest_total, IsSummed, IsWithinRange, IsMarked, IsAnswered, TellsValue, AreWaiting, AreWaitingBut, ArePartlyDecided}
 use Rattle.move_energy.proofs.Assignments.{set_at, set_other}
 use Rattle.move_energy.proofs.Rising.{pair_rise-none}
 use Rattle.site_bounds.proofs.Seeing.{pair_rise-same}
 use Rattle.site_bounds.proofs.Spreading.{pair_in, rise_by_places, passes_of}
 use Rattle.site_bounds.proofs.Left.{left_less}
-use Rattle.site_bounds.proofs.Ranges.{called_waits, decided_waits, summed_same, marked_summed}
+use Rattle.site_bounds.proofs.Ranges.{called_waits, decided_waits, summed_same, marked_summed, range_same, marked_range, total_same, marked_total}
 use Rattle.site_bounds.proofs.Places.{partly_same}
 
 -- a pair's rise does not depend on a site that has no pair with this one
@@ -84,9 +84,17 @@ marked_decides m move f ends site value old new are b inside none opened tells m
 
 -- ---- the two ways
 
-pub answered_bounds : (site : ℕ) (beside : Bool) (old new : Bounds) → IsAnswered site beside old new → (new.least ≡ old.least) × (new.greatest ≡ old.greatest) × (new.summed ≡ old.summed)
-answered_bounds site beside old new (inl calls) = (calls.2, calls.3, calls.4)
-answered_bounds site beside old new (inr marks) = (marks.1.least, marks.1.greatest, marks.1.summed)
+pub answered_count : (site : ℕ) (beside : Bool) (old new : Bounds) → IsAnswered site beside old new → new.summed ≡ old.summed
+answered_count site beside old new (inl calls) = calls.4
+answered_count site beside old new (inr marks) = marks.1.summed
+
+pub answered_range : (site most : ℕ) (beside : Bool) (old new : Bounds) → IsAnswered site beside old new → IsWithinRange most old → IsWithinRange most new
+answered_range site most beside old new (inl calls) within = range_same old new most calls.1 calls.4 calls.2 calls.3 within
+answered_range site most beside old new (inr marks) within = marked_range site most marks.0 old new marks.1 within
+
+pub answered_total : (site : ℕ) (beside : Bool) (old new : Bounds) → IsAnswered site beside old new → greatest_total new ≤ greatest_total old
+answered_total site beside old new (inl calls) = (let e = total_same old new calls.1 calls.3 calls.4 in omega (arith, e))
+answered_total site beside old new (inr marks) = marked_total site marks.0 old new marks.1
 
 pub answered_summed : (n site : ℕ) (beside : Bool) (old new : Bounds) → IsAnswered site beside old new → IsSummed n old → IsSummed n new
 answered_summed n site beside old new (inl calls) was = summed_same n old new calls.1 calls.2 calls.3 calls.4 was

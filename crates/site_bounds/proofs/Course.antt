@@ -5,10 +5,12 @@ use Rattle.sums.specs.Sums.{count_if}
 use Rattle.sums.proofs.SumLemmas.{sum_below-le-longer}
 use Rattle.label_energies.specs.declared.change.Move.{Move}
 use Rattle.label_energies.specs.Energies.{Instance, labelling}
+use Rattle.compile_cut.specs.Weights.{weights_size}
+use Rattle.move_energy.specs.Weights.{open_weights}
 use Rattle.move_energy.specs.BySite.{neighbours_start, rising_sites, IsListing}
 use Rattle.move_energy.specs.declared.choice.Choice.TheVariants.{Open, Zero, One}
 use Rattle.move_energy.specs.declared.choice.Choice.{Choice}
-use Rattle.move_energy.specs.Choices.{choice_at, is_open}
+use Rattle.move_energy.specs.Choices.{bit_of, choice_at, is_open}
 use Rattle.move_energy.proofs.Listings.{chosen_below, listing_has, listing_place}
 use Rattle.move_energy.proofs.Parts.{starts_rise, starts_within}
 use Rattle.move_energy.proofs.PairEnds.{ends_len}
@@ -17,7 +19,7 @@ use Rattle.site_forms.specs.Numbers.{IsFormOf, IsOverPairs}
 use Rattle.site_bounds.specs.declared.bounds.Bounds.{Bounds}
 use Rattle.site_bounds.specs.Finding.{IsInBudget, total_left, SumsNext, EndsSites, DecidesSites}
 use Rattle.site_bounds.specs.Listed.{CoversOpen}
-use Rattle.site_bounds.specs.Working.{AreUnsummed, AreWaiting, ArePartlyDecided, StayDecided, AreClosed, open_ends}
+use Rattle.site_bounds.specs.Working.{AreUnsummed, IsSummed, AreWaiting, ArePartlyDecided, StayDecided, AreClosed, open_ends}
 use Rattle.site_bounds.proofs.Closed.{same_closed, both_closed}
 use Rattle.site_bounds.proofs.Left.{left_most, starts_climb}
 use Rattle.site_bounds.proofs.Places.{none_waits}
@@ -34,27 +36,38 @@ pub record IsUnderWay (form : SiteForm) (start now : Bounds) : Type 0 where
   pub decided : (m : Instance) (move : Move) → IsFormOf m move form → ArePartlyDecided m move (labelling form.at.now) 0 start
       → ArePartlyDecided m move (labelling form.at.now) now.summed now
 
+-- before any site is summed, its bounds make no difference
+begun_same : (m : Instance) (move : Move) (f : ℕ → ℕ) (old new : Bounds) → new.choices ≡ old.choices → ArePartlyDecided m move f 0 old → ArePartlyDecided m move f 0 new
+begun_same m move f old new cs begun = record {
+  decisions = begun.decisions;
+  passed = begun.passed;
+  shown = λ x p l. begun.shown x p l ∙ ap (λ (v : _). bit_of (choice_at v.items p) (x p)) (sym cs);
+  least = λ u l. absurd (omega (arith, l));
+  greatest = λ u l. absurd (omega (arith, l));
+}
+
 few_ends : (form : SiteForm) (b : Bounds) → IsOverPairs form → open_ends form.ends.now (length form.at.now) b.choices.items ≤ 2 * length form.pairs.now.list
 few_ends form b over =
     let L : ℕ → Type 0 = λ n. open_ends form.ends.now n b.choices.items ≤ 2 * length form.pairs.now.list in
     subst L (sym over.sites) (left_most form.pairs.now form.ends.now b.choices.items over.by_site)
 
--- nothing is summed
-pub way_begins : (form : SiteForm) (b : Bounds) → IsOverPairs form → AreUnsummed (length form.at.now) b → IsUnderWay form b b
-way_begins form b over u =
+-- nothing is summed, and there is room for the bounds
+pub way_begins : (form : SiteForm) (start b : Bounds) → IsOverPairs form → AreUnsummed (length form.at.now) start → IsSummed (length start.choices.items) b
+    → (b.choices ≡ start.choices) × (b.waiting ≡ start.waiting) × (b.summed ≡ start.summed) → IsUnderWay form start b
+way_begins form start b over u sized same =
     let few = few_ends form b over in
+    let S : ℕ → Type 0 = λ n. IsSummed n b in
+    let summed : b.summed ≡ 0 = same.2 ∙ u.unsummed.summed in
+    let none : length b.waiting.items ≡ 0 = ap (λ (v : _). length v.items) same.1 ∙ u.unsummed.none in
     record {
-      within = omega (arith, u.summed);
-      budget = record {
-        sized = record { choices = u.choices; greatest = u.greatest ∙ sym u.least; room = omega (arith, u.least, u.summed); most = omega (arith, u.least) };
-        left = few;
-        range = empty_range _ b u.least u.greatest;
-      };
-      waiting = record { sites = λ i d l. absurd (omega (arith, l, u.none)); each = λ v l. absurd (omega (arith, l, u.summed)) };
-      closed = λ v was. was;
-      none = empty_list b.waiting.items u.none;
-      total = omega (arith, few, total_none b u.greatest);
-      decided = λ m move read begun. (let D : ℕ → Type 0 = λ k. ArePartlyDecided m move (labelling form.at.now) k b in subst D (sym u.summed) begun);
+      within = omega (arith, summed);
+      budget = record { sized = subst S u.choices sized; left = few; range = empty_range _ b summed };
+      waiting = record { sites = λ i d l. absurd (omega (arith, l, none)); each = λ v l. absurd (omega (arith, l, summed)) };
+      closed = same_closed start b same.0;
+      none = empty_list b.waiting.items none;
+      total = omega (arith, few, total_none b summed);
+      decided = λ m move read begun. (let D : ℕ → Type 0 = λ k. ArePartlyDecided m move (labelling form.at.now) k b in
+          subst D (sym summed) (begun_same m move (labelling form.at.now) start b same.0 begun));
     }
 
 -- one site more is summed
@@ -84,7 +97,8 @@ way_ends form start mid new over ends way = record {
   sized = ends.sized;
   total = (let inside : mid.summed ≤ form.pairs.now.sites = omega (arith, way.within, over.sites) in
       let most = starts_within form.pairs.now form.ends.now mid.summed over.by_site inside in
-      omega (arith, ends.total, way.total, inside, most, ends_len form.pairs.now.list, over.list.count, over.list.sites));
+      let all = ap (λ n. weights_size (open_weights new.choices.items new.greatest.items n)) ends.summed in
+      omega (arith, all, ends.total, way.total, inside, most, ends_len form.pairs.now.list, over.list.count, over.list.sites));
   none = none_waits (length form.at.now) new (ap (λ (v : _). v.items) ends.same.0 ∙ way.none) ends.waiting;
   closed = both_closed start mid new way.closed (same_closed mid new ends.same.1);
   decided = λ m move read begun. ends.decided m move read (way.decided m move read begun);

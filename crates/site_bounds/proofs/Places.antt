@@ -1,5 +1,5 @@
 -- The places of a site's part, as the loop over them reads them.
-use Rattle.std.proofs.Common.{◌≡◌, ◌≢◌, ℕ, ◌+◌, ◌-◌, ◌*◌, ◌<◌, ◌≤◌, Bool, List, Some, Contains, Result, Ok, Err, OnOk, [], ◌∷◌, ◌++◌, unsigned_abs, sym, ap, ◌∙◌, inl, inr, subst, arith}
+use Rattle.std.proofs.Common.{◌≡◌, ◌≢◌, ℕ, ◌+◌, ◌-◌, ◌*◌, ◌<◌, ◌≤◌, Bool, List, Some, Contains, Result, Ok, Err, OnOk, [], ◌∷◌, ◌++◌, sym, ap, ◌∙◌, inl, inr, subst, arith}
 use Rattle.std.proofs.lemmas.List.Elements.{All-pop, Contains-push_cases}
 use Rattle.move_energy.specs.declared.by_site.Neighbours.{Neighbours}
 use Rattle.label_field.specs.PairLists.{PairList, IsPairList}
@@ -11,7 +11,7 @@ use Rattle.move_energy.specs.declared.choice.Choice.TheVariants.{Open}
 use Rattle.move_energy.specs.Choices.{bit_of, choice_at}
 use Rattle.site_bounds.specs.declared.bounds.Bounds.{Bounds}
 use Rattle.site_bounds.specs.Decisions.{with_decisions}
-use Rattle.site_bounds.specs.Working.{bound_at, budget_of, IsWithinRange, IsLooking, IsMarked, AreWaiting, AreWaitingBut, ArePartlyDecided, CanDecide}
+use Rattle.site_bounds.specs.Working.{bound_at, budget_of, IsWithinRange, IsLooking, AreWaiting, AreWaitingBut, ArePartlyDecided, CanDecide}
 use Rattle.site_bounds.proofs.Ranges.{range_wider, below_not, tells_same}
 use Rattle.move_energy.proofs.Places.{degree_most}
 
@@ -29,12 +29,6 @@ pub range_enough : (pairs : PairList) (ends : Neighbours) (site place : ℕ) (fi
 range_enough pairs ends site place first now by_site list inside from to range within =
     let most = degree_most pairs ends site by_site inside in
     range_wider _ 1152921504606846976 now (omega (arith, most, from, to, list.count)) (range 576460752303423488 within)
-
-pub range_start : (old new : Bounds) (site : ℕ) (value : Bool) → IsMarked site value old new → (most : ℕ) → IsWithinRange most old → IsWithinRange most new
-range_start old new site value marked most within u =
-    let a = ap (λ (v : _). unsigned_abs (bound_at v.items u)) marked.least in
-    let b = ap (λ (v : _). unsigned_abs (bound_at v.items u)) marked.greatest in
-    (omega (arith, a, (within u).0), omega (arith, b, (within u).1))
 
 -- the loop's facts of a problem
 pub site_free : (m : Instance) (move : Move) (f : ℕ → ℕ) (site : ℕ) (b : Bool) (old : Bounds) (n : ℕ) → (decided : ArePartlyDecided m move f n old) → site < m.sites → choice_at old.choices.items site ≡ Open

@@ -36,7 +36,7 @@ partly_first m move f b most undecided =
     }
 
 pub unsummed_first : (move : Move) (f : List ℕ) (b : Bounds) → AreUndecided move f b → AreUnsummed (length f) b
-unsummed_first move f b undecided = record { choices = undecided.opened.count; least = undecided.least; greatest = undecided.greatest; summed = undecided.summed; none = undecided.none }
+unsummed_first move f b undecided = record { choices = undecided.opened.count; unsummed = undecided.unsummed }
 
 -- the choices at the beginning are those of decisions that passed
 pub chosen_first : (m : Instance) (move : Move) (f : List ℕ) (b : Bounds) → m.sites ≤ length f → AreUndecided move f b → ArePassedChoices m move (labelling f) (choice_at b.choices.items)

@@ -9,6 +9,7 @@ use Rattle.move_energy.specs.declared.choice.Choice.TheVariants.{Open}
 use Rattle.move_energy.specs.declared.error.BuildError.{BuildError}
 use Rattle.move_energy.specs.Choices.{bit_of, choice_at}
 use Rattle.move_energy.specs.Limits.{weights_limit}
+use Rattle.move_energy.specs.Weights.{open_weights}
 use Rattle.move_energy.specs.Problems.{IsPrepareRefusal}
 use Rattle.site_bounds.specs.declared.sites.Deciding.{Deciding}
 use Rattle.site_bounds.specs.Decisions.{Decision, with_decisions, Passes, HavePassed}
@@ -33,8 +34,9 @@ IsDecidedMove m move f choices (Ok done) =
 IsDecidedMove m move f choices (Err e) = IsPrepareRefusal m move (labelling f) e
 
 -- what deciding leaves where it refuses nothing: a choice and two bounds of each site, the greatest
--- ones in their limit together, and the lists of the sites
+-- ones of the open sites in their limit together, and the lists of the sites
 pub record KnowsSites (move : Move) (f : List ℕ) (room : Deciding) : Type 0 where
   pub sized : AreOfSites (length f) room.bounds
-  pub small : weights_size room.bounds.greatest.items ≤ weights_limit
+  pub small : weights_size (open_weights room.bounds.choices.items room.bounds.greatest.items
+      (length f)) ≤ weights_limit
   pub listed : AreListed move (labelling f) room.bounds.choices.items room.lists

@@ -4,12 +4,13 @@ use Rattle.label_energies.specs.declared.change.Move.{Move}
 use Rattle.label_energies.specs.Energies.{labelling}
 use Rattle.cost_store.specs.declared.problem.Problem.{Problem}
 use Rattle.cost_store.specs.Posed.{Closure, IsPosed, IsAsked, WhereMeant}
+use Rattle.compile_cut.specs.Weights.{weights_size}
 use Rattle.move_energy.specs.declared.by_site.Neighbours.{Neighbours}
 use Rattle.move_energy.specs.BySite.{AreBySite}
 use Rattle.move_energy.specs.Choices.{choice_at}
 use Rattle.move_energy.specs.declared.choice.Choice.TheVariants.{Open}
 use Rattle.move_energy.specs.Limits.{surplus_limit, weights_limit}
-use Rattle.move_energy.specs.Weights.{AreWeights}
+use Rattle.move_energy.specs.Weights.{AreWeights, open_weights}
 use Rattle.move_energy.specs.Ends.{rise_limit}
 use Rattle.site_forms.specs.declared.numbers.SiteForm.{SiteForm}
 use Rattle.form_lists.specs.Lists.{AreFormLists, IsReadOf}
@@ -62,6 +63,7 @@ pub record SumsNext (form : SiteForm) (site : ℕ) (old new : Bounds) : Type 0 w
 -- all sites are passed, of which those behind the last summed one are closed
 pub record EndsSites (form : SiteForm) (old new : Bounds) : Type 0 where
   pub sized : AreOfSites (length form.at.now) new
+  pub summed : new.summed ≡ length form.at.now
   pub waiting : AreWaiting (length form.at.now) new
   pub same : (new.waiting ≡ old.waiting) × (new.choices ≡ old.choices)
   pub total : greatest_total new ≡ greatest_total old
@@ -71,7 +73,8 @@ pub record EndsSites (form : SiteForm) (old new : Bounds) : Type 0 where
 -- all sites are summed or closed, and none that is left can be told
 pub record DecidesSites (form : SiteForm) (old new : Bounds) : Type 0 where
   pub sized : AreOfSites (length form.at.now) new
-  pub total : greatest_total new ≤ weights_limit
+  pub total : weights_size (open_weights new.choices.items new.greatest.items
+      (length form.at.now)) ≤ weights_limit
   pub none : (u : ℕ) → u < length form.at.now → choice_at new.choices.items u ≡ Open
       → ¬ CanDecide new u
   pub closed : StayDecided old new

@@ -10,8 +10,8 @@ pub use Rattle.site_bounds.specs.Parts.{ArePassedChoices, site_weight, KeepsKnow
 pub use Rattle.site_bounds.specs.Parts.{IsSwept}
 pub use Rattle.site_bounds.specs.Working.{CanDecide, AreOfNoSites, HasBounds, summed_count}
 pub use Rattle.site_bounds.specs.Working.{AreOfSites}
-pub use Rattle.site_bounds.specs.Working.{IsAnswered, AddsBounds, AreClosed, MakesRoom}
-pub use Rattle.site_bounds.specs.Working.{PassesClosed}
+pub use Rattle.site_bounds.specs.Working.{IsAnswered, AddsBounds, AreClosed, PassesClosed}
+pub use Rattle.site_bounds.specs.Working.{IsBoundKnown, IsNoneSummed}
 pub use Rattle.site_bounds.specs.Working.{AreUndecided, AreUnsummed, AreWaiting, ArePartlyDecided}
 pub use Rattle.site_bounds.specs.Working.{greatest_total, TellsValue, IsMarked, IsSummed}
 pub use Rattle.site_bounds.specs.Working.{IsWithinRange, AreWaitingBut, SeesPair, IsLooking, Shifts}

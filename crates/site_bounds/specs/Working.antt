@@ -1,9 +1,10 @@
 -- What is kept while sites are decided.
 use Rattle.std.specs.Prelude.{◌≡◌, ◌≢◌, ◌⊎◌, ℕ, ◌+◌, ◌-◌, ◌*◌, ◌<◌, ◌≤◌, Bool, true, false, List}
-use Rattle.std.specs.Prelude.{◌++◌, length, replicate, slice_index_or, slice_set}
+use Rattle.std.specs.Prelude.{length, slice_index_or, slice_set}
 use Rattle.std.specs.Prelude.{unsigned_abs, ◌^◌, ℤ, pos, ◌+ℤ◌, ◌-ℤ◌, ◌≤ℤ◌, ◌<ℤ◌}
-use Rattle.std.specs.List.{All, Contains, sum_by}
+use Rattle.std.specs.List.{All, Contains}
 use Rattle.sums.specs.Sums.{sum_below, count_if}
+use Rattle.compile_cut.specs.Weights.{weights_size}
 use Rattle.move_energy.specs.declared.by_site.Neighbours.{Neighbours}
 use Rattle.label_field.specs.declared.pair.Pair.{Pair}
 use Rattle.label_energies.specs.declared.change.Move.{Move}
@@ -13,6 +14,7 @@ use Rattle.move_energy.specs.declared.choice.Choice.TheVariants.{Open}
 use Rattle.move_energy.specs.BySite.{degree}
 use Rattle.move_energy.specs.Choices.{bit_of, choice_at, is_open, AreAllOpen}
 use Rattle.move_energy.specs.Limits.{surplus_limit}
+use Rattle.move_energy.specs.Weights.{open_weights}
 use Rattle.move_energy.specs.Assignments.{set_bit, rise}
 use Rattle.move_energy.specs.MoveValues.{move_value, pair_rise}
 use Rattle.site_bounds.specs.Limits.{bound_limit}
@@ -63,51 +65,51 @@ CanDecide b u = TellsValue b u false ⊎ TellsValue b u true
 abbrev pub summed_count : Bounds → ℕ
 summed_count b = b.summed
 
--- a choice of each of n sites, and two bounds of each that was summed
-pub record IsSummed (n : ℕ) (b : Bounds) : Type 0 where
-  pub choices : length b.choices.items ≡ n
-  pub greatest : length b.greatest.items ≡ length b.least.items
-  pub room : b.summed ≤ length b.least.items
-  pub most : length b.least.items ≤ n
-
 -- a choice and two bounds of each of n sites
 pub record AreOfSites (n : ℕ) (b : Bounds) : Type 0 where
   pub choices : length b.choices.items ≡ n
   pub least : length b.least.items ≡ n
   pub greatest : length b.greatest.items ≡ n
 
+-- the same, and at most all of them were summed
+pub record IsSummed (n : ℕ) (b : Bounds) : Type 0 where
+  pub sized : AreOfSites n b
+  pub within : b.summed ≤ n
+
+-- no site was summed, and none waits
+pub record IsNoneSummed (b : Bounds) : Type 0 where
+  pub summed : b.summed ≡ 0
+  pub none : length b.waiting.items ≡ 0
+
 -- there are no sites, and none waits
 pub record AreOfNoSites (b : Bounds) : Type 0 where
   pub sized : AreOfSites 0 b
-  pub summed : b.summed ≡ 0
-  pub none : length b.waiting.items ≡ 0
+  pub unsummed : IsNoneSummed b
 
 -- exactly the sites that the move can change are open, the others are at 0, none was summed, and
 -- none waits
 pub record AreUndecided (move : Move) (f : List ℕ) (b : Bounds) : Type 0 where
   pub opened : AreAllOpen move f b.choices.items
-  pub least : length b.least.items ≡ 0
-  pub greatest : length b.greatest.items ≡ 0
-  pub summed : b.summed ≡ 0
-  pub none : length b.waiting.items ≡ 0
+  pub unsummed : IsNoneSummed b
 
 -- there is a choice of each of n sites, none was summed, and none waits
 pub record AreUnsummed (n : ℕ) (b : Bounds) : Type 0 where
   pub choices : length b.choices.items ≡ n
-  pub least : length b.least.items ≡ 0
-  pub greatest : length b.greatest.items ≡ 0
-  pub summed : b.summed ≡ 0
-  pub none : length b.waiting.items ≡ 0
+  pub unsummed : IsNoneSummed b
 
--- no bound is larger
+-- the bounds of a site are known: it was summed, and is open
+abbrev pub IsBoundKnown : Bounds → ℕ → Type 0
+IsBoundKnown b u = (u < b.summed) × (choice_at b.choices.items u ≡ Open)
+
+-- no known bound is larger
 abbrev pub IsWithinRange : ℕ → Bounds → Type 0
-IsWithinRange most b =
-    (u : ℕ) → (unsigned_abs (bound_at b.least.items u) ≤ most)
+IsWithinRange most b = (u : ℕ) → IsBoundKnown b u
+    → (unsigned_abs (bound_at b.least.items u) ≤ most)
     × (unsigned_abs (bound_at b.greatest.items u) ≤ most)
 
--- the greatest rises of all sites together, without their signs
+-- the known greatest rises of all sites together, without their signs
 abbrev pub greatest_total : Bounds → ℕ
-greatest_total b = sum_by unsigned_abs b.greatest.items
+greatest_total b = weights_size (open_weights b.choices.items b.greatest.items b.summed)
 
 -- each open site whose bounds tell its value waits, but perhaps this one; and only sites wait
 pub record AreWaitingBut (n but : ℕ) (b : Bounds) : Type 0 where
@@ -146,23 +148,15 @@ pub record AddsBounds (site : ℕ) (low high : ℤ) (old new : Bounds) : Type 0 
 abbrev pub AreClosed : ℕ → ℕ → Bounds → Type 0
 AreClosed from to b = (u : ℕ) → from ≤ u → u < to → choice_at b.choices.items u ≢ Open
 
--- there is room for the bounds of a site, if it is one, else for those of all; new ones are 0
-pub record MakesRoom (site : ℕ) (old new : Bounds) : Type 0 where
-  pub more : ℕ
-  pub least : new.least.items ≡ old.least.items ++ replicate more (pos 0)
-  pub greatest : new.greatest.items ≡ old.greatest.items ++ replicate more (pos 0)
-  pub inside : site < length old.choices.items → site < length new.least.items
-  pub most : length new.least.items ≤ length old.choices.items
-  pub whole : site ≡ length old.choices.items → length new.least.items ≡ length old.choices.items
-
--- the closed sites before one are passed, and there is room for its bounds
+-- the closed sites before one are passed
 pub record PassesClosed (to : ℕ) (old new : Bounds) : Type 0 where
   pub on : old.summed ≤ to
   pub within : to ≤ length old.choices.items
   pub closed : AreClosed old.summed to old
-  pub room : MakesRoom to old new
   pub summed : new.summed ≡ to
   pub choices : new.choices ≡ old.choices
+  pub least : new.least ≡ old.least
+  pub greatest : new.greatest ≡ old.greatest
   pub waiting : new.waiting ≡ old.waiting
 
 -- no site that was decided is open again
@@ -239,8 +233,8 @@ IsAnswered site beside old new =
     × (new.greatest ≡ old.greatest) × (new.summed ≡ old.summed))
     ⊎ ((value : Bool) × IsMarked site value old new × TellsValue old site value × (beside ≡ false))
 
--- the choices stay, no bound grows by more than a surplus for each, nor all greatest ones together,
--- and at most so many sites more wait
+-- the choices stay, no known bound grows by more than a surplus for each, nor all greatest ones
+-- together, and at most so many sites more wait
 pub record IsLooking (more : ℕ) (old new : Bounds) : Type 0 where
   pub choices : new.choices ≡ old.choices
   pub least_len : length new.least.items ≡ length old.least.items

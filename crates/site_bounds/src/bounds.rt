@@ -6,18 +6,18 @@ ghost use Rattle.site_bounds.specs.Working.{HasBounds, HasRoomFor, RaisesBounds}
 use move_energy::Choice;
 use std::alloc::{AllocError, Global};
 
-/// Of each site what is known of its value, and of each that was summed by how much the energy
-/// rises where its value turns from 0 to 1: at least, with every other undecided site at 1, and at
-/// most, with every other at 0. Then the sites that wait: those whose bounds tell their value. It
-/// takes 21 bytes a site at most.
+/// Of each site what is known of its value, and of each open one that was summed by how much the
+/// energy rises where its value turns from 0 to 1: at least, with every other undecided site at 1,
+/// and at most, with every other at 0. Then the sites that wait: those whose bounds tell their
+/// value. It takes 21 bytes a site at most.
 #[derive(Drop)]
 pub struct Bounds {
     pub choices: Vec<Choice>,
-    /// One of each site that was summed. What the numbers are once the sites are decided, no clause
-    /// says.
+    /// A number of each site, which means something while the site is summed and open. What the
+    /// numbers are once the sites are decided, no clause says.
     pub least: Vec<i64>,
-    /// One of each site that was summed. Once the sites are decided, those of the open ones are
-    /// their weights in the energy.
+    /// The same. Once the sites are decided, those of the open ones are their weights in the
+    /// energy.
     pub greatest: Vec<i64>,
     /// The sites before this one are summed or closed.
     pub(crate) summed: usize,

@@ -1,15 +1,14 @@
 //! The sites of a move one after another: each is summed, and decided at once where its bounds tell
 //! its value.
-ghost use Rattle.std.specs.Prelude.{◌≡◌, ◌≢◌, ◌<◌, ◌≤◌, ◌+◌, ◌-◌, ◌↔◌, ◌++◌, ℕ, pos, replicate};
-ghost use Rattle.std.specs.Prelude.{length, OnOk};
-ghost use Rattle.site_bounds.specs.Prelude.{labelling, Open, One, choice_at};
+ghost use Rattle.std.specs.Prelude.{◌≡◌, ◌≢◌, ◌<◌, ◌≤◌, ◌↔◌, ℕ, replicate, length, OnOk};
+ghost use Rattle.site_bounds.specs.Prelude.{labelling, Open, Zero, One, choice_at};
 ghost use Rattle.site_bounds.specs.Prelude.{Changes, CoversOpen, AreOpenSites, site_limit};
 ghost use Rattle.site_bounds.specs.Prelude.{label_limit};
 ghost use Rattle.label_energies.specs.declared.change.Move.TheVariants.{Swap};
 ghost use Rattle.site_bounds.specs.Prelude.{IsOverPairs, IsInBudget, SumsSite};
-ghost use Rattle.site_bounds.specs.Prelude.{summed_count, AreOfNoSites};
+ghost use Rattle.site_bounds.specs.Prelude.{summed_count, IsSummed, IsNoneSummed};
 ghost use Rattle.site_bounds.specs.Prelude.{HasBounds, IsAnswered, AddsBounds, AreClosed};
-ghost use Rattle.site_bounds.specs.Prelude.{MakesRoom, PassesClosed, AreUndecided, AreUnsummed};
+ghost use Rattle.site_bounds.specs.Prelude.{PassesClosed, AreUndecided, AreUnsummed};
 ghost use Rattle.site_bounds.specs.Prelude.{AreWaiting, SumsNext, EndsSites, DecidesSites};
 
 use crate::Bounds;
@@ -18,9 +17,6 @@ use label_energies::Move;
 use move_energy::Choice;
 use site_forms::{SiteForm, site_rises};
 use std::alloc::AllocError;
-
-/// The bounds of so many sites get room at once.
-const BLOCK: usize = 4096;
 
 /// What is known of a site before anything is summed. Where the move cannot change its label its
 /// value makes no difference, and is 0.
@@ -61,26 +57,15 @@ fn next_open(choices: &[Choice], from: usize) -> usize
     site
 }
 
-/// Fills a list up with 0, until it has so many numbers.
-fn fill_up(numbers: &mut Vec<i64>, count: usize) -> Result<(), AllocError>
-    requires { length numbers.old.items ≤ count }
-    ensures { OnOk result (numbers.new.items ≡ numbers.old.items
-        ++ replicate (count - length numbers.old.items) (pos 0)) }
-{
-    numbers.resize(count, 0)?;
-    Ok(())
-}
-
 impl Bounds {
-    /// Makes room for so many sites, and forgets what was known.
-    fn clear(&mut self, sites: usize) -> Result<(), AllocError>
-        ensures empty { OnOk result (AreOfNoSites self.new) }
+    /// Forgets what was known: so many sites are at 0, and none is summed. What their bounds are
+    /// means nothing then.
+    fn begin(&mut self, sites: usize) -> Result<(), AllocError>
+        ensures closed { OnOk result (self.new.choices.items ≡ replicate sites Zero) }
+        ensures unsummed { OnOk result (IsNoneSummed self.new) }
     {
         self.choices.clear();
-        self.least.clear();
-        self.least.reserve(sites)?;
-        self.greatest.clear();
-        self.greatest.reserve(sites)?;
+        self.choices.resize(sites, Choice::Zero)?;
         self.summed = 0;
         self.waiting.clear();
         Ok(())
@@ -90,8 +75,7 @@ impl Bounds {
     pub(crate) fn open_sites(&mut self, at: &[u8], change: Move) -> Result<(), AllocError>
         ensures undecided { OnOk result (AreUndecided change at.now self.new) }
     {
-        self.clear(at.len())?;
-        self.choices.resize(at.len(), Choice::Zero)?;
+        self.begin(at.len())?;
         choose_each(self.choices.as_mut_slice(), at, change);
         Ok(())
     }
@@ -111,42 +95,31 @@ impl Bounds {
         ensures listed { OnOk result (AreOpenSites self.new.choices.items swapped.new.items) }
     {
         list_swapped(swapped, at, alpha as u8, beta as u8)?;
-        self.clear(at.len())?;
-        self.choices.resize(at.len(), Choice::Zero)?;
+        self.begin(at.len())?;
         mark_open(&mut self.choices, swapped);
         Ok(())
     }
 
-    /// Makes room for the bounds of a site, and of some behind it: all are 0.
-    #[inline]
-    fn make_room(&mut self, site: usize) -> Result<(), AllocError>
-        requires site { site ≤ length self.old.choices.items }
-        requires sized { (length self.old.greatest.items ≡ length self.old.least.items)
-            × (length self.old.least.items ≤ length self.old.choices.items) }
-        ensures room { OnOk result (MakesRoom site self.old self.new) }
+    /// Makes room for two bounds of each site. Those of the last move stay where they are.
+    fn make_room(&mut self) -> Result<(), AllocError>
+        requires { summed_count self.old ≤ length self.old.choices.items }
+        ensures sized { OnOk result (IsSummed (length self.old.choices.items) self.new) }
         ensures same { (self.new.choices ≡ self.old.choices)
             × (self.new.waiting ≡ self.old.waiting) × (self.new.summed ≡ self.old.summed) }
     {
-        if site < self.least.len() {
-            return Ok(());
-        }
-        let count = site + BLOCK.min(self.choices.len() - site);
-        fill_up(&mut self.least, count)?;
-        fill_up(&mut self.greatest, count)
+        let sites = self.choices.len();
+        self.least.resize(sites, 0)?;
+        self.greatest.resize(sites, 0)?;
+        Ok(())
     }
 
     /// Passes over the closed sites before one.
-    #[inline]
-    fn pass_to(&mut self, to: usize) -> Result<(), AllocError>
+    fn pass_to(&mut self, to: usize)
         requires to { (summed_count self.old ≤ to) × (to ≤ length self.old.choices.items) }
         requires closed { AreClosed (summed_count self.old) to self.old }
-        requires sized { (length self.old.greatest.items ≡ length self.old.least.items)
-            × (length self.old.least.items ≤ length self.old.choices.items) }
-        ensures { OnOk result (PassesClosed to self.old self.new) }
+        ensures { PassesClosed to self.old self.new }
     {
-        self.make_room(to)?;
         self.summed = to;
-        Ok(())
     }
 
     /// Writes the bounds of the next site.
@@ -206,20 +179,20 @@ impl Bounds {
         requires waiting { AreWaiting (summed_count self.old) self.old }
         ensures { OnOk result (SumsNext form.now site self.old self.new) }
     {
-        self.pass_to(site as usize)?;
+        self.pass_to(site as usize);
         self.sum_site(form, site)?;
         self.decide_waiting(form)
     }
 
     /// Passes over the closed sites behind the last open one.
-    fn pass_rest(&mut self, form: &SiteForm) -> Result<(), AllocError>
+    fn pass_rest(&mut self, form: &SiteForm)
         requires budget { IsInBudget form.now self.old }
         requires within { summed_count self.old ≤ length form.now.at.now }
         requires closed { AreClosed (summed_count self.old) (length form.now.at.now) self.old }
         requires waiting { AreWaiting (summed_count self.old) self.old }
-        ensures { OnOk result (EndsSites form.now self.old self.new) }
+        ensures { EndsSites form.now self.old self.new }
     {
-        self.pass_to(form.at.len())
+        self.pass_to(form.at.len());
     }
 
     /// Sums the sites one after another, but those that are decided already. Each whose bounds tell
@@ -230,17 +203,19 @@ impl Bounds {
         requires unsummed { AreUnsummed (length form.now.at.now) self.old }
         ensures { OnOk result (DecidesSites form.now self.old self.new) }
     {
+        self.make_room()?;
         let sites = form.at.len();
         let mut site = 0usize;
         while site < sites {
             let next = next_open(&self.choices, site);
             if next == sites {
-                return self.pass_rest(form);
+                break;
             }
             self.sum_next(form, next as u32)?;
             site = next + 1;
         }
-        self.pass_rest(form)
+        self.pass_rest(form);
+        Ok(())
     }
 
     /// The same, where each open site is among these: no other is looked at.
@@ -250,12 +225,14 @@ impl Bounds {
         requires among { CoversOpen self.old.choices.items sites.now }
         ensures { OnOk result (DecidesSites form.now self.old self.new) }
     {
+        self.make_room()?;
         for place in 0..sites.len() {
             let site = sites[place];
             if self.choices[site as usize].is_open() {
                 self.sum_next(form, site)?;
             }
         }
-        self.pass_rest(form)
+        self.pass_rest(form);
+        Ok(())
     }
 }

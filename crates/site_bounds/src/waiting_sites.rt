@@ -5,7 +5,7 @@ ghost use Rattle.site_bounds.specs.Prelude.{IsSitePlace, pair_beside, degree};
 ghost use Rattle.site_bounds.specs.Prelude.{Open, choice_at, bit_of, surplus_limit};
 ghost use Rattle.site_bounds.specs.Prelude.{IsOverPairs, WhereRead, IsInBudget, ends_left};
 ghost use Rattle.site_bounds.specs.Prelude.{total_left, summed_count, CanDecide, TellsValue};
-ghost use Rattle.site_bounds.specs.Prelude.{IsMarked, StayDecided};
+ghost use Rattle.site_bounds.specs.Prelude.{IsMarked, StayDecided, HasBounds, IsBoundKnown};
 ghost use Rattle.site_bounds.specs.Prelude.{IsSummed, IsWithinRange, AreWaiting, AreWaitingBut};
 ghost use Rattle.site_bounds.specs.Prelude.{ArePartlyDecided, SeesPair, IsLooking, Shifts};
 ghost use Rattle.site_bounds.specs.Prelude.{least_shift as least_shift_of};
@@ -46,8 +46,8 @@ fn greatest_shift(value: bool, surplus: i64) -> i64
 impl Bounds {
     /// Changes the bounds of a site of which a neighbour got a value, by their pair's surplus.
     fn shift_bounds(&mut self, site: usize, value: bool, surplus: i64)
-        requires site { (site < length self.old.least.items)
-            × (site < length self.old.greatest.items) }
+        requires site { HasBounds site self.old }
+        requires known { IsBoundKnown self.old site }
         requires surplus { unsigned_abs surplus ≤ surplus_limit }
         requires range { IsWithinRange (2 ^ 60) self.old }
         ensures shifts { Shifts site value surplus self.old self.new }
@@ -69,8 +69,8 @@ impl Bounds {
     /// Changes the bounds of a site of which a neighbour got a value. The site waits from now on if
     /// they tell its value and did not before.
     fn shift(&mut self, site: u32, value: bool, surplus: i64) -> Result<(), AllocError>
-        requires site { (site < length self.old.least.items)
-            × (site < length self.old.greatest.items) }
+        requires site { HasBounds site self.old }
+        requires known { IsBoundKnown self.old site }
         requires surplus { unsigned_abs surplus ≤ surplus_limit }
         requires range { IsWithinRange (2 ^ 60) self.old }
         ensures looking { OnOk result (IsLooking 1 self.old self.new) }
@@ -89,8 +89,7 @@ impl Bounds {
     /// Whether the bounds of a site are asked for: whether it was summed, and is open.
     fn has_bounds(&self, site: u32) -> bool
         requires { site < length self.now.choices.items }
-        ensures { IsTrue result ↔
-            ((site < summed_count self.now) × (choice_at self.now.choices.items site ≡ Open)) }
+        ensures { IsTrue result ↔ IsBoundKnown self.now site }
     {
         (site as usize) < self.summed && self.choices[site as usize].is_open()
     }

@@ -18,4 +18,4 @@ pub use ends::{head_at, is_first_end};
 pub use numbers::SiteForm;
 pub use reading::{place_in_table, smooth_of, times, unit_rises};
 pub use rises::{read_rises, rises_of_place, site_rises, start};
-pub use savings::saving_beside;
+pub use savings::{rise_at_all, saving_beside, saving_by};

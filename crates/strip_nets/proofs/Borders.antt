@@ -9,6 +9,7 @@ use Rattle.std.proofs.lemmas.List.Elements.{All-head, All-tail}
 use Rattle.std.proofs.lemmas.List.FromFn.{get_or-map-range_with_len}
 use Rattle.std.specs.List.{range_with_len}
 use Rattle.sums.specs.Sums.{sum_below, count_if}
+use Rattle.sums.proofs.SumLemmas.{sum_below-le}
 use Rattle.sums.proofs.IntegerSumLemmas.{within_fits, abs-sub}
 use Rattle.label_field.specs.declared.pair.Pair.{Pair}
 use Rattle.label_field.specs.PairLists.{IsPair, IsPairList, PairList}
@@ -19,13 +20,15 @@ use Rattle.compile_cut.specs.Weights.{weights_size}
 use Rattle.move_energy.specs.declared.by_site.Neighbours.{Neighbours}
 use Rattle.move_energy.specs.declared.choice.Choice.{Choice}
 use Rattle.move_energy.specs.BySite.{AreBySite, degree, neighbours_start, neighbour_at, is_first, weight_at as pair_weight, pair_of, pair_from, pair_beside, rising_sites}
-use Rattle.move_energy.specs.Choices.{choice_at, open_at, AreOpenSites}
-use Rattle.move_energy.specs.Weights.{weight_at, pair_surplus, AreWeights}
+use Rattle.move_energy.specs.declared.choice.Choice.TheVariants.{Open}
+use Rattle.move_energy.specs.Choices.{choice_at, is_open, open_at, AreOpenSites}
+use Rattle.move_energy.specs.Weights.{weight_at, open_weights, pair_surplus, AreWeights}
 use Rattle.move_energy.proofs.Parts.{beside_has}
 use Rattle.move_energy.proofs.Listings.{listed_sites_are_summed}
 use Rattle.move_energy.proofs.Weighed.{open_size, listed_weights_are}
 use Rattle.site_bounds.specs.Parts.{site_weight}
 use Rattle.site_bounds.proofs.Left.{left_most}
+use Rattle.site_bounds.proofs.Ranges.{counted_less}
 use Rattle.persistency.specs.Agreeing.{choices_or}
 use Rattle.persistency.specs.Borders.{range_of, not_ones, is_beyond, leads_beyond, pair_border, border_at}
 use Rattle.persistency.proofs.Borders.{strip_weights, weights_go_on}
@@ -149,12 +152,14 @@ degrees_few pairs ends choices opened by_site size listed =
     let most = left_most pairs ends choices by_site in
     omega (arith, is, summed, most)
 
--- the weights of the listed sites
-pub weights_few : (choices : List Choice) (opened : List ℕ) (weights : List ℤ) → length weights ≡ length choices → AreOpenSites choices opened
-    → weights_size (map (weight_at weights) opened) ≤ weights_size weights
-weights_few choices opened weights size listed =
-    let is = ap (λ (ws : List ℤ). weights_size ws) (listed_weights_are choices weights opened listed) in
-    omega (arith, is, open_size choices weights (length choices) size)
+-- the weights of listed sites that were open at the start
+pub weights_few : (start now : List Choice) (opened : List ℕ) (weights : List ℤ) (n : ℕ) → length now ≡ n → AreOpenSites now opened
+    → ((u : ℕ) → u < n → choice_at now u ≡ Open → choice_at start u ≡ Open) → weights_size (map (weight_at weights) opened) ≤ weights_size (open_weights start weights n)
+weights_few start now opened weights n size listed was =
+    let is = ap (λ (ws : List ℤ). weights_size ws) (listed_weights_are now weights opened listed ∙ ap (open_weights now weights) size) in
+    let less = sum_below-le n (λ u. count_if (is_open (choice_at now u)) (unsigned_abs (weight_at weights u))) (λ u. count_if (is_open (choice_at start u)) (unsigned_abs (weight_at weights u)))
+    (λ u l. counted_less (choice_at now u) (choice_at start u) (unsigned_abs (weight_at weights u)) (was u l)) in
+    omega (arith, is, open_size now weights n, less, open_size start weights n)
 
 -- the weight of a site by now, as the machine counts it
 weight_small : (w : ℤ) → unsigned_abs w ≤ 300000000000000 → to_z w64 (of_z w64 w) ≡ w

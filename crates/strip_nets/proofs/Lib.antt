@@ -11,6 +11,7 @@ pub mod RowSides
 pub mod Writing
 pub mod Laying
 pub mod Lessening
+pub mod Behind
 pub mod Numbering
 pub mod Views
 pub mod Weighing

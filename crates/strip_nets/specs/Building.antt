@@ -1,5 +1,6 @@
 -- What a strip is built from: the form of its move, and what is known of its sites.
-use Rattle.std.specs.Prelude.{◌≡◌, ℕ, ℤ, ◌<◌, ◌≤◌, ◌-◌, Bool, List, map, length, slice_index}
+use Rattle.std.specs.Prelude.{◌≡◌, ℕ, ℤ, ◌<◌, ◌≤◌, ◌-◌, Bool, true, List, map, length}
+use Rattle.std.specs.Prelude.{slice_index}
 use Rattle.label_field.specs.declared.pair.Pair.{Pair}
 use Rattle.label_energies.specs.declared.change.Move.{Move}
 use Rattle.label_energies.specs.Energies.{Instance}
@@ -94,3 +95,11 @@ border_of_site m move f material sites =
 abbrev pub weight_by_now : Instance → Move → (ℕ → ℕ) → Material → ℕ → ℤ
 weight_by_now m move f material =
     weight_now m move f (choice_at material.start.now) (choice_at material.known.now)
+
+-- of the sites from this one on, before the end of the strip, is known what was known at the start;
+-- they are the strip's, and each pair has the first of its sites first
+pub record IsFreshFrom (material : Material) (sites : StripSites) (fresh : ℕ) : Type 0 where
+  pub rising : fresh < sites.to → material.form.rising ≡ true
+  pub inside : fresh < sites.to → sites.from ≤ fresh
+  pub same : (p : ℕ) → fresh ≤ p → p < sites.to
+      → choice_at material.known.now p ≡ choice_at material.start.now p

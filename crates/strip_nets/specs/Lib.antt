@@ -6,3 +6,4 @@ pub mod Limits
 pub mod Looking
 pub mod Sides
 pub mod Views
+pub mod Adding

@@ -6,6 +6,7 @@
 
 mod building;
 mod cutting;
+mod fresh;
 mod material;
 mod reading;
 mod rows;

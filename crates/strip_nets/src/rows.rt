@@ -16,8 +16,8 @@ ghost use Rattle.move_energy.specs.Limits.{surplus_limit, weights_limit};
 ghost use Rattle.move_energy.specs.Weights.{pair_surplus as surplus_between};
 ghost use Rattle.persistency.specs.Borders.{border_at, is_beyond as beyond_of, not_ones, range_of};
 ghost use Rattle.persistency.specs.Borders.{is_inside as inside_of};
-ghost use Rattle.site_forms.specs.Numbers.{WhereRead};
-ghost use Rattle.strip_nets.specs.Building.{CanBuild, AreStripSites, view_by};
+ghost use Rattle.site_forms.specs.Numbers.{IsHighRise, WhereRead};
+ghost use Rattle.strip_nets.specs.Building.{CanBuild, AreStripSites, IsFreshFrom, view_by};
 ghost use Rattle.strip_nets.specs.Building.{AreStartWeights, AreWeighed};
 ghost use Rattle.strip_nets.specs.Building.{ArePlacesOf, IsStripNumbering};
 ghost use Rattle.sink_distances.specs.Laying.{AreRowsBegun};
@@ -28,16 +28,17 @@ ghost use Rattle.strip_nets.specs.RowForms.{arcs_in, form_in, IsFirstPart, IsLai
 ghost use Rattle.strip_nets.specs.Meeting.{is_met, ends_at, ends_met, strip_ends, IsMet};
 ghost use Rattle.strip_nets.specs.Building.{counts_in, unsaved_in, unsaved_at};
 ghost use Rattle.strip_nets.specs.Building.{border_of_site, weight_by_now};
-ghost use Rattle.strip_nets.specs.Limits.{borders_limit};
+ghost use Rattle.strip_nets.specs.Adding.{AreRowsAdded};
 
+use crate::fresh::fresh_from;
 use crate::material::{Material, Places, RowForm, StripSites};
 use move_energy::Choice;
-use site_forms::{is_first_end, saving_beside};
+use site_forms::{is_first_end, rise_at_all, saving_by};
 use std::alloc::AllocError;
 
-/// What a neighbour is to a site of the strip: at most one of these.
+/// What a neighbour by itself is to the sites of the strip: at most one of these.
 #[derive(Clone, Copy)]
-struct Beside {
+struct Seen {
     /// It was open at the start and is at 1 by now.
     one: bool,
     /// It is open and lies outside the strip.
@@ -46,9 +47,9 @@ struct Beside {
     inside: bool,
 }
 
-/// What a neighbour is to a site of the strip. It is looked at once.
+/// What a neighbour is to the sites of the strip. It is looked at once.
 #[inline]
-fn look_at(material: &Material, sites: &StripSites, head: u32) -> Beside
+fn look_at(material: &Material, sites: &StripSites, head: u32) -> Seen
     requires start { head < length material.now.start.now }
     requires known { head < length material.now.known.now }
     ensures one { result.one ≡ beyond_of (choice_at material.now.start.now)
@@ -59,19 +60,19 @@ fn look_at(material: &Material, sites: &StripSites, head: u32) -> Beside
         (range_of sites.now.from sites.now.to) head }
 {
     match material.known[head as usize] {
-        Choice::Zero => Beside {
+        Choice::Zero => Seen {
             one: false,
             beyond: false,
             inside: false,
         },
-        Choice::One => Beside {
+        Choice::One => Seen {
             one: material.start[head as usize].is_open(),
             beyond: false,
             inside: false,
         },
         Choice::Open => {
             let inside = head >= sites.from && head < sites.to;
-            Beside {
+            Seen {
                 one: false,
                 beyond: !inside,
                 inside,
@@ -156,18 +157,79 @@ fn is_met_at(
     is_first_end(&material.form, site, place, head)
 }
 
+/// How the pair to a neighbour counts at a site of the strip: in at most one of these ways.
+#[derive(Clone, Copy)]
+struct Beside {
+    /// The neighbour was open at the start and is at 1 by now.
+    one: bool,
+    /// It is open and lies outside the strip.
+    beyond: bool,
+    /// It is open and lies in the strip, and the pair is met at this site.
+    met: bool,
+}
+
+/// How the pair to a neighbour counts. A neighbour before the site is not looked at from where on
+/// nothing was told since the start: the pair was met there.
+#[inline]
+fn look_beside(
+    material: &Material,
+    sites: &StripSites,
+    site: u32,
+    place: u32,
+    head: u32,
+    fresh: u32,
+) -> Beside
+    requires can { CanBuild material.now }
+    requires site { (site < material.now.form.pairs.now.sites)
+        × (open_at (view_by sites.now material.now) site ≡ true) }
+    requires place { (neighbours_start material.now.form.ends.now site ≤ place)
+        × (place < neighbours_start material.now.form.ends.now (site + 1)) }
+    requires head { head ≡ neighbour_at material.now.form.ends.now place }
+    requires inside { head < material.now.form.pairs.now.sites }
+    requires fresh { IsFreshFrom material.now sites.now fresh }
+    ensures one { result.one ≡ beyond_of (choice_at material.now.start.now)
+        (not_ones (choice_at material.now.known.now)) head }
+    ensures beyond { result.beyond ≡ beyond_of (choice_at material.now.known.now)
+        (range_of sites.now.from sites.now.to) head }
+    ensures met { result.met ≡ is_met material.now sites.now site place }
+{
+    if head >= fresh && head < site {
+        return Beside {
+            one: false,
+            beyond: false,
+            met: false,
+        };
+    }
+    let seen = look_at(material, sites, head);
+    Beside {
+        one: seen.one,
+        beyond: seen.beyond,
+        met: is_met_at(material, sites, site, place, head, seen.inside),
+    }
+}
+
 /// Whether the pair to a neighbour counts in any of the three ways.
 #[inline]
-fn counts_somewhere(beside: Beside, met: bool) -> bool
-    ensures { result ≡ (beside.one || beside.beyond || met) }
+fn counts_somewhere(beside: Beside) -> bool
+    ensures { result ≡ (beside.one || beside.beyond || beside.met) }
 {
-    beside.one || beside.beyond || met
+    beside.one || beside.beyond || beside.met
 }
 
 /// What the pair of a site and a neighbour saves where it counts. Where it does not, 0, and nothing
-/// is read of it.
+/// is read of it. What is known of the form, and `high`, are those of `saving_by`.
 #[inline]
-fn counted_saving(material: &Material, site: u32, place: u32, head: u32, counts: bool) -> i64
+fn counted_saving<const UNIFORM: bool, const EXPANDING: bool>(
+    material: &Material,
+    site: u32,
+    place: u32,
+    head: u32,
+    high: i32,
+    counts: bool,
+) -> i64
+    requires uniform { UNIFORM ≡ true → material.now.form.uniform ≡ true }
+    requires expanding { EXPANDING ≡ true → material.now.form.expanding ≡ true }
+    requires high { EXPANDING ≡ true → IsHighRise material.now.form site high }
     requires can { CanBuild material.now }
     requires site { site < material.now.form.pairs.now.sites }
     requires place { (neighbours_start material.now.form.ends.now site ≤ place)
@@ -181,7 +243,7 @@ fn counted_saving(material: &Material, site: u32, place: u32, head: u32, counts:
     if !counts {
         return 0;
     }
-    saving_beside(&material.form, site, place, head)
+    saving_by::<UNIFORM, EXPANDING>(&material.form, site, place, head, high)
 }
 
 /// A number where it counts, and else 0.
@@ -381,14 +443,17 @@ struct SiteBorders {
 
 /// The row of a site, in one pass over its neighbours: its borders, and in the form what its pairs
 /// to other sites of the strip save.
-fn add_row(
+fn add_row<const UNIFORM: bool, const EXPANDING: bool>(
     material: &Material,
     sites: &StripSites,
     places: &Places,
     form: &mut RowForm,
     numbers: &[u32],
     site: u32,
+    fresh: u32,
 ) -> Result<SiteBorders, AllocError>
+    requires uniform { UNIFORM ≡ true → material.now.form.uniform ≡ true }
+    requires expanding { EXPANDING ≡ true → material.now.form.expanding ≡ true }
     requires can { CanBuild material.now }
     requires places { ArePlacesOf material.now places.now }
     requires opened { AreStripSites material.now sites.now }
@@ -399,6 +464,7 @@ fn add_row(
         ++ ends_at material.now sites.now site) (strip_ends material.now sites.now) }
     requires site { (site < material.now.form.pairs.now.sites)
         × (open_at (view_by sites.now material.now) site ≡ true) }
+    requires fresh { IsFreshFrom material.now sites.now fresh }
     ensures ones { WhereRead material.now.form (λ m move f. IfOk result (λ found.
         found.ones ≡ pos (border_at m move f (choice_at material.now.start.now)
         (not_ones (choice_at material.now.known.now)) site))) }
@@ -419,12 +485,15 @@ fn add_row(
     let mut ones = 0i64;
     let mut beyond = 0i64;
     let node = node_of(material, sites, numbers, site);
+    let high = rise_at_all::<EXPANDING>(&material.form, site);
     for place in row_start(material, places, site)..row_start(material, places, site + 1) {
         let head = head_beside(material, places, site, place);
-        let beside = look_at(material, sites, head);
-        let met = is_met_at(material, sites, site, place, head, beside.inside);
-        let counts = counts_somewhere(beside, met);
-        let saving = counted_saving(material, site, place, head, counts);
+        let beside = look_beside(material, sites, site, place, head, fresh);
+        let met = beside.met;
+        let counts = counts_somewhere(beside);
+        let saving = counted_saving::<UNIFORM, EXPANDING>(
+            material, site, place, head, high, counts,
+        );
         ones += where_counted(beside.one, saving);
         beyond += where_counted(beside.beyond, saving);
         add_inside(
@@ -436,6 +505,47 @@ fn add_row(
 
 /// The rows of all listed sites: the weights of the sites by now and their borders in lists, and in
 /// the form what pairs of two of them save.
+fn add_rows_by<const UNIFORM: bool, const EXPANDING: bool>(
+    material: &Material,
+    sites: &StripSites,
+    form: &mut RowForm,
+    numbers: &[u32],
+    list: &mut Vec<i64>,
+    borders: &mut Vec<u64>,
+) -> Result<(), AllocError>
+    requires uniform { UNIFORM ≡ true → material.now.form.uniform ≡ true }
+    requires expanding { EXPANDING ≡ true → material.now.form.expanding ≡ true }
+    requires can { CanBuild material.now }
+    requires opened { AreStripSites material.now sites.now }
+    requires weighed { AreWeighed sites.now }
+    requires numbering { IsStripNumbering material.now.known.now sites.now numbers.now }
+    requires laid { IsLaidTo (length sites.now.opened.now) (strip_ends material.now sites.now)
+        form.old }
+    requires none { arc_ends (arcs_in form.old) ≡ [] }
+    ensures { OnOk result (AreRowsAdded material.now sites.now form.old form.new list.new.items
+        borders.new.items) }
+{
+    list.clear();
+    borders.clear();
+    list.reserve(sites.opened.len())?;
+    borders.reserve(sites.opened.len())?;
+    // Copies of its own: what is written to the lists cannot change them, so they are read once.
+    let material = *material;
+    let sites = *sites;
+    let places = places_of(&material);
+    let fresh = fresh_from(&material, &sites);
+    for index in 0..sites.opened.len() {
+        let site = site_at(&material, &sites, index);
+        let found = add_row::<UNIFORM, EXPANDING>(
+            &material, &sites, &places, form, numbers, site, fresh,
+        )?;
+        list.push_reserved(sites.weights[index] - found.ones);
+        borders.push_reserved(found.beyond.unsigned_abs());
+    }
+    Ok(())
+}
+
+/// The same, in the way of the form: what it says of all places is asked once.
 pub(crate) fn add_rows(
     material: &Material,
     sites: &StripSites,
@@ -451,37 +561,14 @@ pub(crate) fn add_rows(
     requires laid { IsLaidTo (length sites.now.opened.now) (strip_ends material.now sites.now)
         form.old }
     requires none { arc_ends (arcs_in form.old) ≡ [] }
-    ensures count { OnOk result ((length list.new.items ≡ length sites.now.opened.now)
-        × (length borders.new.items ≡ length sites.now.opened.now)) }
-    ensures size { OnOk result (weights_size list.new.items ≤ weights_limit + borders_limit) }
-    ensures small { OnOk result (sum borders.new.items ≤ borders_limit) }
-    ensures laid { OnOk result (IsLaidTo (length sites.now.opened.now)
-        (strip_ends material.now sites.now) form.new) }
-    ensures ends { OnOk result (arc_ends (arcs_in form.new)
-        ≡ strip_ends material.now sites.now) }
-    ensures weights { WhereRead material.now.form (λ m move f.
-        AreStartWeights material.now sites.now m move f → OnOk result
-        (list.new.items ≡ map (weight_by_now m move f material.now) sites.now.opened.now)) }
-    ensures borders { WhereRead material.now.form (λ m move f. OnOk result
-        (borders.new.items
-        ≡ map (border_of_site m move f material.now sites.now) sites.now.opened.now)) }
-    ensures adds { WhereRead material.now.form (λ m move f. OnOk result
-        (AddsCost (form_in form.old) (form_in form.new) (λ x.
-        sum_by (unsaved_at m move f material.now sites.now x) sites.now.opened.now))) }
+    ensures { OnOk result (AreRowsAdded material.now sites.now form.old form.new list.new.items
+        borders.new.items) }
 {
-    list.clear();
-    borders.clear();
-    list.reserve(sites.opened.len())?;
-    borders.reserve(sites.opened.len())?;
-    // Copies of its own: what is written to the lists cannot change them, so they are read once.
-    let material = *material;
-    let sites = *sites;
-    let places = places_of(&material);
-    for index in 0..sites.opened.len() {
-        let site = site_at(&material, &sites, index);
-        let found = add_row(&material, &sites, &places, form, numbers, site)?;
-        list.push_reserved(sites.weights[index] - found.ones);
-        borders.push_reserved(found.beyond.unsigned_abs());
+    if material.form.uniform {
+        return add_rows_by::<true, false>(material, sites, form, numbers, list, borders);
     }
-    Ok(())
+    if material.form.expanding {
+        return add_rows_by::<false, true>(material, sites, form, numbers, list, borders);
+    }
+    add_rows_by::<false, false>(material, sites, form, numbers, list, borders)
 }

@@ -2,8 +2,8 @@
 
 use move_energy::Choice;
 
-/// What a move's strips begin with: what was known when all sites were decided, and the weights of
-/// the sites that were open then.
+/// What a move's strips begin with: what was known when all sites were decided, and a number of
+/// each site: the weight of each that was open then. What the others are means nothing.
 #[derive(Clone, Copy)]
 pub struct Basis<'a> {
     pub start: &'a [Choice],

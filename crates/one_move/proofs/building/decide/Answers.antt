@@ -1,9 +1,11 @@
-use Rattle.std.proofs.Common.{◌∙◌, List, length, ap, sym, subst}
+use Rattle.std.proofs.Common.{◌≤◌, ◌∙◌, List, length, ap, sym, subst}
 use Rattle.std.proofs.lemmas.Result.{err_from_is_err_and}
+use Rattle.compile_cut.specs.Weights.{weights_size}
 use Rattle.label_energies.specs.Energies.{labelling}
 use Rattle.move_energy.specs.declared.choice.Choice.{Choice}
 use Rattle.move_energy.specs.Choices.{choice_at}
-use Rattle.move_energy.specs.Weights.{AreWeights}
+use Rattle.move_energy.specs.Limits.{weights_limit}
+use Rattle.move_energy.specs.Weights.{AreWeights, open_weights}
 use Rattle.move_energy.specs.declared.by_site.Neighbours.{Neighbours}
 use Rattle.move_energy.specs.BySite.{AreBySite}
 use Rattle.site_bounds.specs.Decided.{AreDecided}
@@ -29,6 +31,7 @@ returns-clause-weighed g c =
     let ends = subst E (sym c.decide.ensures.kept) c.in_ok-group.ensures.grouped in
     let now = ap (λ (v : _). v.items) c.swap.ensures.y_after in
     let L : List Choice → Type 0 = λ choices. AreListed a.change (labelling a.at.now) choices c.decide.new.self.lists in
+    let S : List Choice → Type 0 = λ choices. weights_size (open_weights choices c.decide.new.self.bounds.greatest.items (length a.at.now)) ≤ weights_limit in
     record {
       read = record {
         numbers = record {
@@ -41,7 +44,7 @@ returns-clause-weighed g c =
         count = ap (λ (xs : List Choice). length xs) now ∙ known.sized.choices;
         near = record { by_site = ends; lists = subst L (sym now) known.listed };
       };
-      sized = (known.sized.greatest, known.small);
+      sized = (known.sized.greatest, subst S (sym now) known.small);
       weights = λ m meant.
           let W : List Choice → Type 0 = λ choices. AreWeights m a.change (labelling a.at.now) (choice_at choices) c.decide.new.self.bounds.greatest.items in
           subst W (sym now) (c.in_ok-decide.ensures.known.weights m meant);

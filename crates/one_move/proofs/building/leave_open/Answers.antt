@@ -4,7 +4,7 @@ use Rattle.label_energies.specs.Energies.{labelling}
 use Rattle.move_energy.specs.declared.choice.Choice.{Choice}
 use Rattle.move_energy.specs.Choices.{choice_at, AreOpenSites}
 use Rattle.move_energy.specs.Limits.{weights_limit}
-use Rattle.move_energy.specs.Weights.{AreWeights}
+use Rattle.move_energy.specs.Weights.{AreWeights, open_weights}
 use Rattle.one_move.specs.Building.{TellsLeft}
 use Rattle.one_move.proofs.Forms.{read_meant}
 use Rattle.one_move.proofs.building.leave_open.Goals as goal
@@ -12,13 +12,13 @@ use Rattle.one_move.proofs.building.leave_open.Goals as goal
 pub leave_weighed-requires-clause-can : goal.leave_weighed-requires-clause-can
 leave_weighed-requires-clause-can g c =
     let count = ap (λ (f : List ℕ). length f) (sym c.form-form.ensures.at) in
-    let S : List ℤ → Type 0 = λ ws. weights_size ws ≤ weights_limit in
     record {
       begins = record {
         over = c.form-form.ensures.over;
         starts = ap (λ (xs : List Choice). length xs) c.deref.ensures.value ∙ c.requires.weighed.read.count ∙ count;
         weighed = ap (λ (ws : List ℤ). length ws) c.deref-2.ensures.value ∙ c.requires.weighed.sized.0 ∙ count;
-        size = subst S (sym c.deref-2.ensures.value) c.requires.weighed.sized.1;
+        size = subst (λ (X : Type 0). X)
+            (λ i. weights_size (open_weights (sym c.deref.ensures.value i) (sym c.deref-2.ensures.value i) (count i)) ≤ weights_limit) c.requires.weighed.sized.1;
       };
       count = ap (λ (xs : List Choice). length xs) c.deref-3.ensures.value ∙ c.requires.weighed.read.count ∙ count;
       goes_on = λ p l shuts. ap (λ (ks : List Choice). choice_at ks p) (c.deref-3.ensures.value ∙ sym c.deref.ensures.value);

@@ -6,7 +6,7 @@ use Rattle.cost_store.specs.Posed.{IsMeant, WhereMeant}
 use Rattle.move_energy.specs.declared.choice.Choice.{Choice}
 use Rattle.move_energy.specs.Choices.{choice_at, AreOpenSites}
 use Rattle.move_energy.specs.Limits.{weights_limit}
-use Rattle.move_energy.specs.Weights.{AreWeights}
+use Rattle.move_energy.specs.Weights.{AreWeights, open_weights}
 use Rattle.move_energy.specs.MoveValues.{move_value}
 use Rattle.persistency.specs.Agreeing.{Agree}
 use Rattle.one_move.specs.Building.{TellsLeft}
@@ -20,12 +20,11 @@ close_in-requires-clause-begins g c =
     let count = ap (λ (f : List ℕ). length f) (sym at) in
     let start = c.deref.ensures.value ∙ ap (λ (v : _). v.items) c.swap.ensures.x_after in
     let weights = c.deref-2.ensures.value in
-    let S : List ℤ → Type 0 = λ ws. weights_size ws ≤ weights_limit in
     record {
       over = c.form-form.ensures.over;
       starts = ap (λ (xs : List Choice). length xs) start ∙ c.requires.weighed.read.count ∙ count;
       weighed = ap (λ (ws : List ℤ). length ws) weights ∙ c.requires.weighed.sized.0 ∙ count;
-      size = subst S (sym weights) c.requires.weighed.sized.1;
+      size = subst (λ (X : Type 0). X) (λ i. weights_size (open_weights (sym start i) (sym weights i) (count i)) ≤ weights_limit) c.requires.weighed.sized.1;
     }
 
 pub leave_weighed-requires-clause-can : goal.leave_weighed-requires-clause-can

@@ -112,6 +112,6 @@ returns-clause-built c = λ m move read weighs.
           (rows.weights m move read weighs)
           (rows.adds m move read);
       each = λ k l.
-          ap (λ (xs : List ℕ). slice_index xs k) (rows.borders m move read)
+          ap (λ (xs : List ℕ). slice_index xs k) (rows.borders_are m move read)
           ∙ get_or-map (border_at m move f (choice_at a.material.now.known.now) (range_of a.sites.now.from a.sites.now.to)) a.sites.now.opened.now k 0 0 l;
     }

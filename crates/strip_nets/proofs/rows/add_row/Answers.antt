@@ -19,13 +19,13 @@ use Rattle.strip_nets.proofs.Meeting.{next_begins, ends_on, row_unmet}
 use Rattle.strip_nets.proofs.rows.add_row.Goals as goal
 
 pub add_inside-requires-clause-site : goal.add_inside-requires-clause-site
-add_inside-requires-clause-site c = c.requires.site
+add_inside-requires-clause-site g c = c.requires.site
 
 pub add_inside-requires-clause-laid : goal.add_inside-requires-clause-laid
-add_inside-requires-clause-laid c = c.loop-place.invariant.laid
+add_inside-requires-clause-laid g c = c.loop-place.invariant.laid
 
 pub add_inside-requires-clause-begins : goal.add_inside-requires-clause-begins
-add_inside-requires-clause-begins c =
+add_inside-requires-clause-begins g c =
     let a = c.args in
     let p = c.loop-place.place in
     let from : neighbours_start a.material.now.form.ends.now a.site ≤ p = omega (arith, c.row_start-place.ensures, c.loop-place.auto.place) in
@@ -34,7 +34,7 @@ add_inside-requires-clause-begins c =
     c.requires.begins c.loop-place.invariant.ends
 
 pub loop-place-init : goal.loop-place-init
-loop-place-init c =
+loop-place-init g c =
     let a = c.args in
     let f = labelling a.material.now.form.at.now in
     let start = c.row_start-place.ensures in
@@ -51,7 +51,7 @@ loop-place-init c =
     }
 
 pub loop-place-preserved : goal.loop-place-preserved
-loop-place-preserved c =
+loop-place-preserved g c =
     let a = c.args in
     let f = labelling a.material.now.form.at.now in
     let p = c.loop-place.place in
@@ -64,8 +64,8 @@ loop-place-preserved c =
     let v = strip_view a.material.now.known.now a.sites.now.from a.sites.now.to in
     let one = c.where_counted-ones in
     let past = c.where_counted-beyond in
-    let beside = c.look_at-beside.result in
-    let met = c.is_met_at-met.result in
+    let beside = c.look_beside-beside.result in
+    let met = c.look_beside-beside.result.met in
     let any = c.counts_somewhere-counts.result in
     let some = c.counts_somewhere-counts.ensures in
     let saving = c.counted_saving-saving.result in
@@ -79,14 +79,14 @@ loop-place-preserved c =
       beyond_small = border_small (to_z w64 c.loop-place.beyond-bits) past.result _ (neighbours_start a.material.now.form.ends.now a.site) p from i.beyond_small past_few past_is;
       ones = λ m move read.
           border_more m move f (choice_at a.material.now.start.now) (not_ones (choice_at a.material.now.known.now))
-          a.material.now.form.pairs.now a.material.now.form.ends.now a.site p _ c.look_at-beside.result.one (to_z w64 c.loop-place.ones-bits) one.result _
-          c.requires.can.over.list.each c.requires.can.over.by_site c.requires.site.0 from to head c.look_at-beside.ensures.one ones_is (i.ones m move read)
+          a.material.now.form.pairs.now a.material.now.form.ends.now a.site p _ c.look_beside-beside.result.one (to_z w64 c.loop-place.ones-bits) one.result _
+          c.requires.can.over.list.each c.requires.can.over.by_site c.requires.site.0 from to head c.look_beside-beside.ensures.one ones_is (i.ones m move read)
           (one_way beside.one any saving one.result _ (λ is. some ∙ way_one beside.one beside.beyond met is) (c.counted_saving-saving.ensures.value m move read)
           (one.ensures.value ∙ ap (λ (z : ℤ). cond beside.one z (pos 0)) passed));
       beyond = λ m move read.
           border_more m move f (choice_at a.material.now.known.now) (range_of a.sites.now.from a.sites.now.to)
-          a.material.now.form.pairs.now a.material.now.form.ends.now a.site p _ c.look_at-beside.result.beyond (to_z w64 c.loop-place.beyond-bits) past.result _
-          c.requires.can.over.list.each c.requires.can.over.by_site c.requires.site.0 from to head c.look_at-beside.ensures.beyond past_is (i.beyond m move read)
+          a.material.now.form.pairs.now a.material.now.form.ends.now a.site p _ c.look_beside-beside.result.beyond (to_z w64 c.loop-place.beyond-bits) past.result _
+          c.requires.can.over.list.each c.requires.can.over.by_site c.requires.site.0 from to head c.look_beside-beside.ensures.beyond past_is (i.beyond m move read)
           (one_way beside.beyond any saving past.result _ (λ is. some ∙ way_two beside.one beside.beyond met is) (c.counted_saving-saving.ensures.value m move read)
           (past.ensures.value ∙ ap (λ (z : ℤ). cond beside.beyond z (pos 0)) passed));
       laid = c.in_ok-add_inside.ensures.laid;
@@ -99,7 +99,7 @@ loop-place-preserved c =
     }
 
 pub returns-clause-ones : goal.returns-clause-ones
-returns-clause-ones c =
+returns-clause-ones g c =
     λ m move read.
     let a = c.args in
     let f = labelling a.material.now.form.at.now in
@@ -109,7 +109,7 @@ returns-clause-ones c =
     read.pairs_are read.sites_are c.requires.can.over.list c.requires.can.over.by_site c.requires.site.0 last (c.loop-place.invariant.ones m move read)
 
 pub returns-clause-beyond : goal.returns-clause-beyond
-returns-clause-beyond c =
+returns-clause-beyond g c =
     λ m move read.
     let a = c.args in
     let f = labelling a.material.now.form.at.now in
@@ -119,14 +119,14 @@ returns-clause-beyond c =
     read.pairs_are read.sites_are c.requires.can.over.list c.requires.can.over.by_site c.requires.site.0 last (c.loop-place.invariant.beyond m move read)
 
 pub returns-clause-range : goal.returns-clause-range
-returns-clause-range c =
+returns-clause-range g c =
     let a = c.args in
     let last : c.loop-place.place - neighbours_start a.material.now.form.ends.now a.site ≡ degree a.material.now.form.ends.now a.site =
     omega (arith, c.row_start-place.ensures, c.row_start-place-end.ensures, starts_rise a.material.now.form.pairs.now a.material.now.form.ends.now a.site c.requires.can.over.by_site c.requires.site.0, c.loop-place.auto.place-end, c.loop-place-test.false) in
     (omega (arith, last, c.loop-place.invariant.ones_small), omega (arith, last, c.loop-place.invariant.beyond_small))
 
 pub returns-clause-adds : goal.returns-clause-adds
-returns-clause-adds c =
+returns-clause-adds g c =
     λ m move read.
     let a = c.args in
     let f = labelling a.material.now.form.at.now in
@@ -137,10 +137,10 @@ returns-clause-adds c =
     (form_in a.form.now) (form_in c.loop-place.form) last (c.loop-place.invariant.adds m move read)
 
 pub returns-clause-laid : goal.returns-clause-laid
-returns-clause-laid c = c.loop-place.invariant.laid
+returns-clause-laid g c = c.loop-place.invariant.laid
 
 pub returns-clause-ends : goal.returns-clause-ends
-returns-clause-ends c =
+returns-clause-ends g c =
     let a = c.args in
     let last : c.loop-place.place - neighbours_start a.material.now.form.ends.now a.site ≡ degree a.material.now.form.ends.now a.site =
     omega (arith, c.row_start-place.ensures, c.row_start-place-end.ensures, starts_rise a.material.now.form.pairs.now a.material.now.form.ends.now a.site c.requires.can.over.by_site c.requires.site.0, c.loop-place.auto.place-end, c.loop-place-test.false) in

@@ -13,7 +13,7 @@ use Rattle.strip_nets.specs.Views.{strip_view}
 use Rattle.strip_nets.proofs.rows.add_row.Given as goal
 
 abbrev pub invariant-loop-place : goal.invariant-loop-place
-invariant-loop-place l = record {
+invariant-loop-place g l = record {
   ones_small : unsigned_abs l.ones ≤ 20000000 * (l.place - neighbours_start l.material.form.ends.now l.site);
   beyond_small : unsigned_abs l.beyond ≤ 20000000 * (l.place - neighbours_start l.material.form.ends.now l.site);
   ones : WhereRead l.material.form (λ m move f. l.ones ≡ pos (sum_below (l.place - neighbours_start l.material.form.ends.now l.site) (λ i.

@@ -7,17 +7,17 @@ use Rattle.site_bounds.specs.Working.{AreWaiting, SeesPair}
 use Rattle.move_energy.proofs.Parts.{start_read, starts_rise}
 use Rattle.site_bounds.proofs.Left.{left_less}
 use Rattle.site_bounds.proofs.Closed.{same_closed, both_closed, marked_closed}
-use Rattle.site_bounds.proofs.Ranges.{range_wider, decided_waits, total_same, marked_summed, looked_summed, summed_most}
+use Rattle.site_bounds.proofs.Ranges.{range_wider, decided_waits, marked_range, marked_total, marked_summed, looked_summed}
 use Rattle.site_bounds.proofs.Spreading.{IsSpread, spread_start, spread_step, spread_end, pair_in}
 use Rattle.move_energy.proofs.Places.{meant_grouped}
-use Rattle.site_bounds.proofs.Places.{range_start, range_step, range_enough, site_free}
+use Rattle.site_bounds.proofs.Places.{range_step, range_enough, site_free}
 use Rattle.std.proofs.lemmas.Result.{err_from_is_err_and}
 use Rattle.site_bounds.proofs.bounds.Bounds.decide.Goals as goal
 
 pub loop-place-init : goal.loop-place-init
 loop-place-init c =
     let a = c.args in
-    let inside : a.site < a.form.now.pairs.now.sites = omega (arith, c.requires.site.0, summed_most (length a.form.now.at.now) a.self.now c.requires.sized, c.requires.over.sites) in
+    let inside : a.site < a.form.now.pairs.now.sites = omega (arith, c.requires.site.0, c.requires.sized.within, c.requires.over.sites) in
     let start = start_read a.form.now.pairs.now a.form.now.ends.now a.site _ c.requires.over.by_site (omega (arith, inside)) c.index-place.ensures in
     record {
       choices = refl;
@@ -25,11 +25,11 @@ loop-place-init c =
       same = c.mark.ensures.summed;
       waiting = decided_waits (a.self.now.summed) a.site a.value a.self.now c.mark.new.self c.mark.ensures c.requires.waiting;
       more = (let e = ap (λ (v : _). length v.items) c.mark.ensures.waiting in omega (arith, e));
-      range = λ most within. range_wider most _ c.mark.new.self (omega arith) (range_start a.self.now c.mark.new.self a.site a.value c.mark.ensures most within);
-      total = (let e = total_same a.self.now c.mark.new.self c.mark.ensures.greatest in omega (arith, e));
+      range = λ most within. range_wider most _ c.mark.new.self (omega arith) (marked_range a.site most a.value a.self.now c.mark.new.self c.mark.ensures within);
+      total = (let less = marked_total a.site a.value a.self.now c.mark.new.self c.mark.ensures in omega (arith, less));
       spread = λ m move read decided by_site.
           let G = grouped_at a.form.now.ends.now by_site.places in
-          let most : a.self.now.summed ≤ m.sites = omega (arith, summed_most (length a.form.now.at.now) a.self.now c.requires.sized, c.requires.over.sites, read.sites_are) in
+          let most : a.self.now.summed ≤ m.sites = omega (arith, c.requires.sized.within, c.requires.over.sites, read.sites_are) in
           let P : ℕ → Type 0 = λ p. IsSpread m move (labelling a.form.now.at.now) (a.self.now.summed) decided.decisions a.site a.value G p c.mark.new.self in
           subst P (sym start)
           (spread_start m move (labelling a.form.now.at.now) a.site a.value G a.self.now c.mark.new.self (a.self.now.summed) most (meant_grouped m a.form.now.pairs.now a.form.now.ends.now read.pairs_are read.sites_are by_site) decided c.mark.ensures);
@@ -38,7 +38,7 @@ loop-place-init c =
 pub see-requires-clause-place : goal.see-requires-clause-place
 see-requires-clause-place c =
     let a = c.args in
-    let inside : a.site < a.form.now.pairs.now.sites = omega (arith, c.requires.site.0, summed_most (length a.form.now.at.now) a.self.now c.requires.sized, c.requires.over.sites) in
+    let inside : a.site < a.form.now.pairs.now.sites = omega (arith, c.requires.site.0, c.requires.sized.within, c.requires.over.sites) in
     let start = start_read a.form.now.pairs.now a.form.now.ends.now a.site _ c.requires.over.by_site (omega (arith, inside)) c.index-place.ensures in
     let end = start_read a.form.now.pairs.now a.form.now.ends.now (a.site + 1) _ c.requires.over.by_site (omega (arith, inside)) c.index-place-end.ensures in
     record { inside = omega (arith, inside, c.requires.over.sites); from = omega (arith, start, c.loop-place.auto.place); to = omega (arith, end, c.loop-place-test.true) }
@@ -46,7 +46,7 @@ see-requires-clause-place c =
 pub see-requires-clause-range : goal.see-requires-clause-range
 see-requires-clause-range c =
     let a = c.args in
-    let inside : a.site < a.form.now.pairs.now.sites = omega (arith, c.requires.site.0, summed_most (length a.form.now.at.now) a.self.now c.requires.sized, c.requires.over.sites) in
+    let inside : a.site < a.form.now.pairs.now.sites = omega (arith, c.requires.site.0, c.requires.sized.within, c.requires.over.sites) in
     let start = start_read a.form.now.pairs.now a.form.now.ends.now a.site _ c.requires.over.by_site (omega (arith, inside)) c.index-place.ensures in
     let end = start_read a.form.now.pairs.now a.form.now.ends.now (a.site + 1) _ c.requires.over.by_site (omega (arith, inside)) c.index-place-end.ensures in
     let from : neighbours_start a.form.now.ends.now a.site ≤ c.loop-place.place = omega (arith, start, c.loop-place.auto.place) in
@@ -56,7 +56,7 @@ see-requires-clause-range c =
 pub loop-place-preserved : goal.loop-place-preserved
 loop-place-preserved c =
     let a = c.args in
-    let inside : a.site < a.form.now.pairs.now.sites = omega (arith, c.requires.site.0, summed_most (length a.form.now.at.now) a.self.now c.requires.sized, c.requires.over.sites) in
+    let inside : a.site < a.form.now.pairs.now.sites = omega (arith, c.requires.site.0, c.requires.sized.within, c.requires.over.sites) in
     let start = start_read a.form.now.pairs.now a.form.now.ends.now a.site _ c.requires.over.by_site (omega (arith, inside)) c.index-place.ensures in
     let end = start_read a.form.now.pairs.now a.form.now.ends.now (a.site + 1) _ c.requires.over.by_site (omega (arith, inside)) c.index-place-end.ensures in
     let from : neighbours_start a.form.now.ends.now a.site ≤ c.loop-place.place = omega (arith, start, c.loop-place.auto.place) in
@@ -85,7 +85,7 @@ loop-place-preserved c =
 pub returns-clause-range : goal.returns-clause-range
 returns-clause-range c = λ most within.
     let a = c.args in
-    let inside : a.site < a.form.now.pairs.now.sites = omega (arith, c.requires.site.0, summed_most (length a.form.now.at.now) a.self.now c.requires.sized, c.requires.over.sites) in
+    let inside : a.site < a.form.now.pairs.now.sites = omega (arith, c.requires.site.0, c.requires.sized.within, c.requires.over.sites) in
     let end = start_read a.form.now.pairs.now a.form.now.ends.now (a.site + 1) _ c.requires.over.by_site (omega (arith, inside)) c.index-place-end.ensures in
     let start = start_read a.form.now.pairs.now a.form.now.ends.now a.site _ c.requires.over.by_site (omega (arith, inside)) c.index-place.ensures in
     let ordered = starts_rise a.form.now.pairs.now a.form.now.ends.now a.site c.requires.over.by_site inside in
@@ -98,17 +98,17 @@ returns-clause-left c =
     let a = c.args in
     let marked = c.mark.ensures in
     let choices = ap (λ (v : _). v.items) c.loop-place.invariant.choices in
-    left_less a.form.now.ends.now (length a.form.now.at.now) a.site a.self.now.choices.items c.loop-place.self.choices.items (omega (arith, c.requires.site.0, summed_most (length a.form.now.at.now) a.self.now c.requires.sized)) c.requires.site.1
+    left_less a.form.now.ends.now (length a.form.now.at.now) a.site a.self.now.choices.items c.loop-place.self.choices.items (omega (arith, c.requires.site.0, c.requires.sized.within)) c.requires.site.1
     (λ opened. marked.closed (sym (ap (λ (xs : _). choice_at xs a.site) choices) ∙ opened))
     (λ u other. ap (λ (xs : _). choice_at xs u) choices ∙ marked.others u other)
 
 pub returns-clause-decided : goal.returns-clause-decided
 returns-clause-decided c = λ m move read tells decided.
     let a = c.args in
-    let inside : a.site < a.form.now.pairs.now.sites = omega (arith, c.requires.site.0, summed_most (length a.form.now.at.now) a.self.now c.requires.sized, c.requires.over.sites) in
+    let inside : a.site < a.form.now.pairs.now.sites = omega (arith, c.requires.site.0, c.requires.sized.within, c.requires.over.sites) in
     let end = start_read a.form.now.pairs.now a.form.now.ends.now (a.site + 1) _ c.requires.over.by_site (omega (arith, inside)) c.index-place-end.ensures in
     let past : neighbours_start a.form.now.ends.now (a.site + 1) ≤ c.loop-place.place = omega (arith, end, c.loop-place-test.false) in
-    let most : a.self.now.summed ≤ m.sites = omega (arith, summed_most (length a.form.now.at.now) a.self.now c.requires.sized, c.requires.over.sites, read.sites_are) in
+    let most : a.self.now.summed ≤ m.sites = omega (arith, c.requires.sized.within, c.requires.over.sites, read.sites_are) in
     spread_end m move (labelling a.form.now.at.now) (a.self.now.summed) a.site a.value (grouped_at a.form.now.ends.now c.requires.over.by_site.places) c.loop-place.place a.self.now c.mark.new.self c.loop-place.self
     read.instance most c.requires.site.0 decided c.requires.site.1 tells c.mark.ensures c.loop-place.invariant.choices past
     (c.loop-place.invariant.spread m move read decided c.requires.over.by_site)
@@ -164,7 +164,7 @@ returns-in_err-see-clause-same c =
 pub returns-clause-total : goal.returns-clause-total
 returns-clause-total c =
     let a = c.args in
-    let inside : a.site < a.form.now.pairs.now.sites = omega (arith, c.requires.site.0, summed_most (length a.form.now.at.now) a.self.now c.requires.sized, c.requires.over.sites) in
+    let inside : a.site < a.form.now.pairs.now.sites = omega (arith, c.requires.site.0, c.requires.sized.within, c.requires.over.sites) in
     let end = start_read a.form.now.pairs.now a.form.now.ends.now (a.site + 1) _ c.requires.over.by_site (omega (arith, inside)) c.index-place-end.ensures in
     let start = start_read a.form.now.pairs.now a.form.now.ends.now a.site _ c.requires.over.by_site (omega (arith, inside)) c.index-place.ensures in
     let ordered = starts_rise a.form.now.pairs.now a.form.now.ends.now a.site c.requires.over.by_site inside in

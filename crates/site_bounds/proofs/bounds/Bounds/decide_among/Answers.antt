@@ -1,6 +1,5 @@
 use Rattle.std.proofs.Common.{◌≡◌, ◌<◌, ◌+◌, ◌∙◌, ℕ, List, sym, subst, length, get_or, arith}
 use Rattle.std.proofs.lemmas.List.{get_or_default}
-use Rattle.std.proofs.lemmas.Result.{on_ok_weaker}
 use Rattle.move_energy.specs.declared.choice.Choice.TheVariants.{Open, Zero}
 use Rattle.move_energy.specs.Choices.{choice_at}
 use Rattle.site_bounds.specs.declared.bounds.Bounds.{Bounds}
@@ -13,15 +12,15 @@ use Rattle.site_bounds.proofs.bounds.Bounds.decide_among.Goals.{then-is_open+in_
 
 pub loop-place-init : goal.loop-place-init
 loop-place-init c = record {
-  way = way_begins c.args.form.now c.args.self.now c.requires.over c.requires.unsummed;
+  way = way_begins c.args.form.now c.args.self.now c.make_room.new.self c.requires.over c.requires.unsummed c.in_ok-make_room.ensures.sized c.in_ok-make_room.ensures.same;
   ahead = λ among u l opened on. omega arith;
-  behind = λ among u l listed rank. omega (arith, c.requires.unsummed.summed);
+  behind = λ among u l listed rank. omega (arith, c.in_ok-make_room.ensures.same.2, c.requires.unsummed.unsummed.summed);
 }
 
 pub index-requires : goal.index-requires
 index-requires c =
     let inside = listed_inside c.requires.among.before (length c.args.self.now.choices.items) c.args.sites.now c.loop-place.place c.requires.among.listing c.loop-place-test.true in
-    omega (arith, inside, c.loop-place.self.choices.ok.0, c.requires.unsummed.choices, c.loop-place.invariant.way.budget.sized.choices)
+    omega (arith, inside, c.loop-place.self.choices.ok.0, c.requires.unsummed.choices, c.loop-place.invariant.way.budget.sized.sized.choices)
 
 pub sum_next-requires-clause-site : goal.sum_next-requires-clause-site
 sum_next-requires-clause-site c =
@@ -38,7 +37,7 @@ sum_next-requires-clause-opened c =
     let a = c.args in
     let inside = listed_inside c.requires.among.before (length a.self.now.choices.items) a.sites.now c.loop-place.place c.requires.among.listing c.loop-place-test.true in
     let site = get_or a.sites.now c.loop-place.place 0 in
-    sym (get_or_default c.loop-place.self.choices.items site c.index.result.now Zero (omega (arith, inside, c.requires.unsummed.choices, c.loop-place.invariant.way.budget.sized.choices)))
+    sym (get_or_default c.loop-place.self.choices.items site c.index.result.now Zero (omega (arith, inside, c.requires.unsummed.choices, c.loop-place.invariant.way.budget.sized.sized.choices)))
     ∙ sym c.index.ensures ∙ c.is_open.ensures.0 c.if-is_open.true
 
 pub pass_rest-requires-clause-closed : goal.pass_rest-requires-clause-closed
@@ -66,7 +65,7 @@ loop-place-preserved c =
     let n = length start.choices.items in
     let inside = listed_inside c.requires.among.before n a.sites.now place c.requires.among.listing l in
     let on = behind_next start old a.sites.now place c.requires.among l (i.behind c.requires.among) in
-    let within : site < length old.choices.items = omega (arith, inside, c.requires.unsummed.choices, i.way.budget.sized.choices) in
+    let within : site < length old.choices.items = omega (arith, inside, c.requires.unsummed.choices, i.way.budget.sized.sized.choices) in
     let K : Bounds → Type 0 = λ now. goes_on (IsUnderWay a.form.now start) start a.sites.now place now in
     elim c.if-is_open.branch [
       | then-is_open+in_ok-sum_next w ↦
@@ -89,5 +88,4 @@ loop-place-preserved c =
     ]
 
 pub returns : goal.returns
-returns c =
-    on_ok_weaker c.pass_rest.result (λ ends. way_ends c.args.form.now c.args.self.now c.loop-place.self c.pass_rest.new.self c.requires.over ends c.loop-place.invariant.way) c.pass_rest.ensures
+returns c = way_ends c.args.form.now c.args.self.now c.loop-place.self c.pass_rest.new.self c.requires.over c.pass_rest.ensures c.loop-place.invariant.way

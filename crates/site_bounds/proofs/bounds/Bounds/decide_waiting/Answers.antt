@@ -54,10 +54,12 @@ decide_told-requires-clause-over c = c.requires.over
 pub decide_told-requires-clause-budget : goal.decide_told-requires-clause-budget
 decide_told-requires-clause-budget c = record {
   sized = record {
-    choices = c.deciding.invariant.budget.sized.choices;
-    greatest = c.deciding.invariant.budget.sized.greatest;
-    room = c.deciding.invariant.budget.sized.room;
-    most = c.deciding.invariant.budget.sized.most;
+    sized = record {
+      choices = c.deciding.invariant.budget.sized.sized.choices;
+      least = c.deciding.invariant.budget.sized.sized.least;
+      greatest = c.deciding.invariant.budget.sized.sized.greatest;
+    };
+    within = c.deciding.invariant.budget.sized.within;
   };
   left = c.deciding.invariant.budget.left;
   range = c.deciding.invariant.budget.range;
@@ -101,10 +103,12 @@ returns-in_err-decide_told-clause-total c =
 pub returns-clause-budget : goal.returns-clause-budget
 returns-clause-budget c = record {
   sized = record {
-    choices = c.deciding.invariant.budget.sized.choices;
-    greatest = c.deciding.invariant.budget.sized.greatest;
-    room = c.deciding.invariant.budget.sized.room;
-    most = c.deciding.invariant.budget.sized.most;
+    sized = record {
+      choices = c.deciding.invariant.budget.sized.sized.choices;
+      least = c.deciding.invariant.budget.sized.sized.least;
+      greatest = c.deciding.invariant.budget.sized.sized.greatest;
+    };
+    within = c.deciding.invariant.budget.sized.within;
   };
   left = c.deciding.invariant.budget.left;
   range = c.deciding.invariant.budget.range;

@@ -27,7 +27,11 @@ returns-then-not-has_bounds-clause-sees c = λ m move read.
 pub shift-requires-clause-site : goal.shift-requires-clause-site
 shift-requires-clause-site c =
     let below = (c.has_bounds.ensures.0 c.if-not-has_bounds.false).0 in
-    (omega (arith, below, c.requires.sized.room), omega (arith, below, c.requires.sized.room, c.requires.sized.greatest))
+    let sized = c.requires.sized in
+    (omega (arith, below, sized.within, sized.sized.least), omega (arith, below, sized.within, sized.sized.greatest))
+
+pub shift-requires-clause-known : goal.shift-requires-clause-known
+shift-requires-clause-known c = c.has_bounds.ensures.0 c.if-not-has_bounds.false
 
 pub returns-clause-waiting : goal.returns-clause-waiting
 returns-clause-waiting c =

@@ -12,11 +12,10 @@ returns-clause-shifts c =
 
 pub returns-clause-range : goal.returns-clause-range
 returns-clause-range c =
-    raised_range c.args.site _ _ 20000000 c.args.self.now c.raise.new.self c.requires.site.0 c.requires.site.1
+    raised_range c.args.site _ _ 20000000 c.args.self.now c.raise.new.self c.raise.ensures c.requires.site c.requires.known
     (passed_range c.least_shift.result 20000000 (omega arith) c.least_shift.ensures.range) (passed_range c.greatest_shift.result 20000000 (omega arith) c.greatest_shift.ensures.range)
-    c.raise.ensures.least c.raise.ensures.greatest
 
 pub returns-clause-total : goal.returns-clause-total
 returns-clause-total c =
-    raised_total c.args.site 20000000 _ c.args.self.now c.raise.new.self c.requires.site.1
-    (passed_range c.greatest_shift.result 20000000 (omega arith) c.greatest_shift.ensures.range) c.raise.ensures.greatest
+    raised_total c.args.site 20000000 _ _ c.args.self.now c.raise.new.self c.raise.ensures c.requires.site c.requires.known
+    (passed_range c.greatest_shift.result 20000000 (omega arith) c.greatest_shift.ensures.range)

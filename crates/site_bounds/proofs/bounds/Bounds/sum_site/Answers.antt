@@ -9,9 +9,9 @@ use Rattle.move_energy.specs.MoveValues.{move_value}
 use Rattle.move_energy.specs.Ends.{decided_or, HasNoneBefore}
 use Rattle.site_bounds.specs.Working.{open_ends, budget_of}
 use Rattle.site_bounds.proofs.Closed.{same_closed, both_closed, answered_closed}
-use Rattle.site_bounds.proofs.Answering.{answered_bounds, answered_summed, answered_waits, answered_left, answered_decides}
+use Rattle.site_bounds.proofs.Answering.{answered_count, answered_range, answered_total, answered_summed, answered_waits, answered_left, answered_decides}
 use Rattle.move_energy.proofs.Places.{degree_most}
-use Rattle.site_bounds.proofs.Ranges.{added_of, added_summed, added_range, added_waits, range_same, added_total, total_same, sum_room}
+use Rattle.site_bounds.proofs.Ranges.{added_of, added_summed, added_range, added_waits, added_total, sum_room}
 use Rattle.move_energy.proofs.SiteSums.{sum_passed}
 use Rattle.site_forms.proofs.Telling.{form_tells}
 use Rattle.site_bounds.proofs.Whole.{partly_more}
@@ -22,14 +22,14 @@ answer-requires-clause-bounds c =
     let a = c.args in
     let added = added_of a.site _ _ a.self.now c.add_bounds.new.self c.requires.bounds.0 c.requires.bounds.1 c.add_bounds.ensures in
     let one = added_summed (length a.form.now.at.now) a.site _ _ a.self.now c.add_bounds.new.self added c.requires.budget.sized in
-    (omega (arith, added.summed, one.room), omega (arith, added.summed, one.room, one.greatest))
+    (omega (arith, added.summed, one.within, one.sized.least), omega (arith, added.summed, one.within, one.sized.greatest))
 
 pub answer-requires-clause-choice : goal.answer-requires-clause-choice
 answer-requires-clause-choice c =
     let a = c.args in
     let added = added_of a.site _ _ a.self.now c.add_bounds.new.self c.requires.bounds.0 c.requires.bounds.1 c.add_bounds.ensures in
     let count = ap (λ (v : _). length v.items) added.choices in
-    omega (arith, count, c.requires.site.0, c.requires.budget.sized.choices)
+    omega (arith, count, c.requires.site.0, c.requires.budget.sized.sized.choices)
 
 pub returns : goal.returns
 returns c =
@@ -42,18 +42,18 @@ returns c =
     let rises = c.site_rises-rises in
     let N : List Choice → Type 0 = λ cs. HasNoneBefore cs a.form.now.ends.now a.site in
     let size = ap unsigned_abs (sum_passed rises.result.greatest (degree a.form.now.ends.now a.site) rises.ensures.range.1 few) in
-    let more = added_total a.site (10000000 + 10000000 * degree a.form.now.ends.now a.site) _ _ a.self.now c.add_bounds.new.self added (omega (arith, size, rises.ensures.range.1)) in
+    let more = added_total a.site (10000000 + 10000000 * degree a.form.now.ends.now a.site) _ _ a.self.now c.add_bounds.new.self added c.requires.site.1 (omega (arith, size, rises.ensures.range.1)) in
     on_ok_weaker c.answer.result (λ told. record {
       left = (let less = answered_left a.form.now.ends.now (length a.form.now.at.now) a.site _ c.add_bounds.new.self c.answer.new.self c.requires.site.0 opened told in
           omega (arith, less, same));
-      summed = (answered_bounds a.site _ c.add_bounds.new.self c.answer.new.self told).2 ∙ added.summed;
+      summed = answered_count a.site _ c.add_bounds.new.self c.answer.new.self told ∙ added.summed;
       sized = answered_summed (length a.form.now.at.now) a.site _ c.add_bounds.new.self c.answer.new.self told
           (added_summed (length a.form.now.at.now) a.site _ _ a.self.now c.add_bounds.new.self added c.requires.budget.sized);
-      range = (let same = answered_bounds a.site _ c.add_bounds.new.self c.answer.new.self told in
-          range_same c.add_bounds.new.self c.answer.new.self _ same.0 same.1
-          (added_range a.site (budget_of (open_ends a.form.now.ends.now (length a.form.now.at.now) a.self.now.choices.items)) _ _ a.self.now c.add_bounds.new.self added
+      range =
+          answered_range a.site _ _ c.add_bounds.new.self c.answer.new.self told
+          (added_range a.site (budget_of (open_ends a.form.now.ends.now (length a.form.now.at.now) a.self.now.choices.items)) _ _ a.self.now c.add_bounds.new.self added c.requires.site.1
           (sum_room rises.result.least (degree a.form.now.ends.now a.site) _ rises.ensures.range.0 few (omega (arith, c.requires.budget.left, c.requires.over.list.count)))
-          (sum_room rises.result.greatest (degree a.form.now.ends.now a.site) _ rises.ensures.range.1 few (omega (arith, c.requires.budget.left, c.requires.over.list.count))) c.requires.budget.range));
+          (sum_room rises.result.greatest (degree a.form.now.ends.now a.site) _ rises.ensures.range.1 few (omega (arith, c.requires.budget.left, c.requires.over.list.count))) c.requires.budget.range);
       waiting = answered_waits (a.site + 1) a.site _ c.add_bounds.new.self c.answer.new.self (omega arith) told
           (added_waits a.site _ _ a.self.now c.add_bounds.new.self added c.requires.waiting);
       closed = both_closed a.self.now c.add_bounds.new.self c.answer.new.self (same_closed a.self.now c.add_bounds.new.self added.choices)
@@ -73,6 +73,6 @@ returns c =
             sum_passed rises.result.greatest (degree a.form.now.ends.now a.site) rises.ensures.range.1 few ∙ rises.ensures.greatest (move_value m move f) tells
                 ∙ ap (λ (cs : List Choice). rise (move_value m move (labelling a.form.now.at.now)) a.site (decided_or cs false)) c.deref.ensures.value,
           )) decided);
-      total = (let same = answered_bounds a.site _ c.add_bounds.new.self c.answer.new.self told in
-          omega (arith, more, total_same c.add_bounds.new.self c.answer.new.self same.1));
+      total = (let less = answered_total a.site _ c.add_bounds.new.self c.answer.new.self told in
+          omega (arith, more, less));
     }) c.answer.ensures

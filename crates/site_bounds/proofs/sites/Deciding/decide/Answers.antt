@@ -1,8 +1,10 @@
-use Rattle.std.proofs.Common.{◌≡◌, ◌<◌, ◌∙◌, ℕ, List, sym, subst, length, arith}
+use Rattle.std.proofs.Common.{◌≡◌, ◌<◌, ◌≤◌, ◌∙◌, ℕ, List, sym, subst, length, arith}
 use Rattle.label_energies.specs.Energies.{labelling}
 use Rattle.move_energy.specs.declared.choice.Choice.{Choice}
 use Rattle.move_energy.specs.declared.choice.Choice.TheVariants.{Open}
+use Rattle.compile_cut.specs.Weights.{weights_size}
 use Rattle.move_energy.specs.Choices.{choice_at}
+use Rattle.move_energy.specs.Weights.{open_weights}
 use Rattle.form_lists.specs.Lists.{CoversChanges}
 use Rattle.site_bounds.specs.Listed.{AreListed, CoversRest}
 use Rattle.site_bounds.specs.Working.{AreOfSites, AreUnsummed, ArePartlyDecided, CanDecide}
@@ -52,7 +54,7 @@ returns-clause-known g c =
     record {
       sites = record {
         sized = record { choices = sized.choices; least = sized.least; greatest = sized.greatest };
-        small = e.total;
+        small = (let T : List ℕ → Type 0 = λ at. weights_size (open_weights new.choices.items new.greatest.items (length at)) ≤ 300000000000000 in subst T c.form-form.ensures.at e.total);
         listed = subst L c.deref-3.ensures.value c.in_ok-fill_rest.ensures.lists;
       };
       weights = λ m meant.

@@ -18,8 +18,8 @@ pub write_open-requires-clause-size : goal.write_open-requires-clause-size
 write_open-requires-clause-size c =
     let a = c.args in
     let can = c.requires.can in
-    listed_few a.known.now a.opened.now a.basis.now.weights.now c.deref.result.now (c.deref.ensures.value ∙ c.in_ok-list_weights.ensures)
-    (can.begins.weighed ∙ sym can.count) c.requires.opened can.begins.size
+    listed_few a.basis.now.start.now a.known.now 0 (length a.known.now) (length a.form.now.at.now) a.opened.now a.basis.now.weights.now c.deref.result.now
+    (c.deref.ensures.value ∙ c.in_ok-list_weights.ensures) can.count can.goes_on (whole_listed a.known.now a.opened.now (length a.known.now) (omega arith) c.requires.opened) can.begins.size
 
 pub returns-clause-stands : goal.returns-clause-stands
 returns-clause-stands c = λ m move read are.

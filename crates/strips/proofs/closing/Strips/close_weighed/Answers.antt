@@ -31,8 +31,8 @@ cut_strip-requires-clause-weighed c =
     let listed = c.deref-4.ensures.value ∙ c.in_ok-list_weights.ensures ∙ ap (map (weight_at a.basis.now.weights.now)) (c.deref.ensures.value ∙ sym c.deref-3.ensures.value) in
     record {
       count = listed_count c.deref-3.result.now a.basis.now.weights.now c.deref-4.result.now listed;
-      size = listed_few view c.deref-3.result.now a.basis.now.weights.now c.deref-4.result.now listed
-          (can.begins.weighed ∙ sym can.count ∙ sym (view_length a.known.now.items 0 a.to)) (subst O (sym c.deref-3.ensures.value) c.requires.opened) can.begins.size;
+      size = listed_few a.basis.now.start.now a.known.now.items 0 a.to (length a.form.now.at.now) c.deref-3.result.now a.basis.now.weights.now c.deref-4.result.now listed
+          can.count can.goes_on (subst O (sym c.deref-3.ensures.value) c.requires.opened) can.begins.size;
     }
 
 pub tell-requires-clause-sites : goal.tell-requires-clause-sites

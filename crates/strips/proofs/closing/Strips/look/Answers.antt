@@ -18,8 +18,8 @@ pub cut_open-requires-clause-size : goal.cut_open-requires-clause-size
 cut_open-requires-clause-size c =
     let a = c.args in
     let can = c.requires.can in
-    listed_few a.known.now a.opened.now a.basis.now.weights.now c.deref.result.now (c.deref.ensures.value ∙ c.in_ok-list_weights.ensures)
-    (can.begins.weighed ∙ sym can.count) c.requires.opened can.begins.size
+    listed_few a.basis.now.start.now a.known.now 0 (length a.known.now) (length a.form.now.at.now) a.opened.now a.basis.now.weights.now c.deref.result.now
+    (c.deref.ensures.value ∙ c.in_ok-list_weights.ensures) can.count can.goes_on (whole_listed a.known.now a.opened.now (length a.known.now) (omega arith) c.requires.opened) can.begins.size
 
 pub returns-clause-count : goal.returns-clause-count
 returns-clause-count c = c.in_ok-bits.ensures.count ∙ opened_count c.args.known.now c.args.opened.now c.requires.opened

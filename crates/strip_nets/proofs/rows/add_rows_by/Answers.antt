@@ -1,4 +1,4 @@
-use Rattle.std.proofs.Common.{◌≡◌, ◌<◌, ◌-ℤ◌, take, ◌∙◌, ℕ, ℤ, Bool, List, ◌++◌, get_or, unsigned_abs, pos, ap, refl, sym, subst, length, sum, arith}
+use Rattle.std.proofs.Common.{◌≡◌, ◌<◌, ◌-ℤ◌, map, take, ◌∙◌, ℕ, ℤ, Bool, List, ◌++◌, get_or, unsigned_abs, pos, ap, refl, sym, subst, length, sum, arith}
 use Rattle.std.proofs.lemmas.Grind.{common_steps}
 use Rattle.std.proofs.lemmas.List.{get_or-map}
 use Rattle.compile_cut.specs.Weights.{weights_size}
@@ -19,10 +19,10 @@ use Rattle.std.proofs.lemmas.List.{take_all}
 use Rattle.strip_nets.specs.Meeting.{ends_at, strip_ends}
 use Rattle.strip_nets.specs.RowForms.{form_in, IsFirstPart}
 use Rattle.strip_nets.proofs.Meeting.{rows_more, row_begins}
-use Rattle.strip_nets.proofs.rows.add_rows.Goals as goal
+use Rattle.strip_nets.proofs.rows.add_rows_by.Goals as goal
 
 pub loop-index-init : goal.loop-index-init
-loop-index-init c =
+loop-index-init g c =
     let list = c.in_ok-reserve.ensures.items ∙ c.clear.ensures.items in
     let borders = c.in_ok-reserve-2.ensures.items ∙ c.clear-2.ensures.items in
     record {
@@ -40,10 +40,10 @@ loop-index-init c =
     }
 
 pub add_row-requires-clause-laid : goal.add_row-requires-clause-laid
-add_row-requires-clause-laid c = c.loop-index.invariant.laid
+add_row-requires-clause-laid g c = c.loop-index.invariant.laid
 
 pub add_row-requires-clause-begins : goal.add_row-requires-clause-begins
-add_row-requires-clause-begins c =
+add_row-requires-clause-begins g c =
     let a = c.args in
     let all = strip_ends a.material.now a.sites.now in
     let i = c.loop-index.index in
@@ -53,7 +53,7 @@ add_row-requires-clause-begins c =
     (row_begins a.material.now a.sites.now a.sites.now.opened.now i c.loop-index-test.true))
 
 pub overflow_sub-sites : goal.overflow_sub-sites
-overflow_sub-sites c =
+overflow_sub-sites g c =
     let a = c.args in
     let i = c.loop-index.index in
     let within : i < length a.sites.now.weights.now = omega (arith, c.loop-index-test.true, c.requires.weighed.count) in
@@ -61,7 +61,7 @@ overflow_sub-sites c =
     c.in_ok-found.ensures.range.0 (row_few a.material.now c.site_at-site.result c.requires.can c.site_at-site.ensures.site.0)
 
 pub loop-index-preserved : goal.loop-index-preserved
-loop-index-preserved c =
+loop-index-preserved g c =
     let a = c.args in
     let f = labelling a.material.now.form.at.now in
     let v = strip_view a.material.now.known.now a.sites.now.from a.sites.now.to in
@@ -107,31 +107,30 @@ loop-index-preserved c =
           a.sites.now.opened.now i l (inv.adds m move read) here;
     }
 
-pub returns-clause-size : goal.returns-clause-size
-returns-clause-size c =
-    let a = c.args in
-    size_all a.material.now.form.pairs.now a.material.now.form.ends.now (view_by a.sites.now a.material.now) a.sites.now.weights.now c.loop-index.list.items a.sites.now.opened.now c.loop-index.index c.requires.can.over.list c.requires.can.over.by_site
-    (seen_length a.material.now a.sites.now c.requires.can) c.requires.opened c.requires.weighed.size c.loop-index-test.false c.loop-index.invariant.size
-
-pub returns-clause-small : goal.returns-clause-small
-returns-clause-small c =
-    let a = c.args in
-    borders_all a.material.now.form.pairs.now a.material.now.form.ends.now (view_by a.sites.now a.material.now) c.loop-index.borders.items a.sites.now.opened.now c.loop-index.index c.requires.can.over.list c.requires.can.over.by_site
-    (seen_length a.material.now a.sites.now c.requires.can) c.requires.opened c.loop-index-test.false c.loop-index.invariant.small
-
-pub returns-clause-adds : goal.returns-clause-adds
-returns-clause-adds c = λ m move read.
+pub returns : goal.returns
+returns g c =
     let a = c.args in
     let f = labelling a.material.now.form.at.now in
     let v = strip_view a.material.now.known.now a.sites.now.from a.sites.now.to in
-    site_all (form_in a.form.now) (form_in c.loop-index.form)
-    (λ (x : ℕ → Bool). met_at a.material.now.form.ends.now (open_at v) (unsaved_surplus m move f (choice_at v) (open_rank v) x))
-    a.sites.now.opened.now c.loop-index.index (omega (arith, c.loop-index-test.false)) (c.loop-index.invariant.adds m move read)
-
-pub returns-clause-laid : goal.returns-clause-laid
-returns-clause-laid c = c.loop-index.invariant.laid
-
-pub returns-clause-ends : goal.returns-clause-ends
-returns-clause-ends c =
-    let a = c.args in
-    c.loop-index.invariant.ends ∙ ap (flat_map (ends_at a.material.now a.sites.now)) (take_all c.loop-index.index a.sites.now.opened.now (omega (arith, c.loop-index-test.false)))
+    let i = c.loop-index.index in
+    let inv = c.loop-index.invariant in
+    let opened = a.sites.now.opened.now in
+    let past = c.loop-index-test.false in
+    let all = take_all i opened (omega (arith, past)) in
+    let seen = seen_length a.material.now a.sites.now c.requires.can in record {
+      count = (omega (arith, inv.list_len, c.loop-index.list.ok.0, c.loop-index.auto.index-end, past), omega (arith, inv.borders_len, c.loop-index.borders.ok.0, c.loop-index.auto.index-end, past));
+      size = size_all a.material.now.form.pairs.now a.material.now.form.ends.now (view_by a.sites.now a.material.now) a.sites.now.weights.now c.loop-index.list.items opened i c.requires.can.over.list c.requires.can.over.by_site
+          seen c.requires.opened c.requires.weighed.size past inv.size;
+      small = borders_all a.material.now.form.pairs.now a.material.now.form.ends.now (view_by a.sites.now a.material.now) c.loop-index.borders.items opened i c.requires.can.over.list c.requires.can.over.by_site
+          seen c.requires.opened past inv.small;
+      laid = inv.laid;
+      ends = inv.ends ∙ ap (flat_map (ends_at a.material.now a.sites.now)) all;
+      weights = λ m move read starts. inv.weights m move read starts
+          ∙ ap (map (weight_now m move f (choice_at a.material.now.start.now) (choice_at a.material.now.known.now))) all;
+      borders_are = λ m move read. inv.borders m move read
+          ∙ ap (map (border_at m move f (choice_at a.material.now.known.now) (range_of a.sites.now.from a.sites.now.to))) all;
+      adds = λ m move read.
+          site_all (form_in a.form.now) (form_in c.loop-index.form)
+          (λ (x : ℕ → Bool). met_at a.material.now.form.ends.now (open_at v) (unsaved_surplus m move f (choice_at v) (open_rank v) x))
+          opened i (omega (arith, past)) (inv.adds m move read);
+    }

@@ -13,10 +13,10 @@ use Rattle.sink_distances.specs.Rows.{arc_ends}
 use Rattle.strip_nets.specs.Meeting.{ends_at, strip_ends}
 use Rattle.strip_nets.specs.RowForms.{arcs_in, form_in, IsLaidTo}
 use Rattle.strip_nets.specs.Views.{strip_view, weight_now}
-use Rattle.strip_nets.proofs.rows.add_rows.Given as goal
+use Rattle.strip_nets.proofs.rows.add_rows_by.Given as goal
 
 abbrev pub invariant-loop-index : goal.invariant-loop-index
-invariant-loop-index l = record {
+invariant-loop-index g l = record {
   list_room : length l.sites.opened.now ≤ vec_capacity l.list;
   borders_room : length l.sites.opened.now ≤ vec_capacity l.borders;
   list_len : vec_len l.list ≡ l.index;
