@@ -108,7 +108,7 @@ BESIDE = [
     ("`segment` 512 x 512", "segment512", "segment --low 30 --high 190", False),
     ("`segment` 1024 x 1024", "segment1024", "segment --low 30 --high 190", False),
 ]
-# The runs of that table that are measured by threads too: those of 16,384 pixels or more.
+# The runs of that table that are measured by threads too: those of 20,000 pixels or more.
 THREADED = [case for case in BESIDE if not re.search(r" 64 x 64|741|256 levels", case[0])]
 THREADS = [1, 2, 4]
 # Sizes whose memory is told, with 4 and with 8 neighbours.

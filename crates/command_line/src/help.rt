@@ -60,7 +60,7 @@ picture. It is `bound none` where no such numbers are known: after swaps, where 
 changed something, with a label cost above 0, and for costs that are no metric, as quadratic ones mostly.
 
 `--threads` has threads share the work; the picture is the same. They decide and cut parts of a large move
-side by side. Pictures of fewer than 16384 pixels gain nothing by it.
+side by side. Pictures of fewer than 20000 pixels gain nothing by it.
 
 Exit status: 0 answered, 1 refused (standard error has one line `refused N ..`), 2 not understood.
 
@@ -83,7 +83,7 @@ labels. It is `bound none` where no such numbers are known: after swaps, where t
 changed something, and for costs that are no metric, as quadratic ones mostly are.
 
 `--threads` has threads share the work; the picture is the same. They decide and cut parts of a large move
-side by side. Pictures of fewer than 16384 pixels gain nothing by it.
+side by side. Pictures of fewer than 20000 pixels gain nothing by it.
 
 Exit status: 0 answered, 1 refused (standard error has one line `refused N ..`), 2 not understood.
 
@@ -102,7 +102,7 @@ an image with the label of each pixel. A free pixel's label costs its difference
 or `weak` where an edge runs between them. Then standard error has the line `energy E data D smooth S`.
 
 `--threads` has threads share the work; the picture is the same. They decide and cut parts of a large move
-side by side. Pictures of fewer than 16384 pixels gain nothing by it.
+side by side. Pictures of fewer than 20000 pixels gain nothing by it.
 
 Exit status: 0 answered, 1 refused (standard error has one line `refused N ..`), 2 not understood.
 
@@ -198,7 +198,7 @@ It is `bound none` where no such numbers are known: after swaps, where the last 
 something, with a label cost above 0, and where smooth is no metric, as quadratic costs mostly are none.
 
 `--threads` has threads share the work; the labels are the same. They decide and cut parts of a large move
-side by side. Problems of fewer than 16384 sites gain nothing by it.
+side by side. Problems of fewer than 20000 sites gain nothing by it.
 
 Exit status: 0 answered, 1 refused (standard error has one line `refused N ..`), 2 not understood.
 

@@ -7,11 +7,11 @@ use Rattle.move_energy.specs.declared.rises.EndRises.{EndRises}
 use Rattle.move_energy.specs.declared.by_site.Neighbours.{Neighbours}
 use Rattle.move_energy.specs.Choices.{bit_of}
 use Rattle.site_forms.specs.declared.by_known.ToldRises.{ToldRises}
-use Rattle.site_forms.specs.Fields.{table_cost, code_of, known_place, weighed_rise, AreUnitRises, AreToldRises, AreUniform, AreExpanding, unit_rises_at}
+use Rattle.site_forms.specs.Fields.{table_cost, code_of, known_place, weighed_rise, AreUnitRises, AreToldFor, AreToldRises, AreUniform, AreScaled, AreExpanding, unit_rises_at}
 use Rattle.site_forms.proofs.Entries.{small_cost, label_within, site_label_within}
 use Rattle.site_forms.proofs.Places.{scaled}
 use Rattle.form_lists.specs.declared.lists.FormLists.{FormLists}
-use Rattle.form_lists.specs.Lists.{IsToldTable, AreMoveLabels}
+use Rattle.form_lists.specs.Lists.{IsToldTable, IsToldAsSaid, AreMoveLabels}
 use Rattle.label_energies.specs.Moves.{IsSwap}
 use Rattle.label_energies.specs.declared.change.Move.{Move}
 use Rattle.label_energies.specs.declared.change.Move.TheVariants.{Expand, Swap}
@@ -70,16 +70,23 @@ units_small stays turns smooth labels table small are own other l h =
     )
 
 -- a table of all labels serves those of sites
-pub uniform_of : (ends : Neighbours) (labels : ℕ) (at : List ℕ) (lists : FormLists) → All (λ label. label < labels) at → lists.listed ≡ false → IsToldTable labels ends lists
-    → AreUniform ends at lists.stays.items lists.turns.items lists.smooth.costs.items lists.smooth.symmetric lists.few lists.listed lists.told.items
-uniform_of ends labels at lists all weighted told = record {
+table_of : (weight labels : ℕ) (at : List ℕ) (lists : FormLists) → All (λ label. label < labels) at → lists.listed ≡ false → IsToldTable weight labels lists
+    → AreToldFor weight at lists.stays.items lists.turns.items lists.smooth.costs.items lists.smooth.symmetric lists.few lists.listed lists.told.items
+table_of weight labels at lists all weighted told = record {
   weighted = weighted;
-  even = told.even;
   mirrored = told.mirrored;
   labels = told.few;
   rows = λ u l. (let below = label_within at u labels l all in let rows = told.rows in omega (arith, below, rows));
   rises = λ own other choice mine theirs. told.rises own other choice (site_label_within at labels own all mine) (site_label_within at labels other all theirs);
 }
+
+pub uniform_of : (ends : Neighbours) (labels : ℕ) (at : List ℕ) (lists : FormLists) → All (λ label. label < labels) at → lists.listed ≡ false → IsToldAsSaid labels ends lists
+    → lists.uniform ≡ true → AreUniform ends at lists.stays.items lists.turns.items lists.smooth.costs.items lists.smooth.symmetric lists.few lists.listed lists.told.items
+uniform_of ends labels at lists all weighted told is = record { even = (told.even is).0; table = table_of ends.weight labels at lists all weighted (told.even is).1 }
+
+pub scaled_of : (ends : Neighbours) (labels : ℕ) (at : List ℕ) (lists : FormLists) → All (λ label. label < labels) at → lists.listed ≡ false → IsToldAsSaid labels ends lists
+    → lists.scaled ≡ true → AreScaled ends at lists.stays.items lists.turns.items lists.smooth.costs.items lists.smooth.symmetric lists.few lists.listed lists.told.items
+scaled_of ends labels at lists all weighted told is = record { differ = (told.unit is).0; table = table_of 1 labels at lists all weighted (told.unit is).1 }
 
 -- and an expansion's label is told by what labels become
 pub expanding_of : (ends : Neighbours) (labels : ℕ) (at : List ℕ) (move : Move) (lists : FormLists) (alpha : ℕ) → All (λ label. label < labels) at

@@ -19,7 +19,7 @@ use Rattle.move_energy.specs.MoveValues.{data_rise}
 use Rattle.site_forms.specs.Fields.{AreReadableLists, AreSymmetric, own_at}
 use Rattle.site_forms.specs.Fields.{AreListedRises, AreCostsRead, AreRisesRead}
 use Rattle.form_lists.specs.PairSides.{AreSidesRead, AreAllSmall}
-use Rattle.site_forms.specs.Fields.{AreUniform, AreToldRises, AreExpanding}
+use Rattle.site_forms.specs.Fields.{AreUniform, AreScaled, AreToldRises, AreExpanding}
 use Rattle.site_forms.specs.Fields.{told_in, known_place}
 use Rattle.form_lists.specs.declared.by_pair.PairRises.{PairRises}
 use Rattle.form_lists.specs.declared.lists.FormLists.{FormLists}
@@ -119,6 +119,8 @@ pub record AreFormLists (pairs : PairList) (ends : Neighbours) (at : List ℕ) (
   pub by_place : lists.listed ≡ true → AreListedRises ends lists.rises.items
   pub by_known : lists.uniform ≡ true → AreUniform ends at lists.stays.items lists.turns.items
       lists.smooth.costs.items lists.smooth.symmetric lists.few lists.listed lists.told.items
+  pub by_unit : lists.scaled ≡ true → AreScaled ends at lists.stays.items lists.turns.items
+      lists.smooth.costs.items lists.smooth.symmetric lists.few lists.listed lists.told.items
   pub by_label : lists.expanding ≡ true → AreExpanding ends at lists.stays.items lists.turns.items
       lists.smooth.symmetric lists.few lists.listed lists.alpha
 
@@ -138,18 +140,25 @@ pub record ArePairLists (pairs : PairList) (ends : Neighbours) (at : List ℕ) (
   pub by_place : lists.listed ≡ true → AreListedRises ends lists.rises.items
   pub by_known : lists.uniform ≡ true → AreUniform ends at lists.stays.items lists.turns.items
       lists.smooth.costs.items lists.smooth.symmetric lists.few lists.listed lists.told.items
+  pub by_unit : lists.scaled ≡ true → AreScaled ends at lists.stays.items lists.turns.items
+      lists.smooth.costs.items lists.smooth.symmetric lists.few lists.listed lists.told.items
   pub by_label : lists.expanding ≡ true → AreExpanding ends at lists.stays.items lists.turns.items
       lists.smooth.symmetric lists.few lists.listed lists.alpha
 
--- the table of rises by what is known is of so many labels, for pairs of the weight that all have
-pub record IsToldTable (labels : ℕ) (ends : Neighbours) (lists : FormLists) : Type 0 where
-  pub even : ends.even ≡ true
+-- the table of rises by what is known is of so many labels, for pairs of this weight
+pub record IsToldTable (weight labels : ℕ) (lists : FormLists) : Type 0 where
   pub mirrored : lists.smooth.symmetric ≡ true
   pub few : lists.few ≡ true
   pub rows : length lists.told.items ≡ labels * 256
   pub rises : (own other : ℕ) (choice : Choice) → own < labels → other < labels
-      → AreToldRises lists.stays.items lists.turns.items lists.smooth.costs.items ends.weight
+      → AreToldRises lists.stays.items lists.turns.items lists.smooth.costs.items weight
       own other choice (told_in lists.told.items (known_place own other choice))
+
+-- if a table tells the rises of all pairs by what is known, it is for the weight that all have; and
+-- if it tells those of a pair of weight 1, weights differ
+pub record IsToldAsSaid (labels : ℕ) (ends : Neighbours) (lists : FormLists) : Type 0 where
+  pub even : lists.uniform ≡ true → (ends.even ≡ true) × IsToldTable ends.weight labels lists
+  pub unit : lists.scaled ≡ true → (ends.even ≡ false) × IsToldTable 1 labels lists
 
 -- all lists but that of rises by what is known stay
 pub record KeepsPairLists (old new : FormLists) : Type 0 where

@@ -16,7 +16,7 @@ ghost use Rattle.site_forms.specs.Fields.{unit_rises_at, HaveRowsOf};
 ghost use Rattle.form_lists.specs.Lists.{AreFormLists, IsReadOf, KnowsCosts, HasNoCosts};
 ghost use Rattle.form_lists.specs.Lists.{AreCostsSmall, AreRisesNear, IsReadNear, CoversChanges};
 ghost use Rattle.form_lists.specs.Lists.{HasCostRoom, AreMadeAsked, AreMoveLabels, ArePairLists};
-ghost use Rattle.form_lists.specs.Lists.{ArePairsRead, HasTermsOf, KeepsPairLists, IsToldTable};
+ghost use Rattle.form_lists.specs.Lists.{ArePairsRead, HasTermsOf, KeepsPairLists, IsToldAsSaid};
 ghost use Rattle.move_energy.specs.Terms.{AreTermsTested};
 ghost use Rattle.label_field.specs.PairLists.{PairList};
 ghost use Rattle.move_energy.specs.declared.by_site.Neighbours.{Neighbours as NeighbourLists};
@@ -54,6 +54,8 @@ pub struct FormLists {
     table: Vec<EndRises>,
     /// Whether there are few labels, all weights are the same, and all costs in both orders.
     uniform: bool,
+    /// Whether all but the weights is so.
+    scaled: bool,
     told: Vec<ToldRises>,
     /// Whether the move is an expansion of `alpha` with more labels, all weights the same, and all
     /// costs in both orders.
@@ -83,6 +85,33 @@ fn are_uniform(few: bool, symmetric: bool, ends: &Neighbours) -> bool
     ensures light { result ≡ true → ends.now.weight ≤ weight_limit }
 {
     few && symmetric && ends.even && ends.weight <= WEIGHT_LIMIT
+}
+
+/// Whether pairs of weights that differ have one, which is that of a pair of weight 1.
+fn are_scaled(few: bool, symmetric: bool, ends: &Neighbours) -> bool
+    ensures few { result ≡ true → few ≡ true }
+    ensures mirrored { result ≡ true → symmetric ≡ true }
+    ensures differ { result ≡ true → ends.now.even ≡ false }
+{
+    few && symmetric && !ends.even
+}
+
+/// Whether one of the two is so.
+fn is_either(uniform: bool, scaled: bool) -> bool
+    ensures one { result ≡ true → uniform ≡ false → scaled ≡ true }
+    ensures none { result ≡ false → (uniform ≡ false) × (scaled ≡ false) }
+{
+    uniform | scaled
+}
+
+/// The weight of the pairs whose rises by what is known a table has.
+fn told_weight(uniform: bool, ends: &Neighbours) -> u32
+    requires { uniform ≡ true → ends.now.weight ≤ weight_limit }
+    ensures even { uniform ≡ true → result ≡ ends.now.weight }
+    ensures unit { uniform ≡ false → result ≡ 1 }
+    ensures light { result ≤ weight_limit }
+{
+    if uniform { ends.weight } else { 1 }
 }
 
 /// Whether a move gives sites one label or leaves them theirs, while pairs have no table, the same
@@ -308,6 +337,7 @@ impl FormLists {
             few: false,
             table: Vec::new(alloc),
             uniform: false,
+            scaled: false,
             told: Vec::new(alloc),
             expanding: false,
             alpha: 0,
@@ -349,7 +379,8 @@ impl FormLists {
         Ok(())
     }
 
-    /// Makes the table of rises by what is known, where pairs by these neighbours have one.
+    /// Makes the table of rises by what is known, where pairs by these neighbours have one, or one
+    /// of a pair of weight 1.
     fn tell_rises(&mut self, ends: &Neighbours, labels: u32) -> Result<(), AllocError>
         requires small { AreCostsSmall self.old.smooth.costs.items }
         requires few { self.old.few ≡ true → labels ≤ table_labels }
@@ -359,11 +390,11 @@ impl FormLists {
             AreUnitRises self.old.stays.items self.old.turns.items self.old.smooth.costs.items
             first own other (unit_rises_at self.old.table.items first own other) }
         ensures same { KeepsPairLists self.old self.new }
-        ensures told { OnOk result (self.new.uniform ≡ true →
-            IsToldTable labels ends.now self.new) }
+        ensures told { OnOk result (IsToldAsSaid labels ends.now self.new) }
     {
         self.uniform = are_uniform(self.few, self.smooth.symmetric, ends);
-        if !self.uniform {
+        self.scaled = are_scaled(self.few, self.smooth.symmetric, ends);
+        if !is_either(self.uniform, self.scaled) {
             return Ok(());
         }
         let blank = ToldRises {
@@ -371,7 +402,8 @@ impl FormLists {
             greatest: 0,
         };
         self.told.resize(labels as usize * 256, blank)?;
-        write_told_rows(self.told.as_mut_slice(), &self.table, ends.weight, labels);
+        let weight = told_weight(self.uniform, ends);
+        write_told_rows(self.told.as_mut_slice(), &self.table, weight, labels);
         Ok(())
     }
 
@@ -396,8 +428,7 @@ impl FormLists {
             own < labels → other < labels →
             AreUnitRises self.new.stays.items self.new.turns.items self.new.smooth.costs.items
             first own other (unit_rises_at self.new.table.items first own other)) }
-        ensures told { OnOk result (self.new.uniform ≡ true →
-            IsToldTable labels ends.now self.new) }
+        ensures told { OnOk result (IsToldAsSaid labels ends.now self.new) }
     {
         self.make_table(labels, sites)?;
         self.tell_rises(ends, labels)
@@ -458,6 +489,7 @@ impl FormLists {
         if self.listed {
             self.few = false;
             self.uniform = false;
+            self.scaled = false;
             self.expanding = false;
             list_sides(&mut self.sides, problem, at, change)?;
             return list_rises(&mut self.rises, &self.sides, problem, ends, at, change);
@@ -605,6 +637,7 @@ impl FormLists {
             few: self.few,
             table: &self.table,
             uniform: self.uniform,
+            scaled: self.scaled,
             told: &self.told,
             listed: self.listed,
             rises: &self.rises,

@@ -1,23 +1,21 @@
 -- How the refusal of a command becomes that of a run, and a run's end the run.
-use Rattle.std.proofs.Common.{◌≡◌, ℕ, Bool, false, List, Option, inl, inr, Result, Ok, Err, IfOk, IfErr, MatchResult, refl, sym, ap, subst, arith}
+use Rattle.std.proofs.Common.{◌≡◌, ℕ, false, List, inl, inr, Result, Ok, Err, IfOk, IfErr, MatchResult, refl, sym, ap, subst, arith}
 use Rattle.std.specs.Prelude.{string_bytes}
 use Rattle.std.specs.Result.{IsErrAnd}
-use Rattle.cut_ways.specs.declared.solve_error.SolveError.{SolveError}
 use Rattle.command_line.specs.Task.{Asks, AsksForHelp, HasText, IsNoTaskFor}
 use Rattle.command_line.specs.declared.task.NoTask.{NoTask}
 use Rattle.command_line.specs.declared.task.NoTask.TheVariants.{OutOfMemory, Help, Refused, BadOption}
 use Rattle.command_line.specs.declared.task.Request.{Request}
 use Rattle.program_texts.specs.declared.fault.Fault.{Fault}
 use Rattle.program_texts.specs.declared.fault.Fault.TheVariants as fault
-use Rattle.command_line.specs.declared.task.Task.{Task}
 use Rattle.program_tasks.proofs.FaultKinds.{task_own}
-use Rattle.program_tasks.specs.Commands.{IsDueFor, IsFaultFor}
+use Rattle.program_tasks.specs.Commands.{IsDueFor}
 use Rattle.gco_cli.specs.Asked.{StandsForAsked, cuts_refuse}
 use Rattle.gco_cli.specs.Refusals.{IsRefusalFor}
 use Rattle.program_texts.specs.Refusals.{TellsHelp, IsRefusalOf, SaysRefusal, ShowsHelp, exit_status}
 use Rattle.gco_cli.specs.Run.{IsDue, IsRun, LeavesSource, Streams}
 use Rattle.program_tasks.specs.Refusals.{Refuses, is_failed_read, is_bad_option}
-use Rattle.program_texts.specs.Writing.{IsCut, IsCutIn, Writes}
+use Rattle.program_texts.specs.Writing.{IsCut, Writes}
 use Rattle.byte_streams.specs.Streams.{Stream, Took, failures_after}
 use Rattle.program_texts.specs.declared.refusal.Refusal.{Refusal}
 use Rattle.program_texts.specs.declared.refusal.Refusal.TheVariants.{Fault as Faulty, Words}

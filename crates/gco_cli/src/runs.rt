@@ -16,12 +16,16 @@ use cut_ways::Alone;
 use program_tasks::run_task;
 use program_texts::{Fault, Line, Refusal, end_without_task, refuse_unread, say_end};
 use rounds::{Open, Workers};
-use std::alloc::Global;
+use std::alloc::{AllocError, Global};
 use std::convert::AsStr;
 use std::io;
 use std::sync::Wait;
 use std::thread::Threads;
 use worker_options::{Gate, Options};
+
+/// The size of a block that is freed before a run by workers: nearly the largest of which the C
+/// library takes notice.
+const FREED_BLOCK: usize = 31 << 20;
 
 /// One whole run of the words that the system gave. Where it gave none, and only an error, that is
 /// said, and the exit status is 2 where the error's kind is `InvalidData`, an argument that is not
@@ -134,6 +138,14 @@ fn answer_request<A: Threads + Wait + Sync, R: Source, W: Sink>(
     }
 }
 
+// Frees a block that nothing was written to, so that it takes no memory. The C library keeps free
+// memory up to twice the largest block that was freed. So each part of a move finds what the parts
+// before it have freed, and does not ask the system for its pages anew. If the block is refused,
+// the run is slower.
+fn keep_freed(alloc: Global) {
+    let _block: Result<Vec<u8>, AllocError> = Vec::with_capacity(alloc, FREED_BLOCK);
+}
+
 // One command over its input, its cuts by workers with this gate.
 fn run_by_workers<A: Threads + Wait + Sync, R: Source, W: Sink>(
     rt: &A,
@@ -153,6 +165,7 @@ fn run_by_workers<A: Threads + Wait + Sync, R: Source, W: Sink>(
     ensures read { TellsRead (R.stream source.old) (R.stream source.new) result }
     ensures kept { W.loan sink.new ≡ W.loan sink.old }
 {
+    keep_freed(alloc);
     let how = Workers {
         rt,
         options,

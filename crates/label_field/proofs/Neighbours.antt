@@ -53,6 +53,23 @@ row-landing width height x y step t =
     let parts : (step.left ≤ x) × (x + step.right < width + step.left) × (y + step.down < height) = stays_parts width height x y step t in
     ap (λ n. n / width) (omega arith) ∙ div-mul-add (y + step.down) width (x + step.right - step.left) (omega arith)
 
+-- the next site lies beside one, or in the first column of the next row
+pub next_beside : (width s x y : ℕ) → x ≡ column width s → y ≡ row width s → x + 1 < width → (x + 1 ≡ column width (s + 1)) × (y ≡ row width (s + 1))
+next_beside width s x y in_column in_row inside =
+    let rows : y * width ≡ row width s * width = ap (λ r. r * width) in_row in
+    let is : s + 1 ≡ y * width + (x + 1) = omega (arith, site_at-column width s, in_column, rows) in (
+      sym (ap (λ n. n % width) is ∙ mod-mul-add y width (x + 1) inside),
+      sym (ap (λ n. n / width) is ∙ div-mul-add y width (x + 1) inside),
+    )
+
+pub next_below : (width s x y : ℕ) → 0 < width → x ≡ column width s → y ≡ row width s → width ≤ x + 1 → (0 ≡ column width (s + 1)) × (y + 1 ≡ row width (s + 1))
+next_below width s x y wide in_column in_row last =
+    let rows : y * width ≡ row width s * width = ap (λ r. r * width) in_row in
+    let is : s + 1 ≡ (y + 1) * width + 0 = omega (arith, site_at-column width s, in_column, rows, mod_below s width wide, last) in (
+      sym (ap (λ n. n % width) is ∙ mod-mul-add (y + 1) width 0 wide),
+      sym (ap (λ n. n / width) is ∙ div-mul-add (y + 1) width 0 wide),
+    )
+
 -- a site is not in a later row than a later site, and in one row it is in an earlier column
 pub row_rises : (width p q : ℕ) → 0 < width → p < q → row width p ≤ row width q
 row_rises width p q wide later =

@@ -3,6 +3,7 @@ use Rattle.std.specs.Prelude.{nat_lt, nat_le, List, [], ◌∷◌, map, length, 
 use Rattle.std.specs.List.{filter, flat_map, range_with_len, Contains, All, AllPairs}
 use Rattle.label_field.specs.Limits.{site_limit, side_limit}
 use Rattle.label_field.specs.declared.pair.Pair.{Pair}
+use Rattle.label_field.specs.declared.grid.Place.{Place}
 use Rattle.label_field.specs.declared.grid.Step.{Step}
 
 -- the width and the height of an image, in their limits
@@ -22,6 +23,12 @@ column width site = site % width
 
 abbrev pub row : ℕ → ℕ → ℕ
 row width site = site / width
+
+-- a site of an image, and its column and its row
+pub record IsImagePlace (width height : ℕ) (place : Place) : Type 0 where
+  pub inside : place.site < width * height
+  pub in_column : place.x ≡ column width place.site
+  pub in_row : place.y ≡ row width place.site
 
 -- to the right, and down
 abbrev pub steps4 : List Step

@@ -5,6 +5,7 @@ ghost use Rattle.std.specs.List.{All};
 ghost use Rattle.label_field.specs.Limits.{site_limit, weight_limit};
 ghost use Rattle.label_field.specs.Grids.{IsImage, IsSmallStep, AreSmallSteps, edge_count};
 ghost use Rattle.label_field.specs.Grids.{corner_count};
+ghost use Rattle.label_field.specs.Grids.{IsImagePlace};
 ghost use Rattle.label_field.specs.Grids.{column, row, stays, step_end, pair_to, pairs_of_steps};
 ghost use Rattle.label_field.specs.Grids.{grid as grid_list, steps4, steps8};
 
@@ -93,17 +94,47 @@ impl Step {
     }
 }
 
-// The pair of a site with the place of the image where a step from it ends, if there is one.
-fn pair_at(image: Image, site: u32, step: &Step, weight: u32) -> Option<Pair>
-    requires site { site < image.width * image.height }
-    requires small { IsSmallStep step.now }
-    ensures { result ≡ (if stays image.width image.height (column image.width site)
-        (row image.width site) step.now then Some
-        (pair_to image.width weight site step.now) else None) }
+// A site, and the column and the row where it lies.
+#[derive(Clone, Copy)]
+struct Place {
+    site: u32,
+    x: u32,
+    y: u32,
+}
+
+// The place of the next site.
+fn next_place(image: Image, place: Place) -> Place
+    requires { IsImagePlace image.width image.height place }
+    ensures site { result.site ≡ place.site + 1 }
+    ensures place { place.site + 1 < image.width * image.height →
+        IsImagePlace image.width image.height result }
 {
-    let second = step.end(image, site % image.width, site / image.width)?;
+    let site = place.site + 1;
+    if place.x + 1 < image.width {
+        return Place {
+            site,
+            x: place.x + 1,
+            y: place.y,
+        };
+    }
+    Place {
+        site,
+        x: 0,
+        y: place.y + 1,
+    }
+}
+
+// The pair of a site with the place of the image where a step from it ends, if there is one.
+fn pair_at(image: Image, from: Place, step: &Step, weight: u32) -> Option<Pair>
+    requires place { IsImagePlace image.width image.height from }
+    requires small { IsSmallStep step.now }
+    ensures { result ≡ (if stays image.width image.height (column image.width from.site)
+        (row image.width from.site) step.now then Some
+        (pair_to image.width weight from.site step.now) else None) }
+{
+    let second = step.end(image, from.x, from.y)?;
     Some(Pair {
-        first: site,
+        first: from.site,
         second,
         weight,
     })
@@ -113,17 +144,18 @@ fn pair_at(image: Image, site: u32, step: &Step, weight: u32) -> Option<Pair>
 fn push_pairs(
     list: &mut Vec<Pair>,
     image: Image,
-    site: u32,
+    place: Place,
     steps: &[Step],
     weight: u32,
 ) -> Result<(), AllocError>
-    requires site { site < image.width * image.height }
+    requires place { IsImagePlace image.width image.height place }
     requires small { All IsSmallStep steps.now }
     ensures { OnOk result (list.new.items
-        ≡ list.old.items ++ pairs_of_steps image.width image.height weight steps.now site) }
+        ≡ list.old.items ++ pairs_of_steps image.width image.height weight steps.now
+        place.site) }
 {
     for step in steps {
-        if let Some(pair) = pair_at(image, site, step, weight) {
+        if let Some(pair) = pair_at(image, place, step, weight) {
             list.push(pair)?;
         }
     }
@@ -148,8 +180,14 @@ fn grid(
 {
     let sites = image.width * image.height;
     let mut list = Vec::with_capacity(alloc, count)?;
-    for site in 0..sites {
-        push_pairs(&mut list, image, site, steps, weight)?;
+    let mut place = Place {
+        site: 0,
+        x: 0,
+        y: 0,
+    };
+    for _site in 0..sites {
+        push_pairs(&mut list, image, place, steps, weight)?;
+        place = next_place(image, place);
     }
     Ok(Pairs::of_list(sites, list))
 }

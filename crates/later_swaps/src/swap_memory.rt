@@ -3,6 +3,7 @@ ghost use Rattle.std.specs.Prelude.{◌≡◌, ◌==◌, ◌++◌, ◌∷◌, []
 ghost use Rattle.std.specs.Prelude.{OnOk, IsTrue, IsFalse, false};
 ghost use Rattle.label_field.specs.Limits.{site_limit};
 ghost use Rattle.move_energy.specs.BySite.{IsListing};
+ghost use Rattle.move_energy.specs.Choices.{bit_of};
 ghost use Rattle.later_swaps.specs.Prelude.{Instance, labelling as labelling_of, WhereMeant};
 ghost use Rattle.later_swaps.specs.Prelude.{FitsProblem, site_values, label_limit, kept_values};
 ghost use Rattle.later_swaps.specs.Prelude.{AreSwapsStamped, IsSettled};
@@ -120,6 +121,15 @@ fn list_changed(
     Ok(list)
 }
 
+/// 1 where a site's value is not the one by which it keeps its label in a swap, and 0 else. It is a
+/// number, by which a loop takes many sites at once.
+#[inline]
+fn unlike_of(choice: Choice, label: u8, beta: u8) -> u8
+    ensures { result ≡ 0 → bit_of choice false ≡ (label == beta) }
+{
+    u8::from(choice.bit(false) != (label == beta))
+}
+
 /// Whether the values of all sites are those by which they keep these labels in a swap.
 fn are_settled(choices: &[Choice], at: &[u8], beta: u8) -> bool
     ensures { IsTrue result → (p : ℕ) → p < length at.now →
@@ -128,13 +138,11 @@ fn are_settled(choices: &[Choice], at: &[u8], beta: u8) -> bool
     if choices.len() != at.len() {
         return false;
     }
-    let mut unlike = false;
+    let mut unlike = 0u8;
     for site in 0..at.len() {
-        if choices[site].bit(false) != (at[site] == beta) {
-            unlike = true;
-        }
+        unlike = unlike.max(unlike_of(choices[site], at[site], beta));
     }
-    !unlike
+    unlike == 0
 }
 
 /// Notes a swap that led from some labels to others, or changed none, and whether these are

@@ -139,11 +139,12 @@ fn leave_strip<F: Fn(u32, u32) -> i64 + Sync, V: Fn(u32, u32) -> i64 + Sync>(
     Ok(left)
 }
 
-/// How many sites a move can change.
-fn count_changing(at: &[u8], change: Move) -> usize {
+/// How many sites have one of two labels.
+fn count_of_labels(at: &[u8], one: u32, other: u32) -> usize {
     let mut count = 0usize;
     for site in 0..at.len() {
-        if change.can_change(u32::from(at[site])) {
+        let label = u32::from(at[site]);
+        if label == one || label == other {
             count += 1;
         }
     }
@@ -155,15 +156,18 @@ fn count_changing(at: &[u8], change: Move) -> usize {
 const SWAP_SHARE: usize = 4;
 
 /// In how many parts a move is closed in at first. The way to cut says it of all sites, and for a
-/// swap of a share of those that it can change: these may be few.
+/// swap of a share of those that have one of its labels: these may be few, and are not counted if
+/// all sites are.
 fn part_count<H: Sharing>(how: &H, at: &[u8], change: Move) -> usize {
-    let parts = how.parts(at.len());
-    if parts < 2 {
-        return parts;
-    }
     match change {
-        Move::Expand(_) => parts,
-        Move::Swap(_, _) => how.parts(count_changing(at, change) / SWAP_SHARE),
+        Move::Expand(_) => how.parts(at.len()),
+        Move::Swap(one, other) => {
+            let most = how.parts(at.len() / SWAP_SHARE);
+            if most < 2 {
+                return most;
+            }
+            how.parts(count_of_labels(at, one, other) / SWAP_SHARE)
+        }
     }
 }
 

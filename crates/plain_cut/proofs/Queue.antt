@@ -1,9 +1,16 @@
 -- The queue while a node is discharged.
-use Rattle.std.proofs.Common.{◌≡◌, ◌≢◌, ℕ, zero, suc, ◌<◌, inl, inr, List, [], ◌∷◌, slice_index, Contains, sym, ap, arith}
+use Rattle.std.proofs.Common.{◌≡◌, ◌≢◌, ℕ, zero, suc, ◌<◌, inl, inr, List, [], ◌∷◌, ◌≤◌, ◌∙◌, length, take, slice_index, Contains, sym, ap, arith}
 use Rattle.std.proofs.lemmas.Bool.{cases_lt, cases_eq}
+use Rattle.std.proofs.lemmas.List.{get_or-take}
+use Rattle.std.proofs.Math.ListN.{length-take}
+use Rattle.sink_distances.specs.Search.{StandsAmong}
 use Rattle.plain_cut.specs.declared.work.Work.{Work}
 use Rattle.flow_network.specs.Cut.{Network, nodes}
 use Rattle.plain_cut.specs.State.{IsWork, IsQueuedBut, HasNoExcessBelow}
+
+-- what stands among the first so many of an order is in the list of these
+pub among_first : (order : List ℕ) (count v : ℕ) → count ≤ length order → StandsAmong order count v → StandsAmong (take count order) (length (take count order)) v
+among_first order count v fits among = (among.0, omega (arith, among.1, fits, length-take {A = ℕ}), get_or-take count order among.0 0 among.1 ∙ among.2)
 
 contains_rest : (v x : ℕ) (rest : List ℕ) → x ≢ v → Contains (v ∷ rest) x → Contains rest x
 contains_rest v x rest ne (zero, l, e) = absurd (ne (sym e))

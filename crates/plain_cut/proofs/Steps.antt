@@ -219,5 +219,5 @@ steps_more net u a b c h s = record {
 
 -- ---- a wave
 
-pub wave_more : (net : Network) (u : ℕ) (a b c : Work) → IsWave net a b → IsSteps net u b c → IsWave net a c
-wave_more net u a b c h s = record { work = s.work; fall = omega (arith, h.fall, s.fall); counted = omega (arith, h.counted, s.counted) }
+pub wave_more : (net : Network) (u : ℕ) (a b c : Work) → IsWave net a b → IsSteps net u b c → c.labels.items ≡ b.labels.items → IsWave net a c
+wave_more net u a b c h s stay = record { work = s.work; labels = stay ∙ h.labels; fall = omega (arith, h.fall, s.fall); counted = omega (arith, h.counted, s.counted) }

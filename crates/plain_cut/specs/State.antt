@@ -129,9 +129,10 @@ pub record IsRaised (net : Network) (old new : Work) : Type 0 where
   pub excess : new.excess.items ≡ old.excess.items
   pub queue : new.queue.items ≡ old.queue.items
 
--- pushes at any nodes: no more is left, whatever is queued
+-- pushes at any nodes: no more is left, whatever is queued, and the labels stay
 pub record IsWave (net : Network) (old new : Work) : Type 0 where
   pub work : IsWork net new
+  pub labels : new.labels.items ≡ old.labels.items
   pub fall : work_measure net new ≤ work_measure net old
   pub counted : work_measure net new + new.relabels ≤ work_measure net old + old.relabels
 

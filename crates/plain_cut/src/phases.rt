@@ -1,6 +1,7 @@
 //! The beginning of a phase: one push at each node that the search found.
 ghost use Rattle.std.specs.Prelude.{◌≡◌, ◌<◌, ◌≤◌, ℕ, OnOk, length, slice_index};
 ghost use Rattle.flow_network.specs.Cut.{nodes, IsNet};
+ghost use Rattle.sink_distances.specs.Search.{ListsAllBelow};
 ghost use Rattle.plain_cut.specs.State.{IsWork, IsWave, IsPhaseStart};
 
 use crate::pushes::push_all;
@@ -29,9 +30,9 @@ fn push_wave(
     Ok(())
 }
 
-/// Begins a phase, where the labels have just been raised: pushes at each of these nodes once, the
-/// last first, and queues anew the nodes that still have excess and a label below the limit. The
-/// others stand aside until the next search.
+/// Begins a phase, where a search has just raised the labels. The nodes that it found are all whose
+/// label is below the limit and not 0. It pushes at each of these once, the last first, and queues
+/// anew those that still have excess. The other nodes stand aside until the next search.
 pub fn begin_phase(
     net: &Outline,
     work: &mut Work,
@@ -44,12 +45,15 @@ pub fn begin_phase(
     requires stops { length stops.old ≤ nodes net.now }
     requires counted { work.old.relabels ≡ 0 }
     requires found { (i : ℕ) → i < length found.now → slice_index found.now i < nodes net.now }
+    requires listed { ListsAllBelow net.now work.old.labels.items
+        limit found.now (length found.now) }
     ensures phase { OnOk result (IsPhaseStart net.now limit work.old work.new) }
 {
     work.queue.clear();
     push_wave(net, work, found, stops)?;
     queue_again(
         &mut work.queue,
+        found,
         work.excess.as_slice(),
         work.labels.as_slice(),
         limit,

@@ -1,5 +1,6 @@
 //! The least cut of a net on one thread, phase after phase.
-ghost use Rattle.std.specs.Prelude.{◌≡◌, ◌-◌, ◌<◌, ◌≤◌, ℕ, IfOk, IsTrue, OnOk, length, slice_index};
+ghost use Rattle.std.specs.Prelude.{◌≡◌, ◌-◌, ◌<◌, ◌≤◌, ℕ, IfOk, IsTrue, OnOk};
+ghost use Rattle.std.specs.Prelude.{length, slice_index};
 ghost use Rattle.std.specs.Simd.Lanes.{zip2};
 ghost use Rattle.flow_network.specs.Limits.{capacity_limit};
 ghost use Rattle.flow_network.specs.Cut.{nodes, set_of, IsNet, IsSmallestLeastCut};
@@ -8,6 +9,7 @@ ghost use Rattle.flow_network.specs.Answer.{side_of, IsRightCut};
 ghost use Rattle.flow_network.specs.Progress.{top};
 ghost use Rattle.sink_distances.specs.Distances.{AreDistancesButZeros};
 ghost use Rattle.sink_distances.specs.Rows.{IsRows, CarryNothing};
+ghost use Rattle.sink_distances.specs.Search.{ListsAllBelow};
 ghost use Rattle.plain_cut.specs.State.{work_flow, IsWork, IsRaised, HasNoActiveNode};
 
 use crate::discharges::discharge_all;
@@ -65,10 +67,13 @@ pub fn finish(
     Ok(work)
 }
 
-/// Whether the search that ended at this limit was a full one, and no node that reaches the sink
-/// has excess.
-fn is_maximum(net: &Outline, work: &Work, limit: u32) -> bool
-    requires { IsWork net.now work.now }
+/// Whether the search that ended at this limit was a full one, and none of the nodes that it found,
+/// which are all that reach the sink, has excess.
+fn is_maximum(net: &Outline, work: &Work, found: &[u32], limit: u32) -> bool
+    requires work { IsWork net.now work.now }
+    requires found { (i : ℕ) → i < length found.now → slice_index found.now i < nodes net.now }
+    requires listed { ListsAllBelow net.now work.now.labels.items
+        limit found.now (length found.now) }
     ensures full { IsTrue result → top net.now ≤ limit }
     ensures finished { IsTrue result → HasNoActiveNode net.now work.now }
 {
@@ -76,7 +81,8 @@ fn is_maximum(net: &Outline, work: &Work, limit: u32) -> bool
     if limit < top {
         return false;
     }
-    'nodes: for v in 0..net.nodes() {
+    'nodes: for place in 0..found.len() {
+        let v = found[place] as usize;
         if work.excess[v] > 0 && work.labels[v] < top {
             return false;
         }
@@ -111,6 +117,8 @@ fn search_again(
     ensures fits { result.limit ≤ top net.now }
     ensures count { result.count ≤ nodes net.now }
     ensures places { (i : ℕ) → i < result.count → slice_index order.new i < nodes net.now }
+    ensures listed { ListsAllBelow net.now work.new.labels.items
+        result.limit order.new result.count }
     ensures exact { result.limit ≡ top net.now →
         AreDistancesButZeros net.now (work_flow net.now work.new) work.new.labels.items }
     ensures counted { work.new.relabels ≡ 0 }
@@ -148,7 +156,7 @@ fn make_phases(
 {
     let mut times = 2;
     let mut extent = raise_near(net, work, times, order, found);
-    'phases: while !is_maximum(net, work, extent.limit) {
+    'phases: while !is_maximum(net, work, &order[..extent.count], extent.limit) {
         begin_phase(net, work, &order[..extent.count], extent.limit, stops)?;
         discharge_all(net, work, extent.limit, stops)?;
         let last = work.relabels == 0 && extent.limit == net.top_label();

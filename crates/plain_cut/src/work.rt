@@ -1,11 +1,11 @@
 //! What the solver changes: the preflow, its excess, the labels and the queue.
 ghost use Rattle.std.specs.Prelude.{◌≡◌, ◌+◌, ◌<◌, ◌≤◌, ◌^◌, ℕ, IfOk, OnOk, All, Contains};
 ghost use Rattle.std.specs.Prelude.{length, replicate, slice_index};
-ghost use Rattle.flow_network.specs.Limits.{node_limit};
 ghost use Rattle.flow_network.specs.Cut.{nodes, IsNet};
 ghost use Rattle.flow_network.specs.Progress.{top};
 ghost use Rattle.sink_distances.specs.Distances.{AreDistancesButZeros};
 ghost use Rattle.sink_distances.specs.Rows.{IsRows, CarryNothing};
+ghost use Rattle.sink_distances.specs.Search.{StandsAmong, ListsAllBelow};
 ghost use Rattle.plain_cut.specs.State.{work_flow, IsWork, IsRaised, IsUnlabelled};
 
 use sink_distances::{Aim, Extent, Outline, Rows, raise_labels};
@@ -31,24 +31,29 @@ pub struct Work {
     pub relabels: usize,
 }
 
-/// Queues anew the nodes that have excess and a label below the limit, in rising order.
+/// Queues anew those of the nodes found that have excess and a label below the limit, in their
+/// order.
 pub fn queue_again(
     queue: &mut VecDeque<u32>,
+    found: &[u32],
     excess: &[u64],
     labels: &[u32],
     limit: u32,
 ) -> Result<(), AllocError>
     requires len { length labels.now ≡ length excess.now }
-    requires many { length excess.now ≤ node_limit }
+    requires inside { (i : ℕ) → i < length found.now →
+        slice_index found.now i < length excess.now }
     ensures nodes { OnOk result (All (λ v. v < length excess.now) queue.new.items) }
-    ensures all { OnOk result ((v : ℕ) → v < length excess.now → 0 < slice_index excess.now v →
-        slice_index labels.now v < limit → Contains queue.new.items v) }
+    ensures all { OnOk result ((v : ℕ) → StandsAmong found.now (length found.now) v →
+        0 < slice_index excess.now v → slice_index labels.now v < limit →
+        Contains queue.new.items v) }
     ensures aside { OnOk result (All (λ v. slice_index labels.now v < limit) queue.new.items) }
 {
     queue.clear();
-    'nodes: for v in 0..excess.len() {
-        if excess[v] > 0 && labels[v] < limit {
-            queue.push_back(v as u32)?;
+    'nodes: for place in 0..found.len() {
+        let v = found[place];
+        if excess[v as usize] > 0 && labels[v as usize] < limit {
+            queue.push_back(v)?;
         }
     }
     Ok(())
@@ -114,6 +119,8 @@ pub fn raise_near(
     ensures fits { result.limit ≤ top net.now }
     ensures count { result.count ≤ nodes net.now }
     ensures places { (i : ℕ) → i < result.count → slice_index order.new i < nodes net.now }
+    ensures listed { ListsAllBelow net.now work.new.labels.items
+        result.limit order.new result.count }
     ensures exact { result.limit ≡ top net.now →
         AreDistancesButZeros net.now (work_flow net.now work.new) work.new.labels.items }
     ensures whole { times + 1 ≡ 2 ^ 64 → result.limit ≡ top net.now }

@@ -4,7 +4,7 @@ use Rattle.worker_options.specs.declared.options.Options.{Options}
 
 -- one part of few sites or by one thread, one for each of two threads, and else two for each
 pub record IsPartCount (options : Options) (sites count : ℕ) : Type 0 where
-  pub few : sites < 16384 → count ≡ 1
+  pub few : sites < 20000 → count ≡ 1
   pub alone : options.threads < 2 → count ≡ 1
-  pub two : 16384 ≤ sites → options.threads ≡ 2 → count ≡ 2
-  pub shared : 16384 ≤ sites → 2 < options.threads → count ≡ 2 * options.threads
+  pub two : 20000 ≤ sites → options.threads ≡ 2 → count ≡ 2
+  pub shared : 20000 ≤ sites → 2 < options.threads → count ≡ 2 * options.threads

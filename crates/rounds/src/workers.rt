@@ -23,7 +23,7 @@ use worker_options::{Gate, Options};
 
 /// The fewest sites that several threads close in by parts: fewer take less time on one thread than
 /// the start of the others.
-const SHARED_SITES: usize = 1 << 14;
+const SHARED_SITES: usize = 20_000;
 
 /// How many parts of a move a thread has, where there are more than two. What is left open near
 /// their borders grows with their number; fewer leave threads idle at the end, since parts take

@@ -8,7 +8,7 @@ use Rattle.flow_network.specs.Progress.{top}
 use Rattle.flow_network.proofs.Moves.{label-le-path}
 use Rattle.sink_distances.specs.Distances.{IsExactLabel, AreDistancesButZeros, AreExactBelow, AreZerosUnreached}
 use Rattle.sink_distances.specs.Laws.{AreLow}
-use Rattle.sink_distances.specs.Search.{Search, search_label, node_at, AreDistancesUpTo}
+use Rattle.sink_distances.specs.Search.{Search, search_label, node_at, AreDistancesUpTo, StandsAmong}
 use Rattle.sink_distances.proofs.Laws.{residual_nodes, rises_to, exact-le-top}
 use Rattle.sink_distances.proofs.Order.{count-le-length, label-le-count}
 use Rattle.sink_distances.proofs.Searching.{IsSearchedBut, near_nodes, searched_exact_but}
@@ -84,6 +84,14 @@ search_is_near net flow old next limit s net_is unreached h at = record {
   full = near_full net flow old next limit s net_is unreached h at;
 }
 
+-- a node that was found below the limit stands in the order
+pub found_listed : (net : Network) (flow : Flow) (old : List ℕ) (next limit : ℕ) (s : Search) → IsSearchedBeside net flow old next s → limit ≤ top net
+    → (v : ℕ) → v < nodes net → slice_index s.labels v ≢ 0 → slice_index s.labels v < limit → StandsAmong s.order s.count v
+found_listed net flow old next limit s h fits v l some low = elim (h.order.listed v (omega (arith, l, h.len)) some) [
+  | inl none ↦ absurd (omega (arith, none, low, fits, h.len))
+  | inr place ↦ place
+]
+
 -- ---- labels that are raised to it
 
 -- each label is the higher of the old one and of what was found up to the limit
@@ -149,3 +157,16 @@ raised_exact net flow limit found old new fits low near len told all = record {
 pub raised_zeros : (net : Network) (flow : Flow) (limit : ℕ) (found old new : List ℕ) → AreDistancesUpTo net flow limit old found
     → AreRaisedTo net limit found old new → (v : ℕ) → v < nodes net → slice_index old v ≡ 0 → slice_index new v ≡ 0
 raised_zeros net flow limit found old new near told v l none = omega (arith, told v l, none, near.zeros v l none)
+
+-- where labels are raised to what was found, those below the limit that are not 0 were found there
+pub raised_listed : (net : Network) (flow : Flow) (limit : ℕ) (found old new order : List ℕ) (count : ℕ) → AreDistancesUpTo net flow limit old found → AreRaisedTo net limit found old new
+    → ((v : ℕ) → v < nodes net → slice_index found v ≢ 0 → slice_index found v < limit → StandsAmong order count v)
+    → (v : ℕ) → v < nodes net → slice_index new v ≢ 0 → slice_index new v < limit → StandsAmong order count v
+raised_listed net flow limit found old new order count near told listed v l some low =
+    let below : slice_index found v < limit = omega (arith, told v l, low) in
+    listed v l
+    (λ none. elim (cases_eq (slice_index old v) 0) [
+      | inl is ↦ some (omega (arith, told v l, is, none))
+      | inr off ↦ subst (λ (d : ℕ). ReachesIn net flow d v) none (near.leads v l off below)
+    ])
+    below

@@ -41,6 +41,15 @@ pub record IsOrder (found : Search) : Type 0 where
   pub rising : (i j : ℕ) → i ≤ j → j < found.count
       → search_label found (node_at found i) ≤ search_label found (node_at found j)
 
+-- a node stands among the first so many of an order
+abbrev pub StandsAmong : List ℕ → ℕ → ℕ → Type 0
+StandsAmong order count v = (i : ℕ) × (i < count) × (slice_index order i ≡ v)
+
+-- so does each node whose label is below a limit and not 0
+abbrev pub ListsAllBelow : Network → List ℕ → ℕ → List ℕ → ℕ → Type 0
+ListsAllBelow net labels limit order count = (v : ℕ) → v < nodes net → slice_index labels v ≢ 0
+    → slice_index labels v < limit → StandsAmong order count v
+
 -- no label in the order is above this one
 abbrev pub IsAtMost : ℕ → Search → Type 0
 IsAtMost label found = (i : ℕ) → i < found.count → search_label found (node_at found i) ≤ label

@@ -9,7 +9,7 @@ ghost use Rattle.sink_distances.specs.Distances.{AreDistancesButZeros, AreExactB
 ghost use Rattle.sink_distances.specs.Distances.{AreZerosUnreached};
 ghost use Rattle.sink_distances.specs.Laws.{AreLow};
 ghost use Rattle.sink_distances.specs.Rows.{carried_flow, IsRows};
-ghost use Rattle.sink_distances.specs.Search.{AreDistancesUpTo};
+ghost use Rattle.sink_distances.specs.Search.{AreDistancesUpTo, ListsAllBelow};
 
 use crate::search::{mark_level, tally_starts};
 use crate::{Outline, Rows};
@@ -73,6 +73,7 @@ fn search_near(
         result.limit labels.now found.new }
     ensures count { result.count ≤ length order.new }
     ensures places { (i : ℕ) → i < result.count → slice_index order.new i < nodes net.now }
+    ensures listed { ListsAllBelow net.now found.new result.limit order.new result.count }
     ensures whole { aim.now.times + 1 ≡ 2 ^ 64 → result.limit ≡ top net.now }
 {
     clear(labels, found, net.top_label());
@@ -118,7 +119,7 @@ fn raise_to(labels: &mut [u32], found: &[u32], limit: u32)
 /// and their room is not counted. No residual direction may lead to them from other nodes.
 ///
 /// `found` and `order` are room for the search, one place for each node. The nodes that were found
-/// then stand first in `order`. Takes no memory.
+/// then stand first in `order`: all whose label is below the limit and not 0. Takes no memory.
 pub fn raise_labels(
     net: &Outline,
     rows: &Rows,
@@ -148,6 +149,7 @@ pub fn raise_labels(
     ensures fits { result.limit ≤ top net.now }
     ensures count { result.count ≤ length order.new }
     ensures places { (i : ℕ) → i < result.count → slice_index order.new i < nodes net.now }
+    ensures listed { ListsAllBelow net.now labels.new result.limit order.new result.count }
     ensures near { AreExactBelow net.now
         (flow_by (carried_flow rows.now) (sink_flows net.now rooms.now)) result.limit labels.new }
     ensures full { result.limit ≡ top net.now →

@@ -57,6 +57,8 @@ fn list_part(
 }
 
 /// The same for the block that begins at one. A block without such a site is passed over at once.
+/// Else each of its sites is written behind those that were found, and stays there if it is one:
+/// labels come in no order, so that a test of each could not be foreseen.
 fn list_block(
     list: &mut Vec<u32>,
     at: &[u8],
@@ -73,7 +75,15 @@ fn list_block(
     if !has_one(at, one, other, from) {
         return Ok(());
     }
-    list_part(list, at, one, other, from, from + BLOCK)
+    let mut found = [0u32; BLOCK];
+    let mut count = 0;
+    for place in 0..BLOCK {
+        found[count] = (from + place) as u32;
+        if is_either(at[from + place], one, other) {
+            count += 1;
+        }
+    }
+    list.extend_from_slice(&found[..count])
 }
 
 /// Lists the sites that have one of two labels.

@@ -159,18 +159,29 @@ pub record AreToldRises (stays turns smooth : List ℕ) (weight own other : ℕ)
   pub small : (unsigned_abs told.least ≤ pair_cost_limit)
       × (unsigned_abs told.greatest ≤ pair_cost_limit)
 
--- all pairs have the weight that the neighbours say, labels are few, and costs the same in both
--- orders; and a table has the rises of such a pair by the labels of sites
-pub record AreUniform (ends : Neighbours) (at stays turns smooth : List ℕ) (symmetric few : Bool)
+-- labels are few, and costs the same in both orders; and a table has the rises of a pair of this
+-- weight by the labels of sites
+pub record AreToldFor (weight : ℕ) (at stays turns smooth : List ℕ) (symmetric few : Bool)
     (listed : Bool) (told : List ToldRises) : Type 0 where
   pub weighted : listed ≡ false
-  pub even : ends.even ≡ true
   pub mirrored : symmetric ≡ true
   pub labels : few ≡ true
   pub rows : (u : ℕ) → u < length at → slice_index at u * 256 + 256 ≤ length told
   pub rises : (own other : ℕ) (choice : Choice) → IsSiteLabel at own → IsSiteLabel at other
-      → AreToldRises stays turns smooth ends.weight own other choice
+      → AreToldRises stays turns smooth weight own other choice
       (told_in told (known_place own other choice))
+
+-- all pairs have the weight that the neighbours say, and such a pair's rises are told
+pub record AreUniform (ends : Neighbours) (at stays turns smooth : List ℕ) (symmetric few : Bool)
+    (listed : Bool) (told : List ToldRises) : Type 0 where
+  pub even : ends.even ≡ true
+  pub table : AreToldFor ends.weight at stays turns smooth symmetric few listed told
+
+-- the weights of pairs differ, and the rises of a pair of weight 1 are told
+pub record AreScaled (ends : Neighbours) (at stays turns smooth : List ℕ) (symmetric few : Bool)
+    (listed : Bool) (told : List ToldRises) : Type 0 where
+  pub differ : ends.even ≡ false
+  pub table : AreToldFor 1 at stays turns smooth symmetric few listed told
 
 -- by the value of its variable each site keeps its label or gets this one; all pairs have the
 -- weight that the neighbours say, and costs the same in both orders; no table has their rises
@@ -185,10 +196,10 @@ pub record AreExpanding (ends : Neighbours) (at stays turns : List ℕ) (symmetr
   pub turn : (own : ℕ) → IsSiteLabel at own → slice_index turns own ≡ alpha
 
 -- the lists are of these sites and their places: what a pair rises by is told by its weight and the
--- labels of its ends, or else listed at each place; by what is known, if it is said so; and in an
--- expansion, if that is said, by its label
+-- labels of its ends, or else listed at each place; by what is known, if it is said so, for all
+-- pairs or for one of weight 1; and in an expansion, if that is said, by its label
 pub record AreReadable (ends : Neighbours) (own : List ℤ) (at stays turns smooth : List ℕ)
-    (symmetric few : Bool) (table : List EndRises) (uniform : Bool) (told : List ToldRises)
+    (symmetric few : Bool) (table : List EndRises) (uniform scaled : Bool) (told : List ToldRises)
     (listed : Bool) (rises : List EndRises) (expanding : Bool) (alpha : ℕ) : Type 0 where
   pub places : ArePlaces (length at) ends
   pub numbers : AreReadableLists own at stays turns smooth symmetric few table
@@ -196,6 +207,8 @@ pub record AreReadable (ends : Neighbours) (own : List ℤ) (at stays turns smoo
   pub by_place : listed ≡ true → AreListedRises ends rises
   pub by_known : uniform ≡ true
       → AreUniform ends at stays turns smooth symmetric few listed told
+  pub by_unit : scaled ≡ true
+      → AreScaled ends at stays turns smooth symmetric few listed told
   pub by_label : expanding ≡ true → AreExpanding ends at stays turns symmetric few listed alpha
 
 -- what the labels that a move makes cost beside one another was read of it

@@ -9,9 +9,9 @@ use move_energy::{EndRises, Neighbours};
 /// label, what each label becomes where the site's value is 0 and where it is 1, and what two
 /// labels cost a pair of weight 1, and whether that is the same in both orders. Where there are few
 /// labels, a table has the rises of such a pair by the labels of its ends; and where in addition
-/// all weights are the same, and all costs in both orders, another has those of a pair of that
-/// weight by what is known of its other end. Where each pair has costs of its own, the rises of
-/// both ends are listed, by place.
+/// all costs are the same in both orders, another has rises by what is known of the other end:
+/// those of a pair of the weight that all have, or of weight 1 where weights differ. Where each
+/// pair has costs of its own, the rises of both ends are listed, by place.
 #[derive(Clone, Copy)]
 pub struct SiteForm<'a> {
     pub pairs: &'a Pairs,
@@ -25,6 +25,7 @@ pub struct SiteForm<'a> {
     pub few: bool,
     pub table: &'a [EndRises],
     pub uniform: bool,
+    pub scaled: bool,
     pub told: &'a [ToldRises],
     pub listed: bool,
     pub rises: &'a [EndRises],
@@ -35,6 +36,6 @@ pub struct SiteForm<'a> {
     pub even: bool,
     pub weight: u32,
     pub ghost form: { AreReadable ends.now own.now at.now stays.now turns.now smooth.now
-        symmetric few table.now uniform told.now listed rises.now expanding alpha },
+        symmetric few table.now uniform scaled told.now listed rises.now expanding alpha },
     pub ghost flags: { AreFlagsOf ends.now rising even weight },
 }

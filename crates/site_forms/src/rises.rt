@@ -17,7 +17,7 @@ use crate::by_known::place_told;
 use crate::ends::{head_at, is_first_end, weight_beside, weight_read};
 use crate::expanding::{expanded_ends, high_rise};
 use crate::numbers::SiteForm;
-use crate::reading::end_rises;
+use crate::reading::{end_rises, times};
 use move_energy::{Choice, EndRises, Rises, SiteRises, rises_beside};
 
 /// By how much the value rises where a site turns, as far as the neighbour at a place goes: while
@@ -145,6 +145,37 @@ fn told_rises(form: &SiteForm, known: &[Choice], site: u32, place: u32, head: u3
     }
 }
 
+/// The same, where the table has those of a pair of weight 1, and this is the weight.
+#[inline]
+fn scaled_rises(
+    form: &SiteForm,
+    known: &[Choice],
+    site: u32,
+    place: u32,
+    head: u32,
+    weight: u32,
+) -> Rises
+    requires scaled { form.now.scaled ≡ true }
+    requires known { length known.now ≡ length form.now.at.now }
+    requires place { IsSitePlace form.now site place }
+    requires head { head ≡ neighbour_at form.now.ends.now place }
+    requires weight { weight ≡ weight_of form.now.ends.now place }
+    ensures least { result.least
+        ≡ place_rise (form_of form.now) (decided_or known.now true) site place }
+    ensures greatest { result.greatest
+        ≡ place_rise (form_of form.now) (decided_or known.now false) site place }
+    ensures small { (unsigned_abs result.least ≤ pair_cost_limit)
+        × (unsigned_abs result.greatest ≤ pair_cost_limit) }
+{
+    let own = form.at[site as usize];
+    let other = form.at[head as usize];
+    let told = form.told[place_told(own, other, known[head as usize])];
+    Rises {
+        least: i64::from(times(weight, told.least)),
+        greatest: i64::from(times(weight, told.greatest)),
+    }
+}
+
 /// The rises of a site as far as the neighbour at a place goes, at least and at most, by what is
 /// known of the neighbour.
 #[inline]
@@ -155,7 +186,8 @@ fn rises_at<
     const FEW: bool,
     const EVEN: bool,
 >(form: &SiteForm, known: &[Choice], site: u32, place: u32, head: u32, high: i32) -> Rises
-    requires told { TOLD ≡ form.now.uniform }
+    requires uniform { TOLD ≡ true → EVEN ≡ true → form.now.uniform ≡ true }
+    requires scaled { TOLD ≡ true → EVEN ≡ false → form.now.scaled ≡ true }
     requires label { EXPANDING ≡ form.now.expanding }
     requires high { IsHighRise form.now site high }
     requires kind { LISTED ≡ form.now.listed }
@@ -170,8 +202,12 @@ fn rises_at<
     ensures small { (unsigned_abs result.least ≤ pair_cost_limit)
         × (unsigned_abs result.greatest ≤ pair_cost_limit) }
 {
-    if TOLD {
+    if TOLD && EVEN {
         return told_rises(form, known, site, place, head);
+    }
+    if TOLD {
+        let weight = weight_beside::<EVEN>(form, site, place);
+        return scaled_rises(form, known, site, place, head, weight);
     }
     let rises = rises_here::<EXPANDING, LISTED, FEW, EVEN>(form, site, place, head, high);
     rises_beside(rises, known[head as usize])
@@ -235,7 +271,8 @@ fn sum_rises<
     const FEW: bool,
     const EVEN: bool,
 >(form: &SiteForm, known: &[Choice], site: u32) -> SiteRises
-    requires told { TOLD ≡ form.now.uniform }
+    requires uniform { TOLD ≡ true → EVEN ≡ true → form.now.uniform ≡ true }
+    requires scaled { TOLD ≡ true → EVEN ≡ false → form.now.scaled ≡ true }
     requires label { EXPANDING ≡ form.now.expanding }
     requires kind { LISTED ≡ form.now.listed }
     requires way { (FEW ≡ form.now.few) × (EVEN ≡ form.now.even) }
@@ -263,11 +300,11 @@ fn sum_rises<
     }
 }
 
-/// The same, where whether the rises are listed by place is a const parameter, no table has them by
-/// what is known, and none is the same at all places.
+/// The same, where whether the rises are listed by place is a const parameter, no table by what is
+/// known is read, and no rise is the same at all places.
 #[inline]
 fn sum_by_kind<const LISTED: bool>(form: &SiteForm, known: &[Choice], site: u32) -> SiteRises
-    requires apart { (form.now.uniform ≡ false) × (form.now.expanding ≡ false) }
+    requires apart { form.now.expanding ≡ false }
     requires kind { LISTED ≡ form.now.listed }
     requires known { length known.now ≡ length form.now.at.now }
     requires site { site < length form.now.at.now }
@@ -281,13 +318,15 @@ fn sum_by_kind<const LISTED: bool>(form: &SiteForm, known: &[Choice], site: u32)
     }
 }
 
-/// The same, where no table has the rises by what is known.
+/// The same, where no table has the rises of all pairs by what is known.
 fn other_rises(form: &SiteForm, known: &[Choice], site: u32) -> SiteRises
-    requires apart { form.now.uniform ≡ false }
     requires known { length known.now ≡ length form.now.at.now }
     requires site { site < length form.now.at.now }
     ensures { AreSiteRises form.now known.now site result }
 {
+    if form.scaled {
+        return sum_rises::<true, false, false, true, false>(form, known, site);
+    }
     if form.expanding {
         return sum_rises::<false, true, false, false, true>(form, known, site);
     }

@@ -1,5 +1,5 @@
 //! What the two ends of a pair save together, read of a form.
-ghost use Rattle.std.specs.Prelude.{◌≡◌, ◌<◌, ◌≤◌, true, length, unsigned_abs};
+ghost use Rattle.std.specs.Prelude.{◌≡◌, ◌<◌, ◌≤◌, true, false, length, pos, unsigned_abs};
 ghost use Rattle.move_energy.specs.BySite.{neighbour_at, pair_beside};
 ghost use Rattle.move_energy.specs.Limits.{surplus_limit};
 ghost use Rattle.move_energy.specs.Weights.{surplus_of, pair_table};
@@ -10,12 +10,14 @@ use crate::numbers::SiteForm;
 use crate::rises::{rises_of_place, told_ends};
 use move_energy::saving_of;
 
-/// The rise of a site that is the same at all its places, in an expansion of which that is known.
+/// The rise of a site that is the same at all its places, in an expansion of which that is known,
+/// and else 0.
 #[inline(always)]
 pub fn rise_at_all<const EXPANDING: bool>(form: &SiteForm, site: u32) -> i32
     requires expanding { EXPANDING ≡ true → form.now.expanding ≡ true }
     requires site { site < length form.now.at.now }
-    ensures { EXPANDING ≡ true → IsHighRise form.now site result }
+    ensures rise { EXPANDING ≡ true → IsHighRise form.now site result }
+    ensures none { EXPANDING ≡ false → result ≡ pos 0 }
 {
     if EXPANDING { high_rise(form, site) } else { 0 }
 }

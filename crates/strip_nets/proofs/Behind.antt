@@ -9,7 +9,7 @@ use Rattle.move_energy.specs.Choices.{choice_at, is_open, open_at}
 use Rattle.persistency.specs.Borders.{is_beyond, is_inside, is_one, not_ones, range_of}
 use Rattle.strip_nets.specs.declared.material.Material.{Material}
 use Rattle.strip_nets.specs.declared.material.StripSites.{StripSites}
-use Rattle.strip_nets.specs.Building.{CanBuild, IsFreshFrom, view_by}
+use Rattle.strip_nets.specs.Building.{CanBuild, IsUntoldFrom, view_by}
 use Rattle.strip_nets.specs.Meeting.{is_met}
 use Rattle.strip_nets.proofs.Meeting.{met_where}
 use Rattle.strip_nets.proofs.Views.{inside_is}
@@ -39,26 +39,26 @@ in_range : (from to p : ℕ) → from ≤ p → p < to → range_of from to p �
 in_range from to p l k = grind (arith, nat_tests, l, k)
 
 -- it was not told
-pub no_one : (material : Material) (sites : StripSites) (fresh site head : ℕ) → IsFreshFrom material sites fresh → open_at (view_by sites material) site ≡ true → fresh ≤ head → head < site
+pub no_one : (material : Material) (sites : StripSites) (untold site head : ℕ) → IsUntoldFrom material sites untold → open_at (view_by sites material) site ≡ true → untold ≤ head → head < site
     → is_beyond (choice_at material.start.now) (not_ones (choice_at material.known.now)) head ≡ false
-no_one material sites fresh site head from opened l k =
+no_one material sites untold site head from opened l k =
     let low = below_end material sites site opened in
     let same = from.same head l (omega (arith, k, low)) in
     ap (λ (c : Choice). is_open (choice_at material.start.now head) && not (not (is_one c))) same ∙ not_one_now (choice_at material.start.now head)
 
 -- it is not outside the strip
-pub no_beyond : (material : Material) (sites : StripSites) (fresh site head : ℕ) → IsFreshFrom material sites fresh → open_at (view_by sites material) site ≡ true → fresh ≤ head → head < site
+pub no_beyond : (material : Material) (sites : StripSites) (untold site head : ℕ) → IsUntoldFrom material sites untold → open_at (view_by sites material) site ≡ true → untold ≤ head → head < site
     → is_beyond (choice_at material.known.now) (range_of sites.from sites.to) head ≡ false
-no_beyond material sites fresh site head from opened l k =
+no_beyond material sites untold site head from opened l k =
     let low = below_end material sites site opened in
     let range = in_range sites.from sites.to head (let i = from.inside (omega (arith, l, k, low)) in omega (arith, i, l)) (omega (arith, k, low)) in
     ap (λ (b : Bool). is_open (choice_at material.known.now head) && not b) range ∙ and_false (is_open (choice_at material.known.now head))
 
 -- and the pair is not met at the site
-pub no_met : (material : Material) (sites : StripSites) (fresh site place head : ℕ) → CanBuild material → IsFreshFrom material sites fresh → site < material.form.pairs.now.sites
+pub no_met : (material : Material) (sites : StripSites) (untold site place head : ℕ) → CanBuild material → IsUntoldFrom material sites untold → site < material.form.pairs.now.sites
     → open_at (view_by sites material) site ≡ true → neighbours_start material.form.ends.now site ≤ place → place < neighbours_start material.form.ends.now (site + 1)
-    → head ≡ neighbour_at material.form.ends.now place → fresh ≤ head → head < site → is_met material sites site place ≡ false
-no_met material sites fresh site place head can from inside opened start end is l k =
+    → head ≡ neighbour_at material.form.ends.now place → untold ≤ head → head < site → is_met material sites site place ≡ false
+no_met material sites untold site place head can from inside opened start end is l k =
     let ends = material.form.ends.now in
     let low = below_end material sites site opened in
     let rising = from.rising (omega (arith, l, k, low)) in

@@ -98,8 +98,8 @@ weight_by_now m move f material =
 
 -- of the sites from this one on, before the end of the strip, is known what was known at the start;
 -- they are the strip's, and each pair has the first of its sites first
-pub record IsFreshFrom (material : Material) (sites : StripSites) (fresh : ℕ) : Type 0 where
-  pub rising : fresh < sites.to → material.form.rising ≡ true
-  pub inside : fresh < sites.to → sites.from ≤ fresh
-  pub same : (p : ℕ) → fresh ≤ p → p < sites.to
+pub record IsUntoldFrom (material : Material) (sites : StripSites) (untold : ℕ) : Type 0 where
+  pub rising : untold < sites.to → material.form.rising ≡ true
+  pub inside : untold < sites.to → sites.from ≤ untold
+  pub same : (p : ℕ) → untold ≤ p → p < sites.to
       → choice_at material.known.now p ≡ choice_at material.start.now p

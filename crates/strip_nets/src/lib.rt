@@ -6,11 +6,11 @@
 
 mod building;
 mod cutting;
-mod fresh;
 mod material;
 mod reading;
 mod rows;
 mod sides;
+mod untold;
 
 pub use cutting::{cut_open, cut_read, cut_strip, write_open};
 pub use material::{Material, Room, StripSites};

@@ -17,7 +17,7 @@ ghost use Rattle.move_energy.specs.Weights.{pair_surplus as surplus_between};
 ghost use Rattle.persistency.specs.Borders.{border_at, is_beyond as beyond_of, not_ones, range_of};
 ghost use Rattle.persistency.specs.Borders.{is_inside as inside_of};
 ghost use Rattle.site_forms.specs.Numbers.{IsHighRise, WhereRead};
-ghost use Rattle.strip_nets.specs.Building.{CanBuild, AreStripSites, IsFreshFrom, view_by};
+ghost use Rattle.strip_nets.specs.Building.{CanBuild, AreStripSites, IsUntoldFrom, view_by};
 ghost use Rattle.strip_nets.specs.Building.{AreStartWeights, AreWeighed};
 ghost use Rattle.strip_nets.specs.Building.{ArePlacesOf, IsStripNumbering};
 ghost use Rattle.sink_distances.specs.Laying.{AreRowsBegun};
@@ -30,8 +30,8 @@ ghost use Rattle.strip_nets.specs.Building.{counts_in, unsaved_in, unsaved_at};
 ghost use Rattle.strip_nets.specs.Building.{border_of_site, weight_by_now};
 ghost use Rattle.strip_nets.specs.Adding.{AreRowsAdded};
 
-use crate::fresh::fresh_from;
 use crate::material::{Material, Places, RowForm, StripSites};
+use crate::untold::untold_from;
 use move_energy::Choice;
 use site_forms::{is_first_end, rise_at_all, saving_by};
 use std::alloc::AllocError;
@@ -177,7 +177,7 @@ fn look_beside(
     site: u32,
     place: u32,
     head: u32,
-    fresh: u32,
+    untold: u32,
 ) -> Beside
     requires can { CanBuild material.now }
     requires site { (site < material.now.form.pairs.now.sites)
@@ -186,14 +186,14 @@ fn look_beside(
         × (place < neighbours_start material.now.form.ends.now (site + 1)) }
     requires head { head ≡ neighbour_at material.now.form.ends.now place }
     requires inside { head < material.now.form.pairs.now.sites }
-    requires fresh { IsFreshFrom material.now sites.now fresh }
+    requires untold { IsUntoldFrom material.now sites.now untold }
     ensures one { result.one ≡ beyond_of (choice_at material.now.start.now)
         (not_ones (choice_at material.now.known.now)) head }
     ensures beyond { result.beyond ≡ beyond_of (choice_at material.now.known.now)
         (range_of sites.now.from sites.now.to) head }
     ensures met { result.met ≡ is_met material.now sites.now site place }
 {
-    if head >= fresh && head < site {
+    if head >= untold && head < site {
         return Beside {
             one: false,
             beyond: false,
@@ -450,7 +450,7 @@ fn add_row<const UNIFORM: bool, const EXPANDING: bool>(
     form: &mut RowForm,
     numbers: &[u32],
     site: u32,
-    fresh: u32,
+    untold: u32,
 ) -> Result<SiteBorders, AllocError>
     requires uniform { UNIFORM ≡ true → material.now.form.uniform ≡ true }
     requires expanding { EXPANDING ≡ true → material.now.form.expanding ≡ true }
@@ -464,7 +464,7 @@ fn add_row<const UNIFORM: bool, const EXPANDING: bool>(
         ++ ends_at material.now sites.now site) (strip_ends material.now sites.now) }
     requires site { (site < material.now.form.pairs.now.sites)
         × (open_at (view_by sites.now material.now) site ≡ true) }
-    requires fresh { IsFreshFrom material.now sites.now fresh }
+    requires untold { IsUntoldFrom material.now sites.now untold }
     ensures ones { WhereRead material.now.form (λ m move f. IfOk result (λ found.
         found.ones ≡ pos (border_at m move f (choice_at material.now.start.now)
         (not_ones (choice_at material.now.known.now)) site))) }
@@ -488,7 +488,7 @@ fn add_row<const UNIFORM: bool, const EXPANDING: bool>(
     let high = rise_at_all::<EXPANDING>(&material.form, site);
     for place in row_start(material, places, site)..row_start(material, places, site + 1) {
         let head = head_beside(material, places, site, place);
-        let beside = look_beside(material, sites, site, place, head, fresh);
+        let beside = look_beside(material, sites, site, place, head, untold);
         let met = beside.met;
         let counts = counts_somewhere(beside);
         let saving = counted_saving::<UNIFORM, EXPANDING>(
@@ -533,11 +533,11 @@ fn add_rows_by<const UNIFORM: bool, const EXPANDING: bool>(
     let material = *material;
     let sites = *sites;
     let places = places_of(&material);
-    let fresh = fresh_from(&material, &sites);
+    let untold = untold_from(&material, &sites);
     for index in 0..sites.opened.len() {
         let site = site_at(&material, &sites, index);
         let found = add_row::<UNIFORM, EXPANDING>(
-            &material, &sites, &places, form, numbers, site, fresh,
+            &material, &sites, &places, form, numbers, site, untold,
         )?;
         list.push_reserved(sites.weights[index] - found.ones);
         borders.push_reserved(found.beyond.unsigned_abs());

@@ -1,11 +1,63 @@
 //! Which sites a strip has: those that the strips before left open, and the next ones.
-ghost use Rattle.std.specs.Prelude.{◌≡◌, ◌<◌, ◌≤◌, ◌++◌, All, filter, length, IfOk, OnOk};
+ghost use Rattle.std.specs.Prelude.{◌≡◌, ◌<◌, ◌≤◌, ◌+◌, ◌++◌, All, filter, length, IfOk, OnOk};
 ghost use Rattle.label_field.specs.Limits.{site_limit};
 ghost use Rattle.move_energy.specs.Choices.{open_at, AreOpenSites};
 ghost use Rattle.strip_nets.specs.Views.{strip_view};
 
 use move_energy::Choice;
 use std::alloc::AllocError;
+
+/// So many sites are listed at once.
+const BLOCK: usize = 16;
+
+/// Lists a site where it is open, behind those before it. It answers how many it listed.
+fn list_site(
+    known: &[Choice],
+    opened: &mut Vec<u32>,
+    first: u32,
+    site: u32,
+) -> Result<usize, AllocError>
+    requires site { (first ≤ site) × (site < length known.now) }
+    requires opened { AreOpenSites (strip_view known.now first site) opened.old.items }
+    ensures few { IfOk result (λ count. count ≤ 1) }
+    ensures opened { OnOk result
+        (AreOpenSites (strip_view known.now first (site + 1)) opened.new.items) }
+{
+    if known[site as usize].is_open() {
+        opened.push(site)?;
+        return Ok(1);
+    }
+    Ok(0)
+}
+
+/// The same for the block that begins at a site. Each of its sites is written behind those that
+/// were found, and stays there if it is open: what is known comes in no order, so that a test of
+/// each could not be foreseen.
+fn list_block(
+    known: &[Choice],
+    opened: &mut Vec<u32>,
+    first: u32,
+    from: u32,
+) -> Result<usize, AllocError>
+    requires sites { length known.now ≤ site_limit }
+    requires block { (first ≤ from) × (from + 16 ≤ length known.now) }
+    requires opened { AreOpenSites (strip_view known.now first from) opened.old.items }
+    ensures few { IfOk result (λ count. count ≤ 16) }
+    ensures opened { OnOk result
+        (AreOpenSites (strip_view known.now first (from + 16)) opened.new.items) }
+{
+    let mut found = [0u32; BLOCK];
+    let mut count = 0;
+    for place in 0..BLOCK {
+        let site = from + place as u32;
+        found[count] = site;
+        if known[site as usize].is_open() {
+            count += 1;
+        }
+    }
+    opened.extend_from_slice(&found[..count])?;
+    Ok(count)
+}
 
 /// Lists the next open sites, from one on, before another, behind those that are listed: so many,
 /// or all that are left. The listed sites are the open ones of a range that ends there. It answers
@@ -30,13 +82,17 @@ pub(crate) fn list_next(
         AreOpenSites (strip_view known.now first to) opened.new.items) }
 {
     let mut more = 0;
-    for site in from..end {
+    let mut site = from;
+    'sites: while site < end {
         if more == size {
             return Ok(site);
         }
-        if known[site as usize].is_open() {
-            opened.push(site)?;
-            more += 1;
+        if end - site < BLOCK as u32 || size - more < BLOCK {
+            more += list_site(known, opened, first, site)?;
+            site += 1;
+        } else {
+            more += list_block(known, opened, first, site)?;
+            site += BLOCK as u32;
         }
     }
     Ok(end)

@@ -1,4 +1,4 @@
-use Rattle.std.proofs.Common.{◌*◌, ◌∙◌, ap, pos, Bool, w64, FitsSigned, true, false}
+use Rattle.std.proofs.Common.{◌∙◌, ap, pos, Bool, w64, FitsSigned, true, false}
 use Rattle.std.proofs.lemmas.Int.{to_z-of_z}
 use Rattle.label_energies.specs.Moves.{label_after}
 use Rattle.move_energy.proofs.Values.{one_adds, label_below}

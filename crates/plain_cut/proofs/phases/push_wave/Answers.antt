@@ -1,9 +1,9 @@
-use Rattle.std.proofs.Common.{arith}
+use Rattle.std.proofs.Common.{arith, refl}
 use Rattle.std.proofs.lemmas.Result.{IfOk-from_err}
 use Rattle.plain_cut.proofs.phases.push_wave.Goals as goal
 
 pub wave-init : goal.wave-init
-wave-init c = record { work = c.requires.work; fall = omega arith; counted = omega arith }
+wave-init c = record { work = c.requires.work; labels = refl; fall = omega arith; counted = omega arith }
 
 pub push_all-requires-clause-work : goal.push_all-requires-clause-work
 push_all-requires-clause-work c = c.wave.invariant.work

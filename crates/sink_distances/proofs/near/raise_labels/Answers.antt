@@ -1,7 +1,7 @@
 use Rattle.std.proofs.Common.{arith, ◌∙◌}
 use Rattle.flow_network.specs.Preflow.{Flow, flow_by, sink_flows}
 use Rattle.sink_distances.specs.Rows.{carried_flow}
-use Rattle.sink_distances.proofs.Nearing.{raised_labelling, raised_zeros, raised_low, raised_near, raised_exact, AreRaisedTo}
+use Rattle.sink_distances.proofs.Nearing.{raised_labelling, raised_zeros, raised_low, raised_near, raised_exact, raised_listed, AreRaisedTo}
 use Rattle.sink_distances.proofs.near.raise_labels.Goals as goal
 
 pub returns : goal.returns
@@ -25,6 +25,7 @@ returns c =
       fits = near.fits;
       count = c.search_near-extent.ensures.count;
       places = c.search_near-extent.ensures.places;
+      listed = raised_listed net flow limit found old new _ _ near told c.search_near-extent.ensures.listed;
       near = raised_near net flow limit found old new c.requires.labels near made told;
       full = raised_exact net flow limit found old new c.requires.labels c.requires.low near len told;
       whole = c.search_near-extent.ensures.whole;

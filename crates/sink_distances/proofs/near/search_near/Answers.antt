@@ -4,10 +4,10 @@ use Rattle.flow_network.specs.Preflow.{Flow, flow_by, sink_flows}
 use Rattle.flow_network.specs.Progress.{top_label}
 use Rattle.sink_distances.specs.Rows.{carried_flow}
 use Rattle.sink_distances.specs.Search.{found_of}
-use Rattle.sink_distances.proofs.Order.{count-le-length}
+use Rattle.sink_distances.proofs.Order.{count-le-length, label-le-count}
 use Rattle.sink_distances.proofs.Searching.{searched_begins_but}
 use Rattle.sink_distances.proofs.Levels.{searched_level_but}
-use Rattle.sink_distances.proofs.Nearing.{is_zero, search_is_near}
+use Rattle.sink_distances.proofs.Nearing.{is_zero, search_is_near, found_listed}
 use Rattle.sink_distances.proofs.Nearing.IsAt.{Before, Done}
 use Rattle.sink_distances.proofs.near.search_near.Goals as goal
 
@@ -53,6 +53,7 @@ returns c =
           c.tally_starts-tally.ensures.limits c.requires.unreached now (Done c.levels-test.false c.top_label-2.ensures.value);
       count = omega (arith, count-le-length s now.order, now.order.order_len);
       places = λ i l. omega (arith, now.order.places i l, now.len);
+      listed = found_listed c.args.net.now flow c.args.labels.now c.levels.next c.top_label-2.result s now (omega (arith, c.top_label-2.ensures.value));
       whole = λ most. c.top_label-2.ensures.value;
     }
 
@@ -63,3 +64,11 @@ returns-then-aim-lt18446744073709551615-clause-near c =
     search_is_near c.args.net.now flow c.args.labels.now next _ (found_of c.levels.found c.levels.order c.levels.tally.count)
     c.tally_starts-tally.ensures.limits c.requires.unreached c.levels.invariant.search
     (Before c.levels-test.true (omega (arith, c.levels.invariant.level next (omega arith) c.levels-test.true)))
+
+pub returns-then-aim-lt18446744073709551615-clause-listed : goal.returns-then-aim-lt18446744073709551615-clause-listed
+returns-then-aim-lt18446744073709551615-clause-listed c =
+    let flow : Flow = flow_by (carried_flow c.args.rows.now) (sink_flows c.args.net.now c.args.rooms.now) in
+    let s = found_of c.levels.found c.levels.order c.levels.tally.count in
+    let now = c.levels.invariant.search in
+    found_listed c.args.net.now flow c.args.labels.now c.levels.next _ s now
+    (omega (arith, c.levels.invariant.level c.levels.next (omega arith) c.levels-test.true, label-le-count s now.order c.levels.next c.levels-test.true, count-le-length s now.order, now.len))

@@ -16,7 +16,7 @@ returns-clause-least c =
     let inside = form.form.places.inside a.site a.place c.requires.place.inside c.requires.place.from c.requires.place.to in
     let here : a.head < length a.known.now = omega (arith, inside, c.requires.head, c.requires.known) in
     let stands = c.place_told.ensures ∙ ap (λ (ch : Choice). known_place (labelling form.at.now a.site) (labelling form.at.now a.head) ch) (get_or_default a.known.now a.head Open Zero here) in
-    let are = told_there form a.known.now a.site a.place a.head c.place_told.result c.requires.uniform c.requires.place c.requires.head stands in
+    let are = told_there form form.ends.now.weight a.known.now a.site a.place a.head c.place_told.result (form.form.by_known c.requires.uniform).table c.requires.place c.requires.head stands in
     told_rise_is form a.known.now true a.site a.place _ (form.form.by_known c.requires.uniform) ((own_passed told.least c.from.result are.small.0 c.from.ensures).0 ∙ are.least)
 
 pub returns-clause-greatest : goal.returns-clause-greatest
@@ -27,5 +27,5 @@ returns-clause-greatest c =
     let inside = form.form.places.inside a.site a.place c.requires.place.inside c.requires.place.from c.requires.place.to in
     let here : a.head < length a.known.now = omega (arith, inside, c.requires.head, c.requires.known) in
     let stands = c.place_told.ensures ∙ ap (λ (ch : Choice). known_place (labelling form.at.now a.site) (labelling form.at.now a.head) ch) (get_or_default a.known.now a.head Open Zero here) in
-    let are = told_there form a.known.now a.site a.place a.head c.place_told.result c.requires.uniform c.requires.place c.requires.head stands in
+    let are = told_there form form.ends.now.weight a.known.now a.site a.place a.head c.place_told.result (form.form.by_known c.requires.uniform).table c.requires.place c.requires.head stands in
     told_rise_is form a.known.now false a.site a.place _ (form.form.by_known c.requires.uniform) ((own_passed told.greatest c.from-2.result are.small.1 c.from-2.ensures).0 ∙ are.greatest)

@@ -1,7 +1,7 @@
 use Rattle.std.proofs.Common.{◌∙◌, List, refl, sym, subst, length}
 use Rattle.move_energy.proofs.Places.{meant_pairs, meant_beside}
 use Rattle.move_energy.specs.declared.rises.EndRises.{EndRises}
-use Rattle.site_forms.specs.Fields.{AreReadableLists, AreReadOf, AreListedRises, AreCostsRead, AreRisesRead, AreUniform, AreExpanding}
+use Rattle.site_forms.specs.Fields.{AreReadableLists, AreReadOf, AreListedRises, AreCostsRead, AreRisesRead, AreUniform, AreScaled, AreExpanding}
 use Rattle.form_lists.proofs.PairPlaces.{pairs_places, light_places}
 use Rattle.form_lists.proofs.lists.FormLists.form.Goals as goal
 
@@ -20,6 +20,9 @@ invariant_of-result c =
         by_known = λ yes. subst (λ (X : Type 0). X)
             (λ i. AreUniform a.ends.now a.at.now (sym c.deref-2.ensures.value i) (sym c.deref-3.ensures.value i) (sym c.deref-4.ensures.value i) a.self.now.smooth.symmetric a.self.now.few a.self.now.listed (sym c.deref-6.ensures.value i))
             (c.requires.lists.by_known yes);
+        by_unit = λ yes. subst (λ (X : Type 0). X)
+            (λ i. AreScaled a.ends.now a.at.now (sym c.deref-2.ensures.value i) (sym c.deref-3.ensures.value i) (sym c.deref-4.ensures.value i) a.self.now.smooth.symmetric a.self.now.few a.self.now.listed (sym c.deref-6.ensures.value i))
+            (c.requires.lists.by_unit yes);
         by_label = λ yes. subst (λ (X : Type 0). X)
             (λ i. AreExpanding a.ends.now a.at.now (sym c.deref-2.ensures.value i) (sym c.deref-3.ensures.value i) a.self.now.smooth.symmetric a.self.now.few a.self.now.listed a.self.now.alpha)
             (c.requires.lists.by_label yes);

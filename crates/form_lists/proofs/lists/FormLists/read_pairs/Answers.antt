@@ -1,7 +1,7 @@
 use Rattle.std.proofs.Common.{◌∙◌, sym, subst}
 use Rattle.form_lists.specs.declared.smooth_costs.AskedCosts.{AskedCosts}
 use Rattle.form_lists.specs.Lists.{AreAskedCosts, AreMadeAsked, HasCostRoom}
-use Rattle.form_lists.proofs.ToldTable.{uniform_of, expanding_of}
+use Rattle.form_lists.proofs.ToldTable.{uniform_of, scaled_of, expanding_of}
 use Rattle.form_lists.proofs.Taking.{become_still, lists_of, read_of}
 use Rattle.form_lists.proofs.lists.FormLists.read_pairs.Goals as goal
 
@@ -24,7 +24,8 @@ returns-clause-lists g c =
           c.requires.asked.labels c.requires.few len small become.stays_len become.turns_len become.stays_below become.turns_below room.1 known.small known.mirrored made.few told.count told.rises;
       kind = made.same.3 ∙ c.are_numbered-self.ensures;
       by_place = λ listed. absurd (let same = made.same.3 in cc (listed, same, weighted));
-      by_known = λ yes. uniform_of a.ends.now labels a.at.now new c.requires.asked.labels (made.same.3 ∙ weighted) (told.told yes);
+      by_known = λ yes. uniform_of a.ends.now labels a.at.now new c.requires.asked.labels (made.same.3 ∙ weighted) told.told yes;
+      by_unit = λ yes. scaled_of a.ends.now labels a.at.now new c.requires.asked.labels (made.same.3 ∙ weighted) told.told yes;
       by_label = λ yes. expanding_of a.ends.now labels a.at.now a.change new c.first_label-self.result c.requires.asked.labels become (c.is_expanding-self.ensures.expands yes) c.first_label-self.ensures
           (made.same.3 ∙ weighted) (c.is_expanding-self.ensures.even yes) (c.is_expanding-self.ensures.light yes) (c.is_expanding-self.ensures.mirrored yes) (c.is_expanding-self.ensures.many yes);
     }

@@ -1,7 +1,7 @@
 //! From which site on nothing was told since the start: there a row need not look back.
 ghost use Rattle.std.specs.Prelude.{◌≡◌, ◌<◌, ◌≤◌, ℕ, IsTrue, length};
 ghost use Rattle.move_energy.specs.Choices.{choice_at};
-ghost use Rattle.strip_nets.specs.Building.{CanBuild, IsFreshFrom};
+ghost use Rattle.strip_nets.specs.Building.{CanBuild, IsUntoldFrom};
 
 use crate::material::{Material, StripSites};
 use move_energy::Choice;
@@ -29,9 +29,9 @@ fn are_same(start: &[Choice], known: &[Choice], from: u32, to: u32) -> bool
 
 /// A site of a strip from which on nothing was told since the start, or the strip's end. It looks
 /// back from there, at sites in proportion to those that are listed.
-pub(crate) fn fresh_from(material: &Material, sites: &StripSites) -> u32
+pub(crate) fn untold_from(material: &Material, sites: &StripSites) -> u32
     requires can { CanBuild material.now }
-    ensures { IsFreshFrom material.now sites.now result }
+    ensures { IsUntoldFrom material.now sites.now result }
 {
     let end = sites.to;
     if !material.form.rising || end as usize > material.known.len() {
@@ -39,12 +39,12 @@ pub(crate) fn fresh_from(material: &Material, sites: &StripSites) -> u32
     }
     let most = sites.opened.len().saturating_mul(LOOKS).min(end as usize) as u32;
     let least = sites.from.max(end - most);
-    let mut fresh = end;
-    'back: while fresh >= least
-        && fresh - least >= BLOCK
-        && are_same(material.start, material.known, fresh - BLOCK, fresh)
+    let mut untold = end;
+    'back: while untold >= least
+        && untold - least >= BLOCK
+        && are_same(material.start, material.known, untold - BLOCK, untold)
     {
-        fresh -= BLOCK;
+        untold -= BLOCK;
     }
-    fresh
+    untold
 }
