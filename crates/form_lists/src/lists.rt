@@ -266,6 +266,26 @@ fn own_rise<F: Fn(u32, u32) -> i64 + Sync, V: Fn(u32, u32) -> i64 + Sync>(
     data_rise(problem, change, site, u32::from(at[site as usize])) as i32
 }
 
+/// Writes how much more the label costs each site where its value turns from 0 to 1.
+fn write_own_rises<F: Fn(u32, u32) -> i64 + Sync, V: Fn(u32, u32) -> i64 + Sync>(
+    own: &mut [i32],
+    problem: &Problem<F, V>,
+    at: &[u8],
+    change: Move,
+)
+    requires posed { IsPosed F.Fn V.Fn problem.now }
+    requires asked { IsAsked problem.now at.now change }
+    requires count { length own.old ≡ length at.now }
+    ensures count { length own.new ≡ length at.now }
+    ensures small { (u : ℕ) → unsigned_abs (own_at own.new u) ≤ site_cost_limit }
+    ensures rises { WhereMeant F.Fn V.Fn problem.now (λ m. (u : ℕ) → u < length at.now →
+        own_at own.new u ≡ data_rise_of m change (labelling at.now) u) }
+{
+    for site in 0..at.len() {
+        own[site] = own_rise(problem, at, change, site as u32);
+    }
+}
+
 /// Lists how much more the label costs each site where its value turns from 0 to 1.
 fn list_own_rises<F: Fn(u32, u32) -> i64 + Sync, V: Fn(u32, u32) -> i64 + Sync>(
     own: &mut Vec<i32>,
@@ -282,11 +302,8 @@ fn list_own_rises<F: Fn(u32, u32) -> i64 + Sync, V: Fn(u32, u32) -> i64 + Sync>(
         (WhereMeant F.Fn V.Fn problem.now (λ m. (u : ℕ) → u < length at.now →
         own_at own.new.items u ≡ data_rise_of m change (labelling at.now) u)) }
 {
-    own.clear();
-    own.reserve(at.len())?;
-    for site in 0..at.len() {
-        own.push(own_rise(problem, at, change, site as u32))?;
-    }
+    own.resize(at.len(), 0)?;
+    write_own_rises(own.as_mut_slice(), problem, at, change);
     Ok(())
 }
 

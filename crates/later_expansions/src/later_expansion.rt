@@ -40,7 +40,7 @@ fn are_few(stamps: &[u32], since: u32, at: &[u8], alpha: u32) -> bool
 {
     let mut changed = 0usize;
     for site in 0..stamps.len() {
-        if stamps[site] > since && u32::from(at[site]) != alpha {
+        if (stamps[site] > since) & (u32::from(at[site]) != alpha) {
             changed += 1;
         }
     }

@@ -14,8 +14,8 @@ use Rattle.counting_sort.specs.declared.Groups.{Groups}
 use Rattle.counting_sort.specs.Grouping.{IsGrouped}
 use Rattle.move_energy.specs.BySite.{pair_ends, pair_in}
 use Rattle.move_energy.proofs.Grouped.{degree, pair_of}
-use Rattle.move_energy.proofs.PairEnds.{ends_first, ends_second, ends_len}
-use Rattle.move_energy.proofs.Meetings.{part_sum, sum_twos, half_even, half_odd}
+use Rattle.move_energy.proofs.PairEnds.{half_even, half_odd, ends_first, ends_second, ends_len}
+use Rattle.move_energy.proofs.Meetings.{part_sum, sum_twos}
 
 -- a value is nothing at each pair that has no end at the site
 abbrev pub IsOfSite : ℕ → (Pair → ℕ) → Type 0

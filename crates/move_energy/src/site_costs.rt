@@ -9,8 +9,8 @@ use crate::costs::surplus;
 use cost_store::Problem;
 use label_energies::Move;
 
-/// How much more the label costs a site where its value turns from 0 to 1. A site that the move
-/// cannot change is not asked.
+/// How much more the label costs a site where its value turns from 0 to 1: 0 where the move cannot
+/// change the site. Both costs are asked of each, so that a loop takes many sites at once.
 pub fn data_rise<F: Fn(u32, u32) -> i64 + Sync, V: Fn(u32, u32) -> i64 + Sync>(
     problem: &Problem<F, V>,
     change: Move,
@@ -27,9 +27,6 @@ pub fn data_rise<F: Fn(u32, u32) -> i64 + Sync, V: Fn(u32, u32) -> i64 + Sync>(
 {
     let turns = change.label(label, true);
     let stays = change.label(label, false);
-    if turns == stays {
-        return 0;
-    }
     problem.site_cost(site, turns) - problem.site_cost(site, stays)
 }
 

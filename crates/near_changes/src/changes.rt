@@ -101,15 +101,19 @@ impl Changes {
     }
 }
 
-/// Gives the sites whose value is 1 the number of a move.
+/// Gives the sites whose value is 1 the number of a move. Each site's is written, its own where its
+/// value is 0: values come in no order, so that a test of each could not be foreseen.
 fn stamp_values(stamps: &mut [u32], number: u32, choices: &[Choice])
     ensures { (p : ℕ) → p < length stamps.old → slice_index stamps.new p
         ≡ cond (bit_of (choice_at choices.now p) false) number (slice_index stamps.old p) }
 {
-    for site in 0..choices.len() {
-        if site < stamps.len() && choices[site].bit(false) {
-            stamps[site] = number;
-        }
+    let sites = stamps.len().min(choices.len());
+    for site in 0..sites {
+        stamps[site] = if choices[site].bit(false) {
+            number
+        } else {
+            stamps[site]
+        };
     }
 }
 

@@ -1,4 +1,5 @@
 -- Parts of a piece of work that threads draw, and their answers.
+use denote.Param.Members.{Shared}
 use Rattle.std.specs.Prelude.{◌≡◌, ◌<◌, ℕ, List, Option, Result, Some, length, slice_index_or}
 use Rattle.std.specs.List.{All}
 use Rattle.std.specs.Global.{Vec}
@@ -17,3 +18,7 @@ OfDrawnParts P parts = All (λ drawn. P drawn.part drawn.answer) parts
 abbrev pub OfPlaces : (ℕ → PartBytes → Type 0) → List (Option PartBytes) → Type 0
 OfPlaces P places = (i : ℕ) (d : _) (answer : _) → i < length places
     → slice_index_or places i d ≡ Some answer → P i answer
+
+-- some call of a closure answers this
+abbrev pub IsAnswerOf : {F R : Type 0} → Shared F (ℕ × Unit {0}) R → F → R → Type 0
+IsAnswerOf closure f answer = (i : ℕ) × closure.post f (i, tt) answer

@@ -1,7 +1,7 @@
 //! Work that is done in parts, by threads.
 ghost use denote.Param.Send.{IsSync};
 ghost use Rattle.std.specs.Prelude.{◌≡◌, ◌<◌, ℕ, All, IfOk, slice_index_or, vec_len};
-ghost use Rattle.part_threads.specs.Drawing.{OfDrawnParts};
+ghost use Rattle.part_threads.specs.Drawing.{OfDrawnParts, IsAnswerOf};
 
 use crate::drawing::{Answer, DrawnPart, collect_answers, draw_parts};
 use cut_ways::Fork;
@@ -10,6 +10,42 @@ use std::sync::atomic::AtomicUsize;
 use std::thread;
 use std::thread::Threads;
 
+/// What a thread did of the parts that it drew, or that memory ran out.
+type Hand = Result<Vec<DrawnPart>, AllocError>;
+
+/// What the thread that asks draws, and what each of so many others does. It starts all of them
+/// itself: where two threads start one each at the same time, the system can give both new ones the
+/// same processor, and leave another idle.
+#[cycle(hands)]
+fn draw_beside<R: Threads + Sync, D: Fn(usize) -> Hand + Sync>(
+    rt: &R,
+    alloc: Global,
+    others: usize,
+    draw: &D,
+) -> Result<Vec<Hand>, AllocError>
+    requires able { (i : ℕ) → D.pre draw.now i }
+    ensures { IfOk result (λ hands. All (IsAnswerOf D.Fn draw.now) hands.items) }
+{
+    if others == 0 {
+        let mut hands = Vec::new(alloc);
+        hands.push(draw(0))?;
+        return Ok(hands);
+    }
+    let left = others - 1;
+    let one = move || -> Hand
+        requires { IsSync D.row × ((i : ℕ) → D.pre draw.now i) }
+        ensures { IsAnswerOf D.Fn draw.entry.now result }
+    { draw(others) };
+    let rest = move || -> Result<Vec<Hand>, AllocError>
+        requires { IsSync R.row × IsSync D.row × ((i : ℕ) → D.pre draw.now i) }
+        ensures { IfOk result (λ hands. All (IsAnswerOf D.Fn draw.entry.now) hands.items) }
+    { draw_beside(rt, alloc, left, draw) };
+    let (hand, hands) = thread::join(rt, one, rest);
+    let mut hands = hands?;
+    hands.push(hand)?;
+    Ok(hands)
+}
+
 /// What each of so many threads did of the parts, which they draw one after another.
 fn draw_by_threads<R: Threads + Sync>(
     rt: &R,
@@ -17,18 +53,18 @@ fn draw_by_threads<R: Threads + Sync>(
     threads: usize,
     count: usize,
     work: &(dyn Fn(usize) -> Answer + Sync),
-) -> Result<Vec<Result<Vec<DrawnPart>, AllocError>>, AllocError>
+) -> Result<Vec<Hand>, AllocError>
     requires work { (i : ℕ) → i < count → pre work.now i }
     ensures { IfOk result (λ hands. All (λ hand. IfOk hand (λ parts.
         OfDrawnParts (λ i answer. post work.now i answer) parts.items)) hands.items) }
 {
     let first = AtomicUsize::new(0);
     let next = &first;
-    thread::map_indices(
+    draw_beside(
         rt,
         alloc,
-        threads.min(count),
-        &|_hand: usize| -> Result<Vec<DrawnPart>, AllocError>
+        threads.min(count).saturating_sub(1),
+        &|_hand: usize| -> Hand
             requires { (i : ℕ) → i < count → pre work.now i }
             ensures { IfOk result (λ parts.
                 OfDrawnParts (λ i answer. post work.entry.now i answer) parts.items) }

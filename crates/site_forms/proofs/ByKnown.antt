@@ -1,8 +1,10 @@
 -- The table of rises by what is known, as it is read.
-use Rattle.std.proofs.Common.{◌≡◌, ◌≤◌, ℕ, Bool, true, false, cond, List, slice_index, ℤ, pos, ◌*ℤ◌, ◌-ℤ◌, unsigned_abs, w32, to_z, of_z, refl, sym, ap, subst, ◌∙◌, arith}
+use Rattle.std.proofs.Common.{◌≡◌, ◌<◌, ◌≤◌, ℕ, Bool, true, false, cond, List, length, get_or, slice_index, ℤ, pos, ◌*ℤ◌, ◌-ℤ◌, unsigned_abs, w32, to_z, of_z, refl, sym, ap, subst, ◌∙◌, arith}
 use Rattle.std.proofs.lemmas.Int.{ints}
+use Rattle.std.proofs.lemmas.List.{get_or_default}
 use Rattle.label_energies.specs.Energies.{labelling}
 use Rattle.move_energy.specs.declared.choice.Choice.{Choice}
+use Rattle.move_energy.specs.declared.choice.Choice.TheVariants.{Open, Zero}
 use Rattle.move_energy.specs.BySite.{neighbour_at, is_first, weight_at}
 use Rattle.move_energy.specs.Choices.{bit_of, choice_at}
 use Rattle.move_energy.specs.Ends.{decided_or}
@@ -65,18 +67,7 @@ pub told_rise_is : (form : SiteForm) (known : List Choice) (given : Bool) (u pla
 told_rise_is form known given u place z uniform is =
     known_rise_is form known given u place z (told_at_place form (bit_of (choice_at known (neighbour_at form.ends.now place)) given) u place z uniform is)
 
--- a number of the table of a pair of weight 1, times the weight
-pub scaled_rise_is : (form : SiteForm) (known : List Choice) (given : Bool) (u place weight : ℕ) (z : ℤ) → form.scaled ≡ true → weight ≡ weight_at form.ends.now place
-    → z ≡ weighed_rise form.stays.now form.turns.now form.smooth.now weight (labelling form.at.now u) (labelling form.at.now (neighbour_at form.ends.now place))
-    (bit_of (choice_at known (neighbour_at form.ends.now place)) given)
-    → z ≡ place_rise (form_of form) (decided_or known given) u place
-scaled_rise_is form known given u place weight z scaled at is =
-    let bit = bit_of (choice_at known (neighbour_at form.ends.now place)) given in
-    let table = (form.form.by_unit scaled).table in
-    known_rise_is form known given u place z (weighed_at_place form bit u place z (form.form.numbers.mirrored table.mirrored) table.weighted
-    (is ∙ ap (λ w. weighed_rise form.stays.now form.turns.now form.smooth.now w (labelling form.at.now u) (labelling form.at.now (neighbour_at form.ends.now place)) bit) at))
-
-pub times_unit : (stays turns smooth : List ℕ) (w own other : ℕ) (bit : Bool) (z r : ℤ) → ((place : ℕ) → slice_index smooth place ≤ 10000) → z ≡ weighed_rise stays turns smooth 1 own other bit
+times_unit : (stays turns smooth : List ℕ) (w own other : ℕ) (bit : Bool) (z r : ℤ) → ((place : ℕ) → slice_index smooth place ≤ 10000) → z ≡ weighed_rise stays turns smooth 1 own other bit
     → r ≡ pos w *ℤ to_z w32 (of_z w32 z) → r ≡ weighed_rise stays turns smooth w own other bit
 times_unit stays turns smooth w own other bit z r costs is product =
     let there = cond bit (slice_index turns other) (slice_index stays other) in
@@ -84,6 +75,21 @@ times_unit stays turns smooth w own other bit z r costs is product =
     let b = table_cost smooth true (slice_index stays own) there in
     let unit : to_z w32 (of_z w32 z) ≡ pos a -ℤ pos b = omega (arith, ints, is, small_cost smooth true (slice_index turns own) there costs, small_cost smooth true (slice_index stays own) there costs) in
     product ∙ ap (λ x. pos w *ℤ x) unit ∙ scaled_by w a b
+
+-- a number of the table of a pair of weight 1, times the weight
+pub scaled_rise_is : (form : SiteForm) (known : List Choice) (given : Bool) (u place weight : ℕ) (unit times z : ℤ) → form.scaled ≡ true → weight ≡ weight_at form.ends.now place
+    → unit ≡ weighed_rise form.stays.now form.turns.now form.smooth.now 1 (labelling form.at.now u) (labelling form.at.now (neighbour_at form.ends.now place))
+    (bit_of (choice_at known (neighbour_at form.ends.now place)) given)
+    → times ≡ pos weight *ℤ to_z w32 (of_z w32 unit) → z ≡ times
+    → z ≡ place_rise (form_of form) (decided_or known given) u place
+scaled_rise_is form known given u place weight unit times z scaled at is product same =
+    let own = labelling form.at.now u in
+    let other = labelling form.at.now (neighbour_at form.ends.now place) in
+    let bit = bit_of (choice_at known (neighbour_at form.ends.now place)) given in
+    let table = (form.form.by_unit scaled).table in
+    let rise = times_unit form.stays.now form.turns.now form.smooth.now weight own other bit unit times form.form.numbers.costs is product in
+    known_rise_is form known given u place z (weighed_at_place form bit u place z (form.form.numbers.mirrored table.mirrored) table.weighted
+    (same ∙ rise ∙ ap (λ w. weighed_rise form.stays.now form.turns.now form.smooth.now w own other bit) at))
 
 pub unit_small : (stays turns smooth : List ℕ) (own other : ℕ) (bit : Bool) (z : ℤ) → ((place : ℕ) → slice_index smooth place ≤ 10000) → z ≡ weighed_rise stays turns smooth 1 own other bit
     → unsigned_abs (to_z w32 (of_z w32 z)) ≤ 10000
@@ -104,10 +110,15 @@ told_where form weight choice u place at table site stands =
     subst P (sym stands) (table.rises (labelling form.at.now u) (labelling form.at.now there) choice
     (u, site.inside, refl) (there, form.form.places.inside u place site.inside site.from site.to, refl))
 
-pub told_there : (form : SiteForm) (weight : ℕ) (known : List Choice) (u place head at : ℕ)
+-- what the table tells at a place of a site, by what is known of the neighbour there
+pub told_there : (form : SiteForm) (weight : ℕ) (known : List Choice) (u place head at : ℕ) → length known ≡ length form.at.now
     → AreToldFor weight form.at.now form.stays.now form.turns.now form.smooth.now form.symmetric form.few form.listed form.told.now → IsSitePlace form u place → head ≡ neighbour_at form.ends.now place
-    → at ≡ known_place (labelling form.at.now u) (labelling form.at.now head) (choice_at known head)
+    → at ≡ known_place (labelling form.at.now u) (labelling form.at.now head) (get_or known head Open)
     → AreToldAt form weight (choice_at known (neighbour_at form.ends.now place)) u place (told_in form.told.now at)
-told_there form weight known u place head at table site is stands =
+told_there form weight known u place head at sized table site is stands =
+    let inside = form.form.places.inside u place site.inside site.from site.to in
+    let here : head < length known = omega (arith, inside, is, sized) in
+    let own = labelling form.at.now u in
     told_where form weight (choice_at known (neighbour_at form.ends.now place)) u place at table site
-    (stands ∙ ap (λ h. known_place (labelling form.at.now u) (labelling form.at.now h) (choice_at known h)) is)
+    (stands ∙ ap (λ (ch : Choice). known_place own (labelling form.at.now head) ch) (get_or_default known head Open Zero here)
+    ∙ ap (λ h. known_place own (labelling form.at.now h) (choice_at known h)) is)
