@@ -19,6 +19,13 @@ unit_small stays turns smooth first own label z each is =
     difference_small (table_cost smooth first (slice_index turns own) label) (table_cost smooth first (slice_index stays own) label) z is
     (small_cost smooth first (slice_index turns own) label each) (small_cost smooth first (slice_index stays own) label each)
 
+-- no pair rises where an end keeps its label
+pub no_rise : (stays turns smooth : List ℕ) (first : Bool) (own label : ℕ) → slice_index turns own ≡ slice_index stays own → pos 0 ≡ unit_rise stays turns smooth first own label
+no_rise stays turns smooth first own label same =
+    let cost = table_cost smooth first (slice_index stays own) label in
+    let none : pos 0 ≡ pos cost -ℤ pos cost = omega (arith, ints) in
+    none ∙ ap (λ turned. pos (table_cost smooth first turned label) -ℤ pos cost) (sym same)
+
 -- ---- where they are written
 
 pub place_within : (first : Bool) (own other : ℕ) → own < 64 → other < 64 → entry_place first own other < 8192

@@ -7,3 +7,4 @@ pub mod Taking
 pub mod Near
 pub mod ByPair
 pub mod ByPlace
+pub mod Clearing

@@ -92,7 +92,7 @@ pairs_near m asked move ends at lists read = record { sites = read.sites; labels
 
 -- so of lists that have no own rise yet
 pub begun_of : (m : Instance) (move : Move) (ends : Neighbours) (at : List ℕ) (lists : FormLists) → ArePairsRead m move ends at lists
-    → ((u : ℕ) → own_at lists.own.items u ≡ pos 0) → IsReadNear m move ends at lists []
+    → ((u : ℕ) → own_at lists.own.rises.items u ≡ pos 0) → IsReadNear m move ends at lists []
 begun_of m move ends at lists read zeros = record {
   asked = λ p. false;
   covers = All-nil _;

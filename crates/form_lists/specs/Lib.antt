@@ -1,3 +1,4 @@
 pub mod PairSides
 pub mod ToldRows
 pub mod Lists
+pub mod OwnRises

@@ -113,7 +113,7 @@ HasNoCosts lists = (lists.smooth.labels.items ≡ []) × (lists.smooth.costs.ite
 -- pairs are numbered, for each place
 pub record AreFormLists (pairs : PairList) (ends : Neighbours) (at : List ℕ) (lists : FormLists)
     : Type 0 where
-  pub numbers : AreReadableLists lists.own.items at lists.stays.items lists.turns.items
+  pub numbers : AreReadableLists lists.own.rises.items at lists.stays.items lists.turns.items
       lists.smooth.costs.items lists.smooth.symmetric lists.few lists.table.items
   pub kind : lists.listed ≡ pairs.numbered
   pub by_place : lists.listed ≡ true → AreListedRises ends lists.rises.items
@@ -197,7 +197,7 @@ pub record IsReadOf (m : Instance) (move : Move) (ends : Neighbours) (at : List 
     (lists : FormLists) : Type 0 where
   pub pairs : ArePairsRead m move ends at lists
   pub own_are : (u : ℕ) → u < length at
-      → own_at lists.own.items u ≡ data_rise m move (labelling at) u
+      → own_at lists.own.rises.items u ≡ data_rise m move (labelling at) u
 
 -- ---- at some sites alone
 

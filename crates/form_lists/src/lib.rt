@@ -5,6 +5,7 @@
 mod by_pair;
 mod by_place;
 mod lists;
+mod own_rises;
 mod smooth_costs;
 mod told_rows;
 

@@ -11,6 +11,7 @@ ghost use Rattle.cost_store.specs.Posed.{IsPosed, IsAsked, WhereMeant};
 ghost use Rattle.move_energy.specs.BySite.{AreBySite};
 ghost use Rattle.move_energy.specs.MoveValues.{data_rise as data_rise_of};
 ghost use Rattle.move_energy.specs.Rising.{table_labels, entry_place};
+ghost use Rattle.form_lists.specs.OwnRises.{IsOff};
 ghost use Rattle.site_forms.specs.Fields.{own_at, unit_rise, AreUnitRises, rises_in};
 ghost use Rattle.site_forms.specs.Fields.{unit_rises_at, HaveRowsOf};
 ghost use Rattle.form_lists.specs.Lists.{AreFormLists, IsReadOf, KnowsCosts, HasNoCosts};
@@ -24,6 +25,7 @@ ghost use Rattle.site_forms.specs.Numbers.{IsFormOf, IsOverPairs};
 
 use crate::by_pair::{PairRises, list_sides, test_sides};
 use crate::by_place::list_rises;
+use crate::own_rises::OwnRises;
 use crate::smooth_costs::AskedCosts;
 use crate::told_rows::write_told_rows;
 use cost_store::Problem;
@@ -40,13 +42,13 @@ const TABLE_LABELS: u32 = 64;
 /// each label of its neighbour.
 const ENTRIES: usize = 8192;
 
-/// The lists of a form. They keep their memory from move to move: 4 bytes a site, 512 a label, and
-/// where there are at most 64 labels 64 KB and 2 KB a label. They keep the smooth costs too, so
+/// The lists of a form. They keep their memory from move to move: 4 to 8 bytes a site, 512 a label,
+/// and where there are at most 64 labels 64 KB and 2 KB a label. They keep the smooth costs too, so
 /// that a run asks each two labels once. Where each pair has costs of its own, they take 32 bytes a
 /// pair.
 #[derive(Drop)]
 pub struct FormLists {
-    own: Vec<i32>,
+    own: OwnRises,
     stays: Vec<u8>,
     turns: Vec<u8>,
     smooth: AskedCosts,
@@ -202,6 +204,30 @@ fn unit_rises_of(
     }
 }
 
+/// The same, none where the move leaves sites of the one label theirs, as a swap does of nearly all
+/// labels.
+fn rises_unless(
+    still: bool,
+    stays: &[u8],
+    turns: &[u8],
+    smooth: &[u16],
+    first: bool,
+    own: u8,
+    other: u8,
+) -> EndRises
+    requires stays { length stays.now ≡ label_limit }
+    requires turns { length turns.now ≡ label_limit }
+    requires rows { HaveRowsOf stays.now smooth.now × HaveRowsOf turns.now smooth.now }
+    requires small { AreCostsSmall smooth.now }
+    requires still { still ≡ true → slice_index turns.now own ≡ slice_index stays.now own }
+    ensures { AreUnitRises stays.now turns.now smooth.now first own other result }
+{
+    if still {
+        return EndRises { low: 0, high: 0 };
+    }
+    unit_rises_of(stays, turns, smooth, first, own, other)
+}
+
 /// Writes the rises of the ends of one label, the first ends or the second ones, beside so many
 /// labels.
 fn write_row(
@@ -225,8 +251,9 @@ fn write_row(
     ensures others { (k : ℕ) → (k < entry_place first own 0) ⊎ (entry_place first own 64 ≤ k) →
         rises_in table.new k ≡ rises_in table.old k }
 {
+    let still = turns[own as usize] == stays[own as usize];
     for other in 0..labels {
-        let rises = unit_rises_of(stays, turns, smooth, first, own, other as u8);
+        let rises = rises_unless(still, stays, turns, smooth, first, own, other as u8);
         table[place_in_table(first, own, other as u8)] = rises;
     }
 }
@@ -307,15 +334,6 @@ fn list_own_rises<F: Fn(u32, u32) -> i64 + Sync, V: Fn(u32, u32) -> i64 + Sync>(
     Ok(())
 }
 
-/// Lists 0 for each site.
-fn clear_rises(own: &mut Vec<i32>, sites: usize) -> Result<(), AllocError>
-    ensures count { OnOk result (length own.new.items ≡ sites) }
-    ensures zeros { OnOk result ((u : ℕ) → own_at own.new.items u ≡ pos 0) }
-{
-    own.truncate(0);
-    own.resize(sites, 0)
-}
-
 /// Lists how much more the label costs each of these sites where its value turns from 0 to 1.
 fn add_own_rises<F: Fn(u32, u32) -> i64 + Sync, V: Fn(u32, u32) -> i64 + Sync>(
     own: &mut [i32],
@@ -331,6 +349,7 @@ fn add_own_rises<F: Fn(u32, u32) -> i64 + Sync, V: Fn(u32, u32) -> i64 + Sync>(
     requires inside { All (λ p. p < length at.now) sites.now }
     ensures count { length own.new ≡ length at.now }
     ensures small { (u : ℕ) → unsigned_abs (own_at own.new u) ≤ site_cost_limit }
+    ensures others { (u : ℕ) → IsOff sites.now u → own_at own.new u ≡ own_at own.old u }
     ensures rises { WhereMeant F.Fn V.Fn problem.now
         (λ m. AreRisesNear m change at.now own.old [] →
         AreRisesNear m change at.now own.new sites.now) }
@@ -347,7 +366,7 @@ impl FormLists {
         ensures { HasNoCosts result }
     {
         FormLists {
-            own: Vec::new(alloc),
+            own: OwnRises::empty(alloc),
             stays: Vec::new(alloc),
             turns: Vec::new(alloc),
             smooth: AskedCosts::empty(alloc),
@@ -539,7 +558,8 @@ impl FormLists {
             (λ m. HasTermsOf m change at.now self.new)) }
     {
         self.read_pairs(problem, ends, at, change)?;
-        list_own_rises(&mut self.own, problem, at, change)
+        self.own.cleared = false;
+        list_own_rises(&mut self.own.rises, problem, at, change)
     }
 
     /// Reads the costs of a move from these labels but for what labels cost sites, which
@@ -564,7 +584,7 @@ impl FormLists {
             (λ m. HasTermsOf m change at.now self.new)) }
     {
         self.read_pairs(problem, ends, at, change)?;
-        clear_rises(&mut self.own, at.len())
+        self.own.clear(at.len())
     }
 
     /// Reads how much more the move's label costs each of these sites.
@@ -577,8 +597,9 @@ impl FormLists {
     )
         requires posed { IsPosed F.Fn V.Fn problem.now }
         requires asked { IsAsked problem.now at.now change }
-        requires count { length self.old.own.items ≡ length at.now }
-        requires small { (u : ℕ) → unsigned_abs (own_at self.old.own.items u) ≤ site_cost_limit }
+        requires count { length self.old.own.rises.items ≡ length at.now }
+        requires small { (u : ℕ) → unsigned_abs (own_at self.old.own.rises.items u)
+            ≤ site_cost_limit }
         requires inside { All (λ p. p < length at.now) sites.now }
         ensures smooth { self.new.smooth ≡ self.old.smooth }
         ensures sides { (self.new.sides ≡ self.old.sides) × (self.new.listed ≡ self.old.listed) }
@@ -588,7 +609,8 @@ impl FormLists {
             IsReadNear m change ends at.now self.old [] →
             IsReadNear m change ends at.now self.new sites.now) }
     {
-        add_own_rises(self.own.as_mut_slice(), problem, at, change, sites);
+        self.own.note(sites);
+        add_own_rises(self.own.rises.as_mut_slice(), problem, at, change, sites);
     }
 
     /// Reads the costs of a move from these labels, where each site that it can change is among
@@ -645,7 +667,7 @@ impl FormLists {
         SiteForm {
             pairs,
             ends,
-            own: &self.own,
+            own: &self.own.rises,
             at,
             stays: &self.stays,
             turns: &self.turns,

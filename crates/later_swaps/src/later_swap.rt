@@ -1,6 +1,6 @@
 //! A swap of two labels that was made before, which looks only near what changed since.
-ghost use Rattle.std.specs.Prelude.{◌≡◌, ◌≢◌, ◌<◌, ◌≤◌, ℕ, length, OnErr, IfOk, IfErr, IfSome, All};
-ghost use Rattle.std.specs.Prelude.{IsTrue, None};
+ghost use Rattle.std.specs.Prelude.{◌≡◌, ◌≢◌, ◌+◌, ◌<◌, ◌≤◌, ℕ, length, OnErr, IfOk, IfErr};
+ghost use Rattle.std.specs.Prelude.{IfSome, All, IsTrue, None};
 ghost use Rattle.later_swaps.specs.Prelude.{Swap, labelling as labelling_of, costs_of as costs_in};
 ghost use Rattle.later_swaps.specs.Prelude.{AreFree, WhereMeant, AreOfOneSize, made_of};
 ghost use Rattle.later_swaps.specs.Prelude.{IsReadyMove, IsOfProblem, IsMade, IsMoveRefusal};
@@ -28,20 +28,39 @@ const CHANGED_SHARE: usize = 64;
 /// that did.
 const FRESH_SHARE: usize = 64;
 
+/// So many sites are looked over at once for those that changed.
+const BLOCK: usize = 1024;
+
 /// Whether a label is one of two.
 fn is_either(label: u8, one: u8, other: u8) -> bool {
     label == one || label == other
 }
 
-/// Whether few sites changed since a move.
-fn are_few(stamps: &[u32], since: u32) -> bool {
+/// How many of the sites from one on, before another, changed since a move.
+fn count_changed(stamps: &[u32], since: u32, from: usize, to: usize) -> usize
+    requires { (from ≤ to) × (to ≤ length stamps.now) }
+    ensures { from + result ≤ to }
+{
     let mut changed = 0usize;
-    for site in 0..stamps.len() {
+    for site in from..to {
         if stamps[site] > since {
             changed += 1;
         }
     }
-    changed <= stamps.len() / CHANGED_SHARE
+    changed
+}
+
+/// Whether few sites changed since a move. Once too many did, no other is looked at.
+fn are_few(stamps: &[u32], since: u32) -> bool {
+    let most = stamps.len() / CHANGED_SHARE;
+    let mut changed = 0usize;
+    let mut from = 0;
+    while from < stamps.len() && changed <= most {
+        let to = stamps.len().min(from + BLOCK);
+        changed += count_changed(stamps, since, from, to);
+        from = to;
+    }
+    changed <= most
 }
 
 /// How many sites have one of two labels.

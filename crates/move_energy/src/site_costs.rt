@@ -10,7 +10,7 @@ use cost_store::Problem;
 use label_energies::Move;
 
 /// How much more the label costs a site where its value turns from 0 to 1: 0 where the move cannot
-/// change the site. Both costs are asked of each, so that a loop takes many sites at once.
+/// change the site. Both costs are asked of each site: a test of its label could not be foreseen.
 pub fn data_rise<F: Fn(u32, u32) -> i64 + Sync, V: Fn(u32, u32) -> i64 + Sync>(
     problem: &Problem<F, V>,
     change: Move,

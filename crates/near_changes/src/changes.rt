@@ -101,19 +101,24 @@ impl Changes {
     }
 }
 
-/// Gives the sites whose value is 1 the number of a move. Each site's is written, its own where its
-/// value is 0: values come in no order, so that a test of each could not be foreseen.
+/// The number of a move where a site's value is 1, and else what its stamp was. It is a sum of
+/// products, by which a loop takes many sites at once.
+#[inline]
+fn stamp_of(value: bool, number: u32, stamp: u32) -> u32
+    ensures { result ≡ cond value number stamp }
+{
+    let one = u32::from(value);
+    number * one + stamp * (1 - one)
+}
+
+/// Gives the sites whose value is 1 the number of a move.
 fn stamp_values(stamps: &mut [u32], number: u32, choices: &[Choice])
     ensures { (p : ℕ) → p < length stamps.old → slice_index stamps.new p
         ≡ cond (bit_of (choice_at choices.now p) false) number (slice_index stamps.old p) }
 {
     let sites = stamps.len().min(choices.len());
     for site in 0..sites {
-        stamps[site] = if choices[site].bit(false) {
-            number
-        } else {
-            stamps[site]
-        };
+        stamps[site] = stamp_of(choices[site].bit(false), number, stamps[site]);
     }
 }
 

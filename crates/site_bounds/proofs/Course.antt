@@ -138,7 +138,7 @@ is_listed start now sites u among closed inside opened = elim (true_or (among.be
   | inr off ↦ absurd (closed u (shut (choice_at start.choices.items u) (among.rest u inside off)) opened)
 ]
 
-rank_of : (before : ℕ → Bool) (n place : ℕ) (sites : List ℕ) → IsListing before n sites → place < length sites → chosen_below before (get_or sites place 0) ≡ place
+pub rank_of : (before : ℕ → Bool) (n place : ℕ) (sites : List ℕ) → IsListing before n sites → place < length sites → chosen_below before (get_or sites place 0) ≡ place
 rank_of before n place sites listing l =
     let e = ap (λ (xs : List ℕ). length xs) listing in
     let same : get_or sites place 0 ≡ _ = ap (λ (xs : List ℕ). get_or xs place 0) listing in
@@ -153,7 +153,7 @@ counted_here : (b : Bool) → b ≡ true → count_if b 1 ≡ 1
 counted_here true is = refl
 counted_here false is = absurd (cc is)
 
-rank_climbs : (before : ℕ → Bool) (u site : ℕ) → u < site → before u ≡ true → chosen_below before u < chosen_below before site
+pub rank_climbs : (before : ℕ → Bool) (u site : ℕ) → u < site → before u ≡ true → chosen_below before u < chosen_below before site
 rank_climbs before u site l is =
     let longer = sum_below-le-longer (suc u) site (λ p. count_if (before p) 1) (omega (arith, l)) in
     omega (arith, longer, counted_here (before u) is)

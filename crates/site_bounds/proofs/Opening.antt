@@ -35,7 +35,7 @@ turn_none a b f p same = elim (cases_one a b (f p)) [
   | inr off ↦ same_labels _ _ (swap_other a b (f p) true off.0 off.1 ∙ sym (swap_other a b (f p) false off.0 off.1))
 ]
 
-or_true : (b : Bool) → (b || true) ≡ true
+pub or_true : (b : Bool) → (b || true) ≡ true
 or_true true = refl
 or_true false = refl
 

@@ -1,6 +1,6 @@
 -- Sites that are passed over, since none of them is chosen.
-use Rattle.std.proofs.Common.{◌≡◌, ℕ, zero, suc, ◌+◌, ◌-◌, ◌<◌, ◌≤◌, Bool, false, cond, List, [], ◌∷◌, ◌++◌, ◌||◌, true, sym, ap, ◌∙◌, refl, arith}
-use Rattle.std.proofs.lemmas.List.{append-nil}
+use Rattle.std.proofs.Common.{◌≡◌, ℕ, zero, suc, ◌+◌, ◌-◌, ◌<◌, ◌≤◌, Bool, false, cond, List, [], ◌∷◌, ◌++◌, ◌||◌, true, sym, ap, ◌∙◌, refl, subst, arith}
+use Rattle.std.proofs.lemmas.List.{append-nil, append_assoc}
 use Rattle.label_energies.specs.declared.change.Move.{Move}
 use Rattle.move_energy.specs.declared.choice.Choice.{Choice}
 use Rattle.move_energy.specs.Choices.{open_at}
@@ -32,3 +32,12 @@ pub listed_more : (chosen : ℕ → Bool) (site : ℕ) (b : Bool) (old new : Lis
 listed_more chosen site b old new is pushed listed =
     let next : suc site ≡ site + 1 = omega arith in
     pushed ∙ (λ i. listed i ++ cond (is i) (site ∷ []) []) ∙ ap (rising_sites chosen) next
+
+-- one site more of a block, whose chosen sites are kept behind those that were listed before
+pub kept_more : (chosen : ℕ → Bool) (from place : ℕ) (b : Bool) (before old new : List ℕ) → b ≡ chosen (from + place) → new ≡ old ++ cond b ((from + place) ∷ []) []
+    → IsListing chosen (from + place) (before ++ old) → IsListing chosen (from + (place + 1)) (before ++ new)
+kept_more chosen from place b before old new is kept listed =
+    let next : from + place + 1 ≡ from + (place + 1) = omega arith in
+    let L : ℕ → Type 0 = λ n. IsListing chosen n (before ++ new) in
+    let more = ap (λ (xs : List ℕ). before ++ xs) kept ∙ sym (append_assoc before old (cond b ((from + place) ∷ []) [])) in
+    subst L next (listed_more chosen (from + place) b (before ++ old) (before ++ new) is more listed)

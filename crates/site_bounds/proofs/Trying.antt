@@ -1,10 +1,9 @@
 -- A site that is tried, and sites that are tried one after another.
-use Rattle.std.proofs.Common.{◌≡◌, ◌≢◌, ℕ, ◌<◌, true, false, List, ◌++◌, length, Result, Ok, Err, ℤ, pos, ◌≤ℤ◌, ◌<ℤ◌, refl, sym, ap, ◌∙◌, inl, inr, arith}
+use Rattle.std.proofs.Common.{◌≡◌, ◌≢◌, ℕ, ◌<◌, true, false, List, length, Result, Ok, Err, ℤ, pos, ◌≤ℤ◌, ◌<ℤ◌, refl, sym, ap, ◌∙◌, inl, inr, arith}
 use Rattle.std.specs.Prelude.{slice_set, IfOk}
-use Rattle.std.proofs.Math.ListN.{take}
-use Rattle.std.proofs.Math.Seq.{take-append_seam}
 use Rattle.std.proofs.lemmas.Bool.{cases_eq}
 use Rattle.std.proofs.lemmas.List.{get_or-set_same, get_or-set_other}
+pub use Rattle.form_lists.proofs.Clearing.{written_whole}
 use Rattle.label_energies.specs.declared.change.Move.{Move}
 use Rattle.label_energies.specs.Energies.{Instance, IsInstance}
 use Rattle.move_energy.specs.declared.choice.Choice.{Choice}
@@ -41,7 +40,3 @@ tried_passed m move f u One least greatest known are l opened zero one low high 
 pub if_ok_two : {T E : Type 0} (r : Result T E) (P Q R : T → Type 0) → ((v : T) → P v → Q v → R v) → IfOk r P → IfOk r Q → IfOk r R
 if_ok_two (Ok v) P Q R f p q = f v p q
 if_ok_two (Err e) P Q R f p q = tt
-
--- a list that was written from its beginning to its end
-pub written_whole : {X : Type 0} (n : ℕ) (new rest : List X) → n ≡ length new → take n (new ++ rest) ≡ new
-written_whole n new rest is = ap (λ k. take k (new ++ rest)) is ∙ take-append_seam new rest

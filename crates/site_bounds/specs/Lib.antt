@@ -8,3 +8,4 @@ pub mod Parts
 pub mod Laws
 pub mod Prelude
 pub mod Swapped
+pub mod Linked

@@ -3,6 +3,8 @@
 #![tactic(auto)]
 
 mod bounds;
+mod kept;
+mod label_sites;
 pub mod laws;
 mod lists;
 mod own_bounds;
@@ -13,6 +15,8 @@ mod waiting_sites;
 
 pub use bounds::Bounds;
 pub use form_lists::FormLists;
+pub use kept::keep;
+pub use label_sites::LabelSites;
 pub use lists::Lists;
 pub use move_energy::EndRises;
 pub use site_forms::SiteForm;

@@ -1,5 +1,5 @@
 //! The sites that a move has left to look at, listed where they are few.
-ghost use Rattle.std.specs.Prelude.{◌≡◌, ◌<◌, ◌≤◌, ◌++◌, ◌∷◌, [], ℕ, cond};
+ghost use Rattle.std.specs.Prelude.{◌≡◌, ◌<◌, ◌≤◌, ◌+◌, ◌++◌, ◌∷◌, [], ℕ, cond};
 ghost use Rattle.std.specs.Prelude.{false, length, OnOk, OnErr};
 ghost use Rattle.label_energies.specs.Energies.{labelling};
 ghost use Rattle.label_energies.specs.Moves.{IsSwap};
@@ -9,6 +9,7 @@ ghost use Rattle.site_bounds.specs.Listed.{can_become_other, changes, listed_sha
 ghost use Rattle.site_bounds.specs.Listed.{CoversOpen};
 ghost use Rattle.site_bounds.specs.Listed.{AreListed, AreListedBelow, AreListsEmpty, CoversRest};
 
+use crate::kept::keep;
 use label_energies::Move;
 use move_energy::Choice;
 use std::alloc::{AllocError, Global};
@@ -80,14 +81,14 @@ fn can_change(choice: Choice, change: Move, label: u32) -> bool
     choice.is_open() || change.label(label, choice.bit(false)) != label
 }
 
-/// Whether the label of one of the sites from one on, before another, can still become another.
-fn has_change(at: &[u8], change: Move, choices: &[Choice], from: usize, to: usize) -> bool
-    requires { (to ≤ length at.now) × (length choices.now ≡ length at.now) }
-    ensures { result ≡ false → (p : ℕ) → from ≤ p → p < to →
+/// Whether the label of a site of the block that begins at one can still become another.
+fn has_change(at: &[u8], change: Move, choices: &[Choice], from: usize) -> bool
+    requires { (from + 32 ≤ length at.now) × (length choices.now ≡ length at.now) }
+    ensures { result ≡ false → (p : ℕ) → from ≤ p → p < from + 32 →
         changes change (labelling at.now) choices.now p ≡ false }
 {
     let mut any = false;
-    for site in from..to {
+    for site in from..from + BLOCK {
         if can_change(choices[site], change, u32::from(at[site])) {
             any = true;
         }
@@ -137,7 +138,7 @@ impl Lists {
     }
 
     /// Adds the sites from one on, before another, to the lists of those before these.
-    fn list_block(
+    fn list_part(
         &mut self,
         at: &[u8],
         change: Move,
@@ -146,19 +147,50 @@ impl Lists {
         to: usize,
     ) -> Result<(), AllocError>
         requires sites { (length choices.now ≡ length at.now) × (length at.now ≤ site_limit) }
-        requires block { (from ≤ to) × (to ≤ length at.now) }
+        requires part { (from ≤ to) × (to ≤ length at.now) }
         requires lists { AreListedBelow from change (labelling at.now) choices.now self.old }
         ensures lists { OnOk result
             (AreListedBelow to change (labelling at.now) choices.now self.new) }
         ensures same { (self.new.count ≡ self.old.count) × (self.new.listed ≡ self.old.listed) }
     {
-        if !has_change(at, change, choices, from, to) {
-            return Ok(());
-        }
         for site in from..to {
             self.add_site(site as u32, choices[site], change, u32::from(at[site]))?;
         }
         Ok(())
+    }
+
+    /// The same for the block that begins at one. A block of which no label can change is passed
+    /// over at once.
+    fn list_block(
+        &mut self,
+        at: &[u8],
+        change: Move,
+        choices: &[Choice],
+        from: usize,
+    ) -> Result<(), AllocError>
+        requires sites { (length choices.now ≡ length at.now) × (length at.now ≤ site_limit) }
+        requires block { from + 32 ≤ length at.now }
+        requires lists { AreListedBelow from change (labelling at.now) choices.now self.old }
+        ensures lists { OnOk result
+            (AreListedBelow (from + 32) change (labelling at.now) choices.now self.new) }
+        ensures same { (self.new.count ≡ self.old.count) × (self.new.listed ≡ self.old.listed) }
+    {
+        if !has_change(at, change, choices, from) {
+            return Ok(());
+        }
+        let mut opened = [0u32; BLOCK];
+        let mut changing = [0u32; BLOCK];
+        let mut open = 0;
+        let mut moved = 0;
+        for place in 0..BLOCK {
+            let site = from + place;
+            let choice = choices[site];
+            open = keep(&mut opened, open, site as u32, choice.is_open());
+            let changes = can_change(choice, change, u32::from(at[site]));
+            moved = keep(&mut changing, moved, site as u32, changes);
+        }
+        self.opened.extend_from_slice(&opened[..open])?;
+        self.changing.extend_from_slice(&changing[..moved])
     }
 
     /// Lists the open sites, and those whose labels can still change. They are few, so that many
@@ -173,12 +205,11 @@ impl Lists {
         self.opened.reserve(self.count)?;
         self.changing.clear();
         let mut from = 0;
-        while from < at.len() {
-            let to = at.len().min(from + BLOCK);
-            self.list_block(at, change, choices, from, to)?;
-            from = to;
+        while from + BLOCK <= at.len() {
+            self.list_block(at, change, choices, from)?;
+            from += BLOCK;
         }
-        Ok(())
+        self.list_part(at, change, choices, from, at.len())
     }
 
     /// Lists the same, where they are among these sites.

@@ -12,7 +12,8 @@ ghost use Rattle.site_bounds.specs.Prelude.{PassesClosed, AreUndecided, AreUnsum
 ghost use Rattle.site_bounds.specs.Prelude.{AreWaiting, SumsNext, EndsSites, DecidesSites};
 
 use crate::Bounds;
-use crate::swapped::{list_swapped, mark_open};
+use crate::label_sites::LabelSites;
+use crate::swapped::mark_open;
 use label_energies::Move;
 use move_energy::Choice;
 use site_forms::{SiteForm, site_rises};
@@ -84,6 +85,7 @@ impl Bounds {
     /// summed.
     pub(crate) fn open_swapped(
         &mut self,
+        by_label: &mut LabelSites,
         swapped: &mut Vec<u32>,
         at: &[u8],
         alpha: u32,
@@ -94,7 +96,7 @@ impl Bounds {
         ensures undecided { OnOk result (AreUndecided (Swap alpha beta) at.now self.new) }
         ensures listed { OnOk result (AreOpenSites self.new.choices.items swapped.new.items) }
     {
-        list_swapped(swapped, at, alpha as u8, beta as u8)?;
+        by_label.list(swapped, at, alpha as u8, beta as u8)?;
         self.begin(at.len())?;
         mark_open(&mut self.choices, swapped);
         Ok(())

@@ -11,7 +11,7 @@ ghost use Rattle.label_energies.specs.Moves.{IsMoveOf};
 ghost use Rattle.form_lists.specs.Lists.{CoversChanges, HasTermsOf};
 ghost use Rattle.move_energy.specs.Terms.{AreTermsTested};
 
-use crate::{Bounds, Lists};
+use crate::{Bounds, LabelSites, Lists};
 use cost_store::Problem;
 use form_lists::FormLists;
 use label_energies::Move;
@@ -30,11 +30,14 @@ pub struct Deciding {
     pub numbers: FormLists,
     /// The sites that the last swap can change, in rising order.
     pub swapped: Vec<u32>,
+    /// The sites of each label, by which those are found.
+    pub by_label: LabelSites,
 }
 
 /// Opens the sites that a move can change. Those of a swap, which can be few, are listed.
 fn open_move(
     bounds: &mut Bounds,
+    by_label: &mut LabelSites,
     swapped: &mut Vec<u32>,
     at: &[u8],
     change: Move,
@@ -47,7 +50,7 @@ fn open_move(
 {
     match change {
         Move::Expand(_) => bounds.open_sites(at, change),
-        Move::Swap(alpha, beta) => bounds.open_swapped(swapped, at, alpha, beta),
+        Move::Swap(alpha, beta) => bounds.open_swapped(by_label, swapped, at, alpha, beta),
     }
 }
 
@@ -144,6 +147,7 @@ impl Deciding {
             lists: Lists::empty(alloc),
             numbers: FormLists::empty(alloc),
             swapped: Vec::new(alloc),
+            by_label: LabelSites::empty(alloc),
         }
     }
 
@@ -160,6 +164,7 @@ impl Deciding {
             lists: Lists::empty(alloc),
             numbers: FormLists::empty(alloc),
             swapped: Vec::new(alloc),
+            by_label: LabelSites::empty(alloc),
         })
     }
 
@@ -195,7 +200,13 @@ impl Deciding {
         ensures refused { OnErr result (self.new.lists.listed ≡ false) }
     {
         self.lists.listed = false;
-        open_move(&mut self.bounds, &mut self.swapped, at, change)?;
+        open_move(
+            &mut self.bounds,
+            &mut self.by_label,
+            &mut self.swapped,
+            at,
+            change,
+        )?;
         read_tested(
             &mut self.numbers,
             &self.swapped,
@@ -240,7 +251,13 @@ impl Deciding {
             IfErr result (IsPrepareRefusal m change (labelling at.now))) }
     {
         self.lists.listed = false;
-        open_move(&mut self.bounds, &mut self.swapped, at, change)?;
+        open_move(
+            &mut self.bounds,
+            &mut self.by_label,
+            &mut self.swapped,
+            at,
+            change,
+        )?;
         read_tested(
             &mut self.numbers,
             &self.swapped,

@@ -1,8 +1,8 @@
 -- The open sites of a strip, one after another.
-use Rattle.std.proofs.Common.{◌≡◌, ◌≢◌, ◌<◌, ◌≤◌, ◌+◌, ◌++◌, ◌∷◌, [], ℕ, zero, suc, Bool, true, false, cond, List, length, refl, sym, ap, ◌∙◌, inl, inr, add-one, arith}
-use Rattle.std.specs.Prelude.{filter}
+use Rattle.std.proofs.Common.{◌≡◌, ◌≢◌, ◌<◌, ◌≤◌, ◌+◌, ◌++◌, ◌∷◌, [], ℕ, zero, suc, Bool, true, false, cond, List, length, get_or, refl, sym, ap, subst, ◌∙◌, inl, inr, add-one, arith}
+use Rattle.std.specs.Prelude.{filter, ◌↔◌, IsTrue}
 use Rattle.std.proofs.lemmas.Bool.{cases_eq, cases_lt}
-use Rattle.std.proofs.lemmas.List.{append-nil}
+use Rattle.std.proofs.lemmas.List.{append-nil, get_or_default}
 use Rattle.std.proofs.lemmas.List.Elements.{filter-append}
 use Rattle.move_energy.specs.declared.choice.Choice.{Choice}
 use Rattle.move_energy.specs.declared.choice.Choice.TheVariants.{Open, Zero, One}
@@ -117,3 +117,11 @@ next_open known from s opened more after inside is adds listed =
 pub whole_listed : (known : List Choice) (to : ℕ) (opened : List ℕ) → length known ≤ to → AreOpenSites (strip_view known 0 to) opened → AreOpenSites known opened
 whole_listed known to opened all listed =
     listed ∙ (λ j. rising_sites (λ p. is_open (whole_is known to all j p)) (view_length known 0 to j))
+
+-- a site is kept where it is open
+pub next_kept : (known : List Choice) (first site : ℕ) (b : Bool) (old new : List ℕ) → first ≤ site → site < length known → (IsTrue b ↔ (get_or known site Open ≡ Open))
+    → new ≡ old ++ cond b (site ∷ []) [] → AreOpenSites (strip_view known first site) old → AreOpenSites (strip_view known first (site + 1)) new
+next_kept known first site true old new after l opens is listed = next_open known first site old new after l (sym (get_or_default known site Open Zero l) ∙ opens.0 refl) is listed
+next_kept known first site false old new after l opens is listed =
+    let shuts : choice_at known site ≢ Open = λ same. (let e = opens.1 (get_or_default known site Open Zero l ∙ same) in cc (e)) in
+    subst (λ (xs : List ℕ). AreOpenSites (strip_view known first (site + 1)) xs) (sym (is ∙ append-nil old)) (next_shut known first site old shuts listed)

@@ -5,6 +5,7 @@ ghost use Rattle.move_energy.specs.Choices.{open_at, AreOpenSites};
 ghost use Rattle.strip_nets.specs.Views.{strip_view};
 
 use move_energy::Choice;
+use site_bounds::keep;
 use std::alloc::AllocError;
 
 /// So many sites are listed at once.
@@ -30,9 +31,7 @@ fn list_site(
     Ok(0)
 }
 
-/// The same for the block that begins at a site. Each of its sites is written behind those that
-/// were found, and stays there if it is open: what is known comes in no order, so that a test of
-/// each could not be foreseen.
+/// The same for the block that begins at a site.
 fn list_block(
     known: &[Choice],
     opened: &mut Vec<u32>,
@@ -50,10 +49,7 @@ fn list_block(
     let mut count = 0;
     for place in 0..BLOCK {
         let site = from + place as u32;
-        found[count] = site;
-        if known[site as usize].is_open() {
-            count += 1;
-        }
+        count = keep(&mut found, count, site, known[site as usize].is_open());
     }
     opened.extend_from_slice(&found[..count])?;
     Ok(count)

@@ -27,6 +27,7 @@ loop-place-preserved g c =
         | inl same ↦ (let U : ℕ → Type 0 = λ v. Small (own_at (slice_set own site value) v) in subst U (sym same) (subst Small (sym (here ∙ pass)) c.own_rise.ensures.range))
         | inr other ↦ subst Small (sym (get_or-set_other own site u value (pos 0) other)) (i.small u)
       ];
+      others = λ u off. get_or-set_other own site u value (pos 0) (λ same. off place below (sym same)) ∙ i.others u off;
       rises = λ m meant was. read_one m a.change a.at.now own (slice_set own site value) sites place site below refl
           (here ∙ (pass ∙ c.own_rise.ensures.rise m meant)) (λ u other. get_or-set_other own site u value (pos 0) other) (i.rises m meant was);
     }

@@ -35,7 +35,7 @@ returns-clause-of c = λ m move sites pairs allowed is.
     let a = c.args in
     let C : List _ → Type 0 = λ smooth. AreCostsRead m move a.at.now smooth in
     let R : List EndRises → Type 0 = λ rises. AreRisesRead m move a.ends.now a.at.now rises in
-    let read : AreReadOf m move a.self.now.own.items a.at.now a.self.now.stays.items a.self.now.turns.items =
+    let read : AreReadOf m move a.self.now.own.rises.items a.at.now a.self.now.stays.items a.self.now.turns.items =
     record { sites = is.pairs.sites; labels = is.pairs.labels; after = is.pairs.after; own_are = is.own_are } in
     record {
       sites_are = sites;

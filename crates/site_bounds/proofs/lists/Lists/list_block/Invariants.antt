@@ -1,14 +1,16 @@
-use Rattle.std.proofs.Common.{◌≡◌}
+use Rattle.std.proofs.Common.{◌≡◌, ◌≤◌, ◌+◌, ◌++◌, length, take}
 use Rattle.label_energies.specs.Energies.{labelling}
 use Rattle.move_energy.specs.BySite.{IsListing}
 use Rattle.move_energy.specs.Choices.{open_at}
 use Rattle.site_bounds.specs.Listed.{changes}
 use Rattle.site_bounds.proofs.lists.Lists.list_block.Given as goal
 
-abbrev pub invariant-loop-site : goal.invariant-loop-site
-invariant-loop-site l = record {
-  opened : IsListing (open_at l.choices) l.site l.self.opened.items;
-  changing : IsListing (changes l.change (labelling l.at) l.choices) l.site l.self.changing.items;
-  count : l.self.count ≡ l.fn.self.count;
-  listed : l.self.listed ≡ l.fn.self.listed;
+abbrev pub invariant-loop-place : goal.invariant-loop-place
+invariant-loop-place l = record {
+  long : length l.opened ≡ 32;
+  wide : length l.changing ≡ 32;
+  few : l.open ≤ l.place;
+  less : l.moved ≤ l.place;
+  opened : IsListing (open_at l.choices) (l.from + l.place) (l.self.opened.items ++ take l.open l.opened);
+  changing : IsListing (changes l.change (labelling l.at) l.choices) (l.from + l.place) (l.self.changing.items ++ take l.moved l.changing);
 }
